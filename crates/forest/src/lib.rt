@@ -1,0 +1,1 @@
+// The generic forest: definitions and laws only (specs/).
