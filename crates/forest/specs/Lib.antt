@@ -1,3 +1,4 @@
 pub mod Compare
 pub mod Forest
 pub mod ForestLaws
+pub mod Path

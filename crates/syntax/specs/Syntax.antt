@@ -3,7 +3,8 @@
 use mathlib.Core.Bool.{Bool}
 use mathlib.Core.List.{List}
 use Prim.Native.Nat.{ℕ}
-use Rattle.forest.specs.Forest.{Forest, Tree, tree}
+use Rattle.forest.specs.Forest.{Forest, Tree}
+use Rattle.forest.specs.Path.{Path}
 use Rattle.scalar.specs.Value.{Value}
 
 -- What a node of a type carries: whether its edge is mandatory, and its basic type.
@@ -24,13 +25,6 @@ Types = Forest Mark
 -- A message type. The root's own mark is mandatory and never looked at.
 abbrev pub MessageType : Type 0
 MessageType = Tree Mark
-
--- A path: its first id, "a path's first id" being its root id, and the ids after it. 01, P.
-pub data Path : Type 0 where
-  path : ℕ → List ℕ → Path
-
-abbrev pub rootId : Path → ℕ
-rootId (path i is) = i
 
 -- 01, E: "3 not, 4 negate".
 pub data Unary : Type 0 where
