@@ -1,2 +1,5 @@
 pub mod Basic
 pub mod Value
+pub mod ValueLaws
+pub mod Operator
+pub mod OperatorLaws

@@ -1,0 +1,40 @@
+use Rattle.integer.specs.WrapLaws.{difference-of-patterns}
+use Rattle.integer.specs.Wrap.{wrap}
+use mir.ValLaws.{toZ-ofZ}
+use mir.Syntax.{w32}
+use borrow.Author.Needs.{needs}
+use Rattle.integer.proofs.int_subtract.Statement.{statement}
+use Rattle.integer.proofs.int_subtract.Tie as tie
+use Rattle.integer.proofs.int_subtract.Reads as reads
+use Rattle.integer.proofs.int_subtract.Lts as lts
+use Rattle.integer.proofs.int_bits.Reads as int-bits-reads
+use Rattle.integer.proofs.int_of.Reads as int-of-reads
+use Rattle.integer.proofs.sub_u32.Reads as sub-u32-reads
+
+int-bits-requires : tie.Need-int-bits-requires
+int-bits-requires c κs = search needs
+
+int-bits-requires-2 : tie.Need-int-bits-requires-2
+int-bits-requires-2 c κs = search needs
+
+sub-u32-requires : tie.Need-sub-u32-requires
+sub-u32-requires c κs = search needs
+
+int-of-requires : tie.Need-int-of-requires
+int-of-requires c κs = search needs
+
+returns : tie.Need-returns
+unfolding wrap
+returns c =
+    let s = c .before .before .before .before in
+    cc (
+      toZ-ofZ w32 (c .int-of .result) (record { sfits = c .int-of .ok }),
+      toZ-ofZ w32 (s .args .a) (s .fits .a),
+      toZ-ofZ w32 (s .args .b) (s .fits .b),
+      difference-of-patterns w32 (s .args .a) (s .args .b) (s .fits .a) (s .fits .b),
+    )
+
+pub int-subtract-spec : {M : Type 1} → statement M
+int-subtract-spec =
+    tie.close
+    (tie.spec int-bits-requires int-bits-requires-2 sub-u32-requires int-of-requires returns)

@@ -1,0 +1,151 @@
+-- The operators of expressions on values. 01, Typing: "Not, and: bool; both operands are worked out. Negate, add, subtract,
+-- less: int, long or double, both alike. Equal: alike, not void; doubles by IEEE equality. Int and long arithmetic wraps at its
+-- width; a double sum is rounded once." Operands of another kind are wrong; a move then refuses with 18.
+use mathlib.Core.List.{List, [], _∷_}
+use mathlib.Core.Bool.{Bool, true, false, not, _&&_}
+use Prim.Native.Nat.{ℕ, zero, suc, _%_, _/_}
+use lib.Dec.{eqb, ltb}
+use lib.IntN.{ℤ, negℤ, _+ℤ_, _-ℤ_}
+use lib.Signed.{ltZ}
+use lib.Ieee.{Float, binary64, ofBits, toBits}
+use lib.Ieee as Ieee
+use mir.Syntax.{w32, w64}
+use mir.Val.{toZ}
+use Rattle.integer.specs.Wrap.{pattern}
+use Rattle.scalar.specs.Basic.{bool, int, double, long, void}
+use Rattle.scalar.specs.Value.{Value, value, number, pick}
+
+-- What an operator gives: a value, or that its operands are of the wrong kind.
+pub data Answer : Type 0 where
+  wrong : Answer
+  gives : Value → Answer
+
+-- ---- what the bytes of a value stand for, and the value of what they stand for
+
+-- The n bytes of a number, lowest first ("Numbers are little-endian"); what passes n bytes is dropped.
+unfoldable pub littleEndian : ℕ → ℕ → List ℕ
+littleEndian zero x = []
+littleEndian (suc n) x = x % 256 ∷ littleEndian n (x / 256)
+
+-- "bool one byte 0 or 1"
+abbrev pub boolOf : List ℕ → Bool
+boolOf v = eqb (number v) 1
+
+abbrev pub bit : Bool → ℕ
+bit false = 0
+bit true = 1
+
+abbrev pub ofBool : Bool → Value
+ofBool b = value bool (bit b ∷ [])
+
+-- "int 4 bytes and long 8 (two's complement)"; `pattern` keeps what the width holds, so an exact result "wraps at its width".
+abbrev pub intOf : List ℕ → ℤ
+intOf v = toZ w32 (number v)
+
+abbrev pub ofInt : ℤ → Value
+ofInt z = value int (littleEndian 4 (pattern w32 z))
+
+abbrev pub longOf : List ℕ → ℤ
+longOf v = toZ w64 (number v)
+
+abbrev pub ofLong : ℤ → Value
+ofLong z = value long (littleEndian 8 (pattern w64 z))
+
+-- "double 8 (IEEE 754; the only NaN is 7FF8000000000000 hexadecimal)": `toBits` writes that one.
+abbrev pub doubleOf : List ℕ → Float
+doubleOf v = ofBits binary64 (number v)
+
+abbrev pub ofDouble : Float → Value
+ofDouble x = value double (littleEndian 8 (toBits binary64 x))
+
+-- ---- operators of one operand
+
+-- "Not .. : bool"
+abbrev pub notBy : ℕ → List ℕ → Answer
+notBy b v = pick (eqb b bool) (gives (ofBool (not (boolOf v)))) wrong
+
+unfoldable pub notOf : Value → Answer
+notOf (value b v) = notBy b v
+
+-- "Negate .. : int, long or double". A double's sign is turned, also of a zero; a NaN stays the one NaN.
+abbrev pub negateBy : ℕ → List ℕ → Answer
+negateBy b v =
+    pick (eqb b int) (gives (ofInt (negℤ (intOf v))))
+    (pick (eqb b long) (gives (ofLong (negℤ (longOf v))))
+    (pick (eqb b double) (gives (ofDouble (Ieee.neg (doubleOf v)))) wrong))
+
+unfoldable pub negateOf : Value → Answer
+negateOf (value b v) = negateBy b v
+
+-- ---- operators of two operands, "both alike": of one basic type
+
+abbrev pub alike : (ℕ → List ℕ → List ℕ → Answer) → Value → Value → Answer
+alike f (value b v) (value c w) = pick (eqb b c) (f b v w) wrong
+
+-- "and: bool; both operands are worked out"
+abbrev pub andBy : ℕ → List ℕ → List ℕ → Answer
+andBy b v w = pick (eqb b bool) (gives (ofBool (boolOf v && boolOf w))) wrong
+
+unfoldable pub andOf : Value → Value → Answer
+andOf = alike andBy
+
+-- "add, subtract, less: int, long or double": an operator by what it does to two ints, two longs and two doubles.
+pub record Numeric : Type 0 where
+  pub ints : ℤ → ℤ → Value
+  pub longs : ℤ → ℤ → Value
+  pub doubles : Float → Float → Value
+
+abbrev pub numericBy : Numeric → ℕ → List ℕ → List ℕ → Answer
+numericBy o b v w =
+    pick (eqb b int) (gives (o .ints (intOf v) (intOf w)))
+    (pick (eqb b long) (gives (o .longs (longOf v) (longOf w)))
+    (pick (eqb b double) (gives (o .doubles (doubleOf v) (doubleOf w))) wrong))
+
+-- Exact sums, wrapped; "a double sum is rounded once".
+abbrev pub adding : Numeric
+adding = record {
+  ints = λ x y. ofInt (x +ℤ y);
+  longs = λ x y. ofLong (x +ℤ y);
+  doubles = λ x y. ofDouble (Ieee.add binary64 x y);
+}
+
+unfoldable pub addOf : Value → Value → Answer
+addOf = alike (numericBy adding)
+
+abbrev pub subtracting : Numeric
+subtracting = record {
+  ints = λ x y. ofInt (x -ℤ y);
+  longs = λ x y. ofLong (x -ℤ y);
+  doubles = λ x y. ofDouble (Ieee.sub binary64 x y);
+}
+
+unfoldable pub subtractOf : Value → Value → Answer
+subtractOf = alike (numericBy subtracting)
+
+-- No double is less than a NaN, and no NaN than a double.
+abbrev pub comparing : Numeric
+comparing = record {
+  ints = λ x y. ofBool (ltZ x y);
+  longs = λ x y. ofBool (ltZ x y);
+  doubles = λ x y. ofBool (Ieee.lt x y);
+}
+
+unfoldable pub lessOf : Value → Value → Answer
+lessOf = alike (numericBy comparing)
+
+-- Are the bytes the same?
+abbrev pub sameBytes : List ℕ → List ℕ → Bool
+sameBytes [] [] = true
+sameBytes [] (b ∷ w) = false
+sameBytes (a ∷ v) [] = false
+sameBytes (a ∷ v) (b ∷ w) = eqb a b && sameBytes v w
+
+-- "Equal: alike, not void; doubles by IEEE equality" (a NaN equals nothing, 0.0 equals -0.0), the others by their bytes. Void is
+-- the last basic type.
+abbrev pub equalBy : ℕ → List ℕ → List ℕ → Answer
+equalBy b v w =
+    pick (eqb b double) (gives (ofBool (Ieee.eq (doubleOf v) (doubleOf w))))
+    (pick (ltb b void) (gives (ofBool (sameBytes v w))) wrong)
+
+unfoldable pub equalOf : Value → Value → Answer
+equalOf = alike equalBy
