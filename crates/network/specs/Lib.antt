@@ -1,0 +1,15 @@
+pub mod Least
+pub mod Layout
+pub mod Kinds
+pub mod Rows
+pub mod Uses
+pub mod Sizes
+pub mod Form
+pub mod Decode
+pub mod Meets
+pub mod Shapes
+pub mod LeastLaws
+pub mod LowestLaws
+pub mod TestLaws
+pub mod RowLaws
+pub mod DecodeLaws

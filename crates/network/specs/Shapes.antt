@@ -1,0 +1,230 @@
+-- What the format promises of syntax: the limits and orders of 01's "Network file", said of paths, types, expressions,
+-- operations and behaviours. DecodeLaws and BehaviourLaws prove that the rows of a file that none of 2 to 5 refuses become such.
+use Prim.Native.Nat.{ℕ, suc, _+_, _<_, _≤_, max}
+use mathlib.Core.Path.{_≡_}
+use mathlib.Core.List.{List, [], _∷_}
+use mathlib.Core.Bool.{Bool, true, false, _||_}
+use lib.ListN.{length}
+use lib.Dec.{T, eqb}
+use Rattle.forest.specs.Forest.{Forest, end, node, Tree, tree, RisingTree, nodes, levels}
+use Rattle.forest.specs.Path.{Path, path}
+use Rattle.scalar.specs.Basic.{lastBasic}
+use Rattle.scalar.specs.Value.{Value, value, isValue, basicOf, bytesOf}
+use Rattle.syntax.specs.Syntax.{Mark, mark, mandatory, basic, Types, MessageType, Unary, Binary, Expression, constant, valueAt, presence, unary, binary, Direction, input, output, Operation, Behaviour, nil, oneWay, requestResponse, notification, solicitResponse, ifThenElse, whileDo, sequence, parallel, assign, choice, branch, lastBranch, waiting, answering}
+use Rattle.network.specs.Sizes.{typeLevels, typeNodes, expressionLevels}
+
+unfoldable pub AllPositive : List ℕ → Type 0
+AllPositive [] = Unit {0}
+AllPositive (i ∷ is) = (0 < i) × AllPositive is
+
+-- P: "four u16 ids; the first is not 0; after a 0 only 0": one to four ids, none of them 0.
+abbrev pub PathShape : Path → Type 0
+PathShape (path i is) = (0 < i) × AllPositive is × (length is ≤ 3)
+
+-- T, below a root: ids "not 0", basic types 0 to 6.
+unfoldable pub NodesShape : Types → Type 0
+NodesShape end = Unit {0}
+NodesShape (node i m k r) = (0 < i) × (basic m ≤ lastBasic) × NodesShape k × NodesShape r
+
+abbrev pub TreeNodesShape : Tree Mark → Type 0
+TreeNodesShape (tree m k) = (basic m ≤ lastBasic) × NodesShape k
+
+-- The nodes and levels of a tree; "a row alone is one".
+abbrev pub treeNodes : Tree Mark → ℕ
+treeNodes (tree m k) = 1 + nodes k
+
+abbrev pub treeLevels : Tree Mark → ℕ
+treeLevels (tree m k) = 1 + levels k
+
+abbrev pub rootMark : Tree Mark → Mark
+rootMark (tree m k) = m
+
+-- T: "ids rising strictly and not 0"; "at most 16 nodes and 4 levels".
+pub record TypeShape (t : Tree Mark) : Type 0 where
+  pub rising : RisingTree t
+  pub eachNode : TreeNodesShape t
+  pub fewNodes : treeNodes t ≤ typeNodes
+  pub fewLevels : treeLevels t ≤ typeLevels
+
+-- "A message type's root has .. cardinality 1."
+pub record MessageTypeShape (t : MessageType) : Type 0 where
+  pub shape : TypeShape t
+  pub mandatoryRoot : mandatory (rootMark t) ≡ true
+
+-- The levels of an expression; "a row alone is one".
+unfoldable pub depth : Expression → ℕ
+depth (constant v) = 1
+depth (valueAt x) = 1
+depth (presence x) = 1
+depth (unary o a) = suc (depth a)
+depth (binary o a b) = suc (max (depth a) (depth b))
+
+-- E: every constant is a value of its basic type, and every path has its shape.
+unfoldable pub PartsShape : Expression → Type 0
+PartsShape (constant v) = isValue (basicOf v) (bytesOf v) ≡ true
+PartsShape (valueAt x) = PathShape x
+PartsShape (presence x) = PathShape x
+PartsShape (unary o a) = PartsShape a
+PartsShape (binary o a b) = PartsShape a × PartsShape b
+
+-- "every E row 8 levels".
+pub record ExpressionShape (e : Expression) : Type 0 where
+  pub parts : PartsShape e
+  pub fewLevels : depth e ≤ expressionLevels
+
+-- O: "location u16 (0 for in)"; "Ids and output locations are not 0".
+abbrev pub LocationShape : Direction → ℕ → Type 0
+LocationShape input l = l ≡ 0
+LocationShape output l = 0 < l
+
+pub record OperationShape (o : Operation) : Type 0 where
+  pub request : MessageTypeShape (o .request)
+  pub reply : MessageTypeShape (o .reply)
+  pub named : 0 < o .id
+  pub located : LocationShape (o .direction) (o .location)
+
+-- B: the operations, paths and expressions of every row of a behaviour.
+unfoldable pub BehaviourShape : Behaviour → Type 0
+BehaviourShape (nil r) = Unit {0}
+BehaviourShape (oneWay r o x) = OperationShape o × PathShape x
+BehaviourShape (requestResponse r o x y d) = OperationShape o × PathShape x × PathShape y × BehaviourShape d
+BehaviourShape (notification r o e) = OperationShape o × ExpressionShape e
+BehaviourShape (solicitResponse r o e x) = OperationShape o × ExpressionShape e × PathShape x
+BehaviourShape (ifThenElse r e a b) = ExpressionShape e × BehaviourShape a × BehaviourShape b
+BehaviourShape (whileDo r e b) = ExpressionShape e × BehaviourShape b
+BehaviourShape (sequence r a b) = BehaviourShape a × BehaviourShape b
+BehaviourShape (parallel r a b) = BehaviourShape a × BehaviourShape b
+BehaviourShape (assign r x e) = PathShape x × ExpressionShape e
+BehaviourShape (choice r m) = BehaviourShape m
+BehaviourShape (branch r a b m) = BehaviourShape a × BehaviourShape b × BehaviourShape m
+BehaviourShape (lastBranch r a b) = BehaviourShape a × BehaviourShape b
+BehaviourShape (waiting r o x) = OperationShape o × PathShape x
+BehaviourShape (answering r o y d) = OperationShape o × PathShape y × BehaviourShape d
+
+-- Is row i one of the behaviour's rows?
+unfoldable pub standsIn : ℕ → Behaviour → Bool
+standsIn i (nil r) = eqb i r
+standsIn i (oneWay r o x) = eqb i r
+standsIn i (requestResponse r o x y d) = eqb i r || standsIn i d
+standsIn i (notification r o e) = eqb i r
+standsIn i (solicitResponse r o e x) = eqb i r
+standsIn i (ifThenElse r e a b) = eqb i r || (standsIn i a || standsIn i b)
+standsIn i (whileDo r e b) = eqb i r || standsIn i b
+standsIn i (sequence r a b) = eqb i r || (standsIn i a || standsIn i b)
+standsIn i (parallel r a b) = eqb i r || (standsIn i a || standsIn i b)
+standsIn i (assign r x e) = eqb i r
+standsIn i (choice r m) = eqb i r || standsIn i m
+standsIn i (branch r a b m) = eqb i r || ((standsIn i a || standsIn i b) || standsIn i m)
+standsIn i (lastBranch r a b) = eqb i r || (standsIn i a || standsIn i b)
+standsIn i (waiting r o x) = eqb i r
+standsIn i (answering r o y d) = eqb i r || standsIn i d
+
+abbrev pub Outside : ℕ → Behaviour → Type 0
+Outside r b = T (standsIn r b) → ⊥
+
+-- No row stands in both.
+abbrev pub Apart : Behaviour → Behaviour → Type 0
+Apart a b = (i : ℕ) → T (standsIn i a) → T (standsIn i b) → ⊥
+
+-- B: "Each row is used exactly once": no row stands in a behaviour at two places.
+unfoldable pub EachRowOnce : Behaviour → Type 0
+EachRowOnce (nil r) = Unit {0}
+EachRowOnce (oneWay r o x) = Unit {0}
+EachRowOnce (requestResponse r o x y d) = Outside r d × EachRowOnce d
+EachRowOnce (notification r o e) = Unit {0}
+EachRowOnce (solicitResponse r o e x) = Unit {0}
+EachRowOnce (ifThenElse r e a b) = Outside r a × Outside r b × Apart a b × EachRowOnce a × EachRowOnce b
+EachRowOnce (whileDo r e b) = Outside r b × EachRowOnce b
+EachRowOnce (sequence r a b) = Outside r a × Outside r b × Apart a b × EachRowOnce a × EachRowOnce b
+EachRowOnce (parallel r a b) = Outside r a × Outside r b × Apart a b × EachRowOnce a × EachRowOnce b
+EachRowOnce (assign r x e) = Unit {0}
+EachRowOnce (choice r m) = Outside r m × EachRowOnce m
+EachRowOnce (branch r a b m) =
+    Outside r a × Outside r b × Apart a b × EachRowOnce a × EachRowOnce b × Outside r m × Apart a m × Apart b m × EachRowOnce m
+EachRowOnce (lastBranch r a b) = Outside r a × Outside r b × Apart a b × EachRowOnce a × EachRowOnce b
+EachRowOnce (waiting r o x) = Unit {0}
+EachRowOnce (answering r o y d) = Outside r d × EachRowOnce d
+
+-- Where a behaviour stands: alone, or as the branches of a choice.
+pub data Standing : Type 0 where
+  alone inChoice : Standing
+
+abbrev pub onlyAlone : Standing → Type 0 → Type 0
+onlyAlone alone X = X
+onlyAlone inChoice X = ⊥
+
+abbrev pub onlyInChoice : Standing → Type 0 → Type 0
+onlyInChoice alone X = ⊥
+onlyInChoice inChoice X = X
+
+-- Is it a one-way or a request-response? "branch (input row a, of kind 1 or 2, ..)".
+abbrev pub isInputBehaviour : Behaviour → Bool
+isInputBehaviour (nil r) = false
+isInputBehaviour (oneWay r o x) = true
+isInputBehaviour (requestResponse r o x y d) = true
+isInputBehaviour (notification r o e) = false
+isInputBehaviour (solicitResponse r o e x) = false
+isInputBehaviour (ifThenElse r e a b) = false
+isInputBehaviour (whileDo r e b) = false
+isInputBehaviour (sequence r a b) = false
+isInputBehaviour (parallel r a b) = false
+isInputBehaviour (assign r x e) = false
+isInputBehaviour (choice r m) = false
+isInputBehaviour (branch r a b m) = false
+isInputBehaviour (lastBranch r a b) = false
+isInputBehaviour (waiting r o x) = false
+isInputBehaviour (answering r o y d) = false
+
+abbrev pub isChoiceBehaviour : Behaviour → Bool
+isChoiceBehaviour (nil r) = false
+isChoiceBehaviour (oneWay r o x) = false
+isChoiceBehaviour (requestResponse r o x y d) = false
+isChoiceBehaviour (notification r o e) = false
+isChoiceBehaviour (solicitResponse r o e x) = false
+isChoiceBehaviour (ifThenElse r e a b) = false
+isChoiceBehaviour (whileDo r e b) = false
+isChoiceBehaviour (sequence r a b) = false
+isChoiceBehaviour (parallel r a b) = false
+isChoiceBehaviour (assign r x e) = false
+isChoiceBehaviour (choice r m) = true
+isChoiceBehaviour (branch r a b m) = false
+isChoiceBehaviour (lastBranch r a b) = false
+isChoiceBehaviour (waiting r o x) = false
+isChoiceBehaviour (answering r o y d) = false
+
+-- A behaviour as a file has it: branches stand in choices and nowhere else, a choice holds nothing but branches, a branch
+-- begins with an input, and nothing waits or answers yet.
+unfoldable pub AsInFile : Standing → Behaviour → Type 0
+AsInFile p (nil r) = onlyAlone p (Unit {0})
+AsInFile p (oneWay r o x) = onlyAlone p (Unit {0})
+AsInFile p (requestResponse r o x y d) = onlyAlone p (AsInFile alone d)
+AsInFile p (notification r o e) = onlyAlone p (Unit {0})
+AsInFile p (solicitResponse r o e x) = onlyAlone p (Unit {0})
+AsInFile p (ifThenElse r e a b) = onlyAlone p (AsInFile alone a × AsInFile alone b)
+AsInFile p (whileDo r e b) = onlyAlone p (AsInFile alone b)
+AsInFile p (sequence r a b) = onlyAlone p (AsInFile alone a × AsInFile alone b)
+AsInFile p (parallel r a b) = onlyAlone p (AsInFile alone a × AsInFile alone b)
+AsInFile p (assign r x e) = onlyAlone p (Unit {0})
+AsInFile p (choice r m) = onlyAlone p (AsInFile inChoice m)
+AsInFile p (branch r a b m) = onlyInChoice p (T (isInputBehaviour a) × AsInFile alone a × AsInFile alone b × AsInFile inChoice m)
+AsInFile p (lastBranch r a b) = onlyInChoice p (T (isInputBehaviour a) × AsInFile alone a × AsInFile alone b)
+AsInFile p (waiting r o x) = ⊥
+AsInFile p (answering r o y d) = ⊥
+
+-- Every row that has an operation has the one that f gives for it.
+unfoldable pub OperationsBy : (ℕ → Operation) → Behaviour → Type 0
+OperationsBy f (nil r) = Unit {0}
+OperationsBy f (oneWay r o x) = o ≡ f r
+OperationsBy f (requestResponse r o x y d) = (o ≡ f r) × OperationsBy f d
+OperationsBy f (notification r o e) = o ≡ f r
+OperationsBy f (solicitResponse r o e x) = o ≡ f r
+OperationsBy f (ifThenElse r e a b) = OperationsBy f a × OperationsBy f b
+OperationsBy f (whileDo r e b) = OperationsBy f b
+OperationsBy f (sequence r a b) = OperationsBy f a × OperationsBy f b
+OperationsBy f (parallel r a b) = OperationsBy f a × OperationsBy f b
+OperationsBy f (assign r x e) = Unit {0}
+OperationsBy f (choice r m) = OperationsBy f m
+OperationsBy f (branch r a b m) = OperationsBy f a × OperationsBy f b × OperationsBy f m
+OperationsBy f (lastBranch r a b) = OperationsBy f a × OperationsBy f b
+OperationsBy f (waiting r o x) = o ≡ f r
+OperationsBy f (answering r o y d) = (o ≡ f r) × OperationsBy f d
