@@ -1,0 +1,4 @@
+pub mod Subtype
+pub mod Own
+pub mod SubtypeLaws
+pub mod OwnLaws

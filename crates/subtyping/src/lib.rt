@@ -1,0 +1,1 @@
+// Subtyping of message types: definitions and laws only (specs/).

@@ -1,0 +1,37 @@
+-- The type of an expression in Γ, or 7 or 8. 01, Typing: "A path expression has the tree there and must stand firm; as an
+-- operand its root value counts. Presence needs a path in Γ and gives bool. Not, and: bool; both operands are worked out.
+-- Negate, add, subtract, less: int, long or double, both alike. Equal: alike, not void".
+-- Order: "operands a before b, the expression's rule". Less, equal, presence, not and and give bool; negate, add and
+-- subtract the operands' type.
+use mathlib.Core.Bool.{Bool, not, _&&_, _||_}
+use Prim.Native.Nat.{ℕ}
+use lib.Dec.{eqb}
+use Rattle.scalar.specs.Basic.{bool, int, double, long, void}
+use Rattle.scalar.specs.Value.{basicOf}
+use Rattle.syntax.specs.Syntax.{Types, MessageType, Unary, logicalNot, negate, Binary, add, subtract, less, equal, logicalAnd, Expression, constant, valueAt, presence, unary, binary}
+use Rattle.subtyping.specs.Subtype.{rootBasic}
+use Rattle.typing.specs.Answer.{Answer, gives, require, andThen}
+use Rattle.typing.specs.Environment.{isIn, readFirm, leaf}
+
+-- "int, long or double"
+abbrev pub numeric : ℕ → Bool
+numeric b = eqb b int || (eqb b long || eqb b double)
+
+-- An operator's rule over its operands' basic types; 8: "An operand or condition has a wrong basic type."
+abbrev pub unaryType : Unary → ℕ → Answer MessageType
+unaryType logicalNot b = require (eqb b bool) 8 (gives (leaf bool))
+unaryType negate b = require (numeric b) 8 (gives (leaf b))
+
+abbrev pub binaryType : Binary → ℕ → ℕ → Answer MessageType
+binaryType add b c = require (numeric b && eqb b c) 8 (gives (leaf b))
+binaryType subtract b c = require (numeric b && eqb b c) 8 (gives (leaf b))
+binaryType less b c = require (numeric b && eqb b c) 8 (gives (leaf bool))
+binaryType equal b c = require (not (eqb b void) && eqb b c) 8 (gives (leaf bool))
+binaryType logicalAnd b c = require (eqb b bool && eqb c bool) 8 (gives (leaf bool))
+
+unfoldable pub typeOf : Types → Expression → Answer MessageType
+typeOf Γ (constant v) = gives (leaf (basicOf v))
+typeOf Γ (valueAt x) = readFirm x Γ
+typeOf Γ (presence x) = require (isIn x Γ) 7 (gives (leaf bool))
+typeOf Γ (unary o e) = andThen (typeOf Γ e) (λ t. unaryType o (rootBasic t))
+typeOf Γ (binary o a b) = andThen (typeOf Γ a) (λ t. andThen (typeOf Γ b) (λ u. binaryType o (rootBasic t) (rootBasic u)))

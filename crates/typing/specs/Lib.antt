@@ -1,0 +1,13 @@
+pub mod Answer
+pub mod Environment
+pub mod ExpressionTyping
+pub mod Occurs
+pub mod Rules
+pub mod Checker
+pub mod Typed
+pub mod AnswerLaws
+pub mod EnvironmentLaws
+pub mod OccursLaws
+pub mod TypedLaws
+pub mod CheckerLaws
+pub mod DerivesLaws

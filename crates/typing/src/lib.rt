@@ -1,0 +1,1 @@
+// Typing of networks: definitions and laws only (specs/).
