@@ -8,12 +8,17 @@ use Rattle.forest.specs.Forest.{Forest, end, Tree, tree, nodeOf}
 use Rattle.forest.specs.Path.{Path, path}
 use Rattle.scalar.specs.Basic.{void}
 use Rattle.scalar.specs.Value.{Value, value, pick}
-use Rattle.syntax.specs.Syntax.{Mark, mark, Types, MessageType, Unary, logicalNot, negate, Binary, add, subtract, less, equal, logicalAnd, Expression, constant, valueAt, presence, unary, binary, Direction, input, output, Operation, Behaviour, nil, oneWay, requestResponse, notification, solicitResponse, ifThenElse, whileDo, sequence, parallel, assign, choice, branch, lastBranch, Optional, none, some, Service, Network}
+use Rattle.syntax.specs.Syntax.{Mark, mark, Types, MessageType, Unary, logicalNot, negate, Binary, add, subtract, less, equal, logicalAnd, Expression}
+use Rattle.syntax.specs.Syntax.{constant, valueAt, presence, unary, binary, Direction, input, output, Operation, Behaviour, nil, oneWay}
+use Rattle.syntax.specs.Syntax.{requestResponse, notification, solicitResponse, ifThenElse, whileDo, sequence, parallel, assign, choice, branch}
+use Rattle.syntax.specs.Syntax.{lastBranch, Optional, none, some, Service, Network}
 use Rattle.network.specs.declared.ExpressionKind.{ExpressionKind}
 use Rattle.network.specs.declared.BehaviourKind.{BehaviourKind}
 use Rattle.wire.specs.Wire.{byteAt, u16At}
 use Rattle.network.specs.Layout.{behaviourCount, operationCount, serviceCount, dataPart, pathAt, expressionAt, behaviourAt}
-use Rattle.network.specs.Rows.{typeId, cardinality, typeBasic, firstChild, childCount, fieldA, fieldB, fieldC, fieldD, expressionKindAt, kindAt, operationService, operationDirection, operationTwoWay, operationId, operationLocation, requestType, replyType, serviceLocation, starterRow, clientRow, noRow}
+use Rattle.network.specs.Rows.{typeId, cardinality, typeBasic, firstChild, childCount, fieldA, fieldB, fieldC, fieldD, expressionKindAt, kindAt}
+use Rattle.network.specs.Rows.{operationService, operationDirection, operationTwoWay, operationId, operationLocation, requestType, replyType}
+use Rattle.network.specs.Rows.{serviceLocation, starterRow, clientRow, noRow}
 use Rattle.network.specs.Sizes.{typeLevels, expressionLevels}
 
 -- The ids before the first 0.
@@ -76,14 +81,15 @@ noReply = tree (mark true void) end
 -- O: "service row u8, direction u8 (0 in, 1 out), two-way u8 (0, 1), 0, id u16, location u16, request type u16, reply type u16".
 unfoldable pub operationOf : List ℕ → ℕ → Operation
 operationOf s r = record {
-    row = r;
-    service = operationService s r;
-    direction = pick (eqb (operationDirection s r) 0) input output;
-    twoWay = eqb (operationTwoWay s r) 1;
-    id = operationId s r;
-    location = operationLocation s r;
-    request = typeOf s (requestType s r);
-    reply = pick (eqb (operationTwoWay s r) 1) (typeOf s (replyType s r)) noReply }
+  row = r;
+  service = operationService s r;
+  direction = pick (eqb (operationDirection s r) 0) input output;
+  twoWay = eqb (operationTwoWay s r) 1;
+  id = operationId s r;
+  location = operationLocation s r;
+  request = typeOf s (requestType s r);
+  reply = pick (eqb (operationTwoWay s r) 1) (typeOf s (replyType s r)) noReply;
+}
 
 -- The n branches from row r on, one after another: "branch (input row a, of kind 1 or 2, then b, as in a sequence)".
 unfoldable pub branchesFrom : List ℕ → (ℕ → Behaviour) → ℕ → ℕ → Behaviour
@@ -122,15 +128,20 @@ behaviourTo s (suc d) r = behaviourFrom s (behaviourTo s d) r (behaviourAt s r) 
 unfoldable pub behaviourOf : List ℕ → ℕ → Behaviour
 behaviourOf s r = behaviourTo s (behaviourCount s) r
 
+-- The operation that B row r names, if it is of a kind that names one.
+abbrev pub rowOperation : List ℕ → ℕ → Operation
+rowOperation s r = operationOf s (fieldA s (behaviourAt s r))
+
 -- S: "starter row (a choice), client row, 65535 for none".
 abbrev pub optionalBehaviour : List ℕ → ℕ → Optional Behaviour
 optionalBehaviour s v = pick (eqb v noRow) none (some (behaviourOf s v))
 
 unfoldable pub serviceOf : List ℕ → ℕ → Service
 serviceOf s r = record {
-    location = serviceLocation s r;
-    starter = optionalBehaviour s (starterRow s r);
-    client = optionalBehaviour s (clientRow s r) }
+  location = serviceLocation s r;
+  starter = optionalBehaviour s (starterRow s r);
+  client = optionalBehaviour s (clientRow s r);
+}
 
 -- What f gives for the n rows from `first` on.
 unfoldable pub rowsFrom : {A : Type 0} → (ℕ → A) → ℕ → ℕ → List A
@@ -140,5 +151,6 @@ rowsFrom f first (suc n) = f first ∷ rowsFrom f (suc first) n
 -- The network that a file is.
 unfoldable pub networkOf : List ℕ → Network
 networkOf s = record {
-    services = rowsFrom (serviceOf s) 0 (serviceCount s);
-    operations = rowsFrom (operationOf s) 0 (operationCount s) }
+  services = rowsFrom (serviceOf s) 0 (serviceCount s);
+  operations = rowsFrom (operationOf s) 0 (operationCount s);
+}

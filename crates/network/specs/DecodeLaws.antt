@@ -14,26 +14,32 @@ use Rattle.forest.specs.Path.{Path, path}
 use Rattle.scalar.specs.Basic.{lastBasic, void}
 use Rattle.scalar.specs.Value.{Value, value, isValue, basicOf, bytesOf, pick}
 use Rattle.wire.specs.Wire.{byteAt, u16At}
-use Rattle.syntax.specs.Syntax.{Mark, mark, mandatory, basic, Types, MessageType, Unary, logicalNot, negate, Binary, add, subtract, less, equal, logicalAnd, Expression, constant, valueAt, presence, unary, binary, Direction, input, output, Operation}
+use Rattle.syntax.specs.Syntax.{Mark, mark, mandatory, basic, Types, MessageType, Unary, logicalNot, negate, Binary, add, subtract, less, equal}
+use Rattle.syntax.specs.Syntax.{logicalAnd, Expression, constant, valueAt, presence, unary, binary, Direction, input, output, Operation}
 use Rattle.network.specs.declared.Broken.{Broken}
 use Rattle.network.specs.declared.Broken.the-variants.{At, Nowhere}
 use Rattle.network.specs.declared.ExpressionKind.{ExpressionKind}
-use Rattle.network.specs.declared.Shape.{Shape}
+use Rattle.network.specs.declared.Fields.{Fields}
 use Rattle.network.specs.Least.{rule}
 use Rattle.network.specs.Layout.{pathCount, typeCount, expressionCount, operationCount, dataSize, dataPart, pathAt, typeAt, expressionAt}
-use Rattle.network.specs.Kinds.{expressionKind, expressionShape}
-use Rattle.network.specs.Rows.{typeId, cardinality, typeBasic, firstChild, childCount, idBefore, fieldA, fieldB, fieldC, fieldFits, fieldsRule, constantFits, basicFits, expressionKindAt, expressionBy, expressionRow, locationFits, operationDirection, operationTwoWay, operationId, operationLocation, requestType, replyType}
+use Rattle.network.specs.Kinds.{expressionKind, expressionFields}
+use Rattle.network.specs.Rows.{typeId, cardinality, typeBasic, firstChild, childCount, idBefore, fieldA, fieldB, fieldC, fieldFits, fieldsRule}
+use Rattle.network.specs.Rows.{constantFits, basicFits, expressionKindAt, expressionBy, expressionRow, locationFits, operationDirection}
+use Rattle.network.specs.Rows.{operationTwoWay, operationId, operationLocation, requestType, replyType}
 use Rattle.network.specs.Sizes.{rowsSum, rowsAll, levelsWithin, nodesTo, typeLevels, typeNodes, operandsWithin, depthWithin, expressionLevels}
 use Rattle.network.specs.Form.{WellFormed}
-use Rattle.network.specs.Decode.{untilZero, pathOf, markOf, siblings, writtenOut, typeOf, expressionFrom, expressionTo, expressionOf, noReply, operationOf}
-use Rattle.network.specs.Shapes.{AllPositive, PathShape, NodesShape, TreeNodesShape, treeNodes, treeLevels, rootMark, TypeShape, MessageTypeShape, depth, PartsShape, ExpressionShape, LocationShape, OperationShape}
+use Rattle.network.specs.Decode.{untilZero, pathOf, markOf, siblings, writtenOut, typeOf, expressionFrom, expressionTo, expressionOf, noReply}
+use Rattle.network.specs.Decode.{operationOf}
+use Rattle.network.specs.Shapes.{AllPositive, PathShape, NodesShape, TreeNodesShape, treeNodes, treeLevels, rootMark, TypeShape}
+use Rattle.network.specs.Shapes.{MessageTypeShape, depth, PartsShape, ExpressionShape, LocationShape, OperationShape}
 use Rattle.network.specs.LeastLaws.{rule-kept}
 use Rattle.network.specs.TestLaws.{lt-of, le-of, eq-of, of-eq, and-of, not-of, clash, ne-of}
-use Rattle.network.specs.RowLaws.{Unbroken, unbroken, PathKept, path-kept, TypeKept, type-kept, RootKept, type-size, expression-size, OperationKept, operation-kept}
+use Rattle.network.specs.RowLaws.{Unbroken, unbroken, PathKept, path-kept, TypeKept, type-kept, RootKept, type-size, expression-size}
+use Rattle.network.specs.RowLaws.{OperationKept, operation-kept}
 
 -- ---- paths
 
-positive : (i : ℕ) → (i ≡ 0 → ⊥) → 0 < i
+pub positive : (i : ℕ) → (i ≡ 0 → ⊥) → 0 < i
 positive zero h = absurd (h refl)
 positive (suc n) h = omega arith
 
@@ -96,16 +102,20 @@ rising-run s f (suc n) first h k =
     (h first (omega arith) (omega arith))
     (rising-run s f n (first + 1) (λ j x y. h j (omega arith) (omega arith)) (λ j x y. k j (omega arith) (omega arith)))
   where
-    above : (m : ℕ) → ((j : ℕ) → first ≤ j → j + 1 < first + suc m → typeId s j < typeId s (j + 1)) → Above (typeId s first) (siblings s f (first + 1) m)
+    above : (m : ℕ) → ((j : ℕ) → first ≤ j → j + 1 < first + suc m → typeId s j < typeId s (j + 1))
+        → Above (typeId s first) (siblings s f (first + 1) m)
     above zero q = tt
-    above (suc m) q = above-node (typeId s first) (typeId s (first + 1)) (f (first + 1)) (siblings s f (first + 1 + 1) m) (q first (omega arith) (omega arith))
+    above (suc m) q = above-node (typeId s first) (typeId s (first + 1)) (f (first + 1)) (siblings s f (first + 1 + 1) m)
+        (q first (omega arith) (omega arith))
 
-nodes-run : (s : List ℕ) (f : ℕ → Tree Mark) (n first : ℕ) → Each first n (λ j. (0 < typeId s j) × TreeNodesShape (f j)) → NodesShape (siblings s f first n)
+nodes-run : (s : List ℕ) (f : ℕ → Tree Mark) (n first : ℕ) → Each first n (λ j. (0 < typeId s j) × TreeNodesShape (f j))
+    → NodesShape (siblings s f first n)
 unfolding siblings NodesShape
 nodes-run s f zero first h = tt
 nodes-run s f (suc n) first h =
     let x = h first (omega arith) (omega arith) in
-    nodes-node (typeId s first) (f first) (siblings s f (first + 1) n) (x .0) (x .1) (nodes-run s f n (first + 1) (λ j y z. h j (omega arith) (omega arith)))
+    nodes-node (typeId s first) (f first) (siblings s f (first + 1) n) (x .0) (x .1)
+    (nodes-run s f n (first + 1) (λ j y z. h j (omega arith) (omega arith)))
 
 count-run : (s : List ℕ) (f : ℕ → Tree Mark) (g : ℕ → ℕ) (t : ℕ → Bool) (n first : ℕ) → rowsAll t first n ≡ true
     → ((j : ℕ) → t j ≡ true → treeNodes (f j) ≡ g j) → nodes (siblings s f first n) ≡ rowsSum g first n
@@ -133,16 +143,19 @@ child-above s r k j x y = go (eqb j (firstChild s r)) (k .rising j x y (let f = 
   where
     ne : childCount s r ≡ 0 → ⊥
     ne e = omega arith
+
     go : (t : Bool) → pick t 0 (typeId s (j - 1)) < typeId s j → 0 < typeId s j
     go true h = h
     go false h = omega arith
 
-child-rising : (s : List ℕ) (r : ℕ) → TypeKept s r → (j : ℕ) → firstChild s r ≤ j → j + 1 < firstChild s r + childCount s r → typeId s j < typeId s (j + 1)
+child-rising : (s : List ℕ) (r : ℕ) → TypeKept s r → (j : ℕ) → firstChild s r ≤ j → j + 1 < firstChild s r + childCount s r
+    → typeId s j < typeId s (j + 1)
 unfolding idBefore
 child-rising s r k j x y = go (eqb (j + 1) (firstChild s r)) refl (k .rising (j + 1) (omega arith) y (let f = k .fit ne in omega arith))
   where
     ne : childCount s r ≡ 0 → ⊥
     ne e = omega arith
+
     go : (t : Bool) → eqb (j + 1) (firstChild s r) ≡ t → pick t 0 (typeId s (j + 1 - 1)) < typeId s (j + 1) → typeId s j < typeId s (j + 1)
     go true e h = let z = eq-of (j + 1) (firstChild s r) e in absurd (omega arith)
     go false e h = let z : j + 1 - 1 ≡ j = omega arith in rw z at h
@@ -165,9 +178,11 @@ nodes-written : (s : List ℕ) → WellFormed s → (d r : ℕ) → r < typeCoun
 unfolding writtenOut NodesShape markOf
 nodes-written s w zero r l = (type-kept s w r l .basicType, tt)
 nodes-written s w (suc d) r l =
-    let k = type-kept s w r l in
-    (k .basicType,
-    nodes-run s (writtenOut s d) (childCount s r) (firstChild s r) (λ j x y. (child-above s r k j x y, nodes-written s w d j (child-exists s r k j x y))))
+    let k = type-kept s w r l in (
+      k .basicType,
+      nodes-run s (writtenOut s d) (childCount s r) (firstChild s r)
+          (λ j x y. (child-above s r k j x y, nodes-written s w d j (child-exists s r k j x y))),
+    )
 
 count-written : (s : List ℕ) (d r : ℕ) → levelsWithin s d r ≡ true → treeNodes (writtenOut s d r) ≡ nodesTo s d r
 unfolding writtenOut levelsWithin nodesTo
@@ -190,7 +205,8 @@ type-shape s w r l =
       rising = rising-written s w typeLevels r l;
       eachNode = nodes-written s w typeLevels r l;
       fewNodes = let e = count-written s typeLevels r (z .0) in let f = z .1 in omega arith;
-      fewLevels = levels-written s typeLevels r (z .0) }
+      fewLevels = levels-written s typeLevels r (z .0);
+    }
 
 pub root-shape : (s : List ℕ) → WellFormed s → (r : ℕ) → RootKept s r → MessageTypeShape (typeOf s r)
 unfolding writtenOut markOf
@@ -201,7 +217,8 @@ same-written : (s : List ℕ) (d e r : ℕ) → levelsWithin s d r ≡ true → 
 unfolding writtenOut levelsWithin siblings rowsAll
 same-written s zero e r h l = let z : _≡_ {A = ℕ} 0 1 = cc in absurd (omega arith)
 same-written s (suc d) zero r h l = absurd (omega arith)
-same-written s (suc d) (suc e) r h l = ap (tree (markOf s r)) (same-run (childCount s r) (firstChild s r) h (λ j t. same-written s d e j t (omega arith)))
+same-written s (suc d) (suc e) r h l = ap (tree (markOf s r))
+    (same-run (childCount s r) (firstChild s r) h (λ j t. same-written s d e j t (omega arith)))
   where
     same-run : (n first : ℕ) → rowsAll (levelsWithin s d) first n ≡ true → ((j : ℕ) → levelsWithin s d j ≡ true → writtenOut s d j ≡ writtenOut s e j)
         → siblings s (writtenOut s d) first n ≡ siblings s (writtenOut s e) first n
@@ -211,7 +228,8 @@ same-written s (suc d) (suc e) r h l = ap (tree (markOf s r)) (same-run (childCo
         rw (k first (b .0), same-run n (first + 1) (b .1) k) refl
 
 -- A T row is its mark over its children's trees.
-pub type-row : (s : List ℕ) → WellFormed s → (r : ℕ) → r < typeCount s → typeOf s r ≡ tree (markOf s r) (siblings s (typeOf s) (firstChild s r) (childCount s r))
+pub type-row : (s : List ℕ) → WellFormed s → (r : ℕ) → r < typeCount s
+    → typeOf s r ≡ tree (markOf s r) (siblings s (typeOf s) (firstChild s r) (childCount s r))
 unfolding writtenOut
 type-row s w r l = same-written s typeLevels (suc typeLevels) r (type-size s w r l .0) (omega arith)
 
@@ -220,8 +238,10 @@ type-row s w r l = same-written s typeLevels (suc typeLevels) r (type-size s w r
 pub record ExpressionKept (s : List ℕ) (r : ℕ) : Type 0 where
   pub kind : byteAt s (expressionAt s r) ≤ 9
   pub basicType : basicFits (expressionKindAt s r) (byteAt s (expressionAt s r + 1)) ≡ true
-  pub fitsA : fieldFits s r (byteAt s (expressionAt s r + 1)) (expressionShape (expressionKindAt s r) .a) (fieldA s (expressionAt s r)) (fieldB s (expressionAt s r)) ≡ true
-  pub fitsB : fieldFits s r (byteAt s (expressionAt s r + 1)) (expressionShape (expressionKindAt s r) .b) (fieldB s (expressionAt s r)) (fieldC s (expressionAt s r)) ≡ true
+  pub fitsA : fieldFits s r (byteAt s (expressionAt s r + 1)) (expressionFields (expressionKindAt s r) .a) (fieldA s (expressionAt s r))
+      (fieldB s (expressionAt s r)) ≡ true
+  pub fitsB : fieldFits s r (byteAt s (expressionAt s r + 1)) (expressionFields (expressionKindAt s r) .b) (fieldB s (expressionAt s r))
+      (fieldC s (expressionAt s r)) ≡ true
 
 pub expression-kept : (s : List ℕ) → WellFormed s → (r : ℕ) → r < expressionCount s → ExpressionKept s r
 unfolding expressionRow fieldsRule
@@ -231,8 +251,8 @@ expression-kept s w r l =
     let h = unbroken s w .expressions r l in
     let a = rule-kept (leb (byteAt s at) 9) at _ h in
     let b = rule-kept (basicFits k (byteAt s (at + 1))) (at + 1) _ (a .1) in
-    let c = rule-kept (fieldFits s r (byteAt s (at + 1)) (expressionShape k .a) (fieldA s at) (fieldB s at)) (at + 2) _ (b .1) in
-    let d = rule-kept (fieldFits s r (byteAt s (at + 1)) (expressionShape k .b) (fieldB s at) (fieldC s at)) (at + 4) _ (c .1) in
+    let c = rule-kept (fieldFits s r (byteAt s (at + 1)) (expressionFields k .a) (fieldA s at) (fieldB s at)) (at + 2) _ (b .1) in
+    let d = rule-kept (fieldFits s r (byteAt s (at + 1)) (expressionFields k .b) (fieldB s at) (fieldC s at)) (at + 4) _ (c .1) in
     record { kind = le-of (byteAt s at) 9 (a .0); basicType = b .0; fitsA = c .0; fitsB = d .0 }
 
 known-expression : (n : ℕ) → n ≤ 9 → expressionKind n ≡ ExpressionKind.Unknown → ⊥
@@ -257,10 +277,12 @@ constant-part : (s : List ℕ) (b v n : ℕ) → constantFits s b v n ≡ true �
 unfolding constantFits
 constant-part s b v n e = and-of (leb (v + n) (dataSize s)) (isValue b (dataPart s v n)) e .1
 
-parts-by : (s : List ℕ) → WellFormed s → (d r : ℕ) (at b : ℕ) → byteAt s (at + 1) ≡ b → Operands s d r PartsShape → (k : ExpressionKind) → (k ≡ ExpressionKind.Unknown → ⊥)
-    → fieldFits s r b (expressionShape k .a) (fieldA s at) (fieldB s at) ≡ true → fieldFits s r b (expressionShape k .b) (fieldB s at) (fieldC s at) ≡ true
+parts-by : (s : List ℕ) → WellFormed s → (d r : ℕ) (at b : ℕ) → byteAt s (at + 1) ≡ b → Operands s d r PartsShape → (k : ExpressionKind)
+    → (k ≡ ExpressionKind.Unknown → ⊥)
+    → fieldFits s r b (expressionFields k .a) (fieldA s at) (fieldB s at) ≡ true
+    → fieldFits s r b (expressionFields k .b) (fieldB s at) (fieldC s at) ≡ true
     → operandsWithin k (depthWithin s d (fieldA s at)) (depthWithin s d (fieldB s at)) ≡ true → PartsShape (expressionFrom s (expressionTo s d) at k)
-unfolding expressionShape fieldFits expressionFrom PartsShape
+unfolding expressionFields fieldFits expressionFrom PartsShape
 parts-by s w d r at b q ih ExpressionKind.Constant u x y h = rw q (constant-part s b (fieldA s at) (fieldB s at) x)
 parts-by s w d r at b q ih ExpressionKind.ValueAt u x y h = path-shape s w (fieldA s at) (lt-of (fieldA s at) (pathCount s) x)
 parts-by s w d r at b q ih ExpressionKind.Presence u x y h = path-shape s w (fieldA s at) (lt-of (fieldA s at) (pathCount s) x)
@@ -293,7 +315,8 @@ parts-to s w (suc d) r l h =
 
 -- Levels of an expression.
 depth-by : (s : List ℕ) (d at : ℕ) → ((j : ℕ) → depthWithin s d j ≡ true → depth (expressionTo s d j) ≤ d) → (k : ExpressionKind)
-    → operandsWithin k (depthWithin s d (fieldA s at)) (depthWithin s d (fieldB s at)) ≡ true → depth (expressionFrom s (expressionTo s d) at k) ≤ suc d
+    → operandsWithin k (depthWithin s d (fieldA s at)) (depthWithin s d (fieldB s at)) ≡ true
+    → depth (expressionFrom s (expressionTo s d) at k) ≤ suc d
 unfolding expressionFrom depth
 depth-by s d at ih ExpressionKind.Constant h = omega arith
 depth-by s d at ih ExpressionKind.ValueAt h = omega arith
@@ -303,23 +326,28 @@ depth-by s d at ih ExpressionKind.Not h = let x = ih (fieldA s at) h in omega ar
 depth-by s d at ih ExpressionKind.Negate h = let x = ih (fieldA s at) h in omega arith
 depth-by s d at ih ExpressionKind.Add h =
     let z = and-of (depthWithin s d (fieldA s at)) (depthWithin s d (fieldB s at)) h in
-    let m : max (depth (expressionTo s d (fieldA s at))) (depth (expressionTo s d (fieldB s at))) ≤ d = max-le (ih (fieldA s at) (z .0)) (ih (fieldB s at) (z .1)) in
+    let m : max (depth (expressionTo s d (fieldA s at))) (depth (expressionTo s d (fieldB s at))) ≤ d = max-le (ih (fieldA s at) (z .0))
+    (ih (fieldB s at) (z .1)) in
     omega arith
 depth-by s d at ih ExpressionKind.Subtract h =
     let z = and-of (depthWithin s d (fieldA s at)) (depthWithin s d (fieldB s at)) h in
-    let m : max (depth (expressionTo s d (fieldA s at))) (depth (expressionTo s d (fieldB s at))) ≤ d = max-le (ih (fieldA s at) (z .0)) (ih (fieldB s at) (z .1)) in
+    let m : max (depth (expressionTo s d (fieldA s at))) (depth (expressionTo s d (fieldB s at))) ≤ d = max-le (ih (fieldA s at) (z .0))
+    (ih (fieldB s at) (z .1)) in
     omega arith
 depth-by s d at ih ExpressionKind.Less h =
     let z = and-of (depthWithin s d (fieldA s at)) (depthWithin s d (fieldB s at)) h in
-    let m : max (depth (expressionTo s d (fieldA s at))) (depth (expressionTo s d (fieldB s at))) ≤ d = max-le (ih (fieldA s at) (z .0)) (ih (fieldB s at) (z .1)) in
+    let m : max (depth (expressionTo s d (fieldA s at))) (depth (expressionTo s d (fieldB s at))) ≤ d = max-le (ih (fieldA s at) (z .0))
+    (ih (fieldB s at) (z .1)) in
     omega arith
 depth-by s d at ih ExpressionKind.Equal h =
     let z = and-of (depthWithin s d (fieldA s at)) (depthWithin s d (fieldB s at)) h in
-    let m : max (depth (expressionTo s d (fieldA s at))) (depth (expressionTo s d (fieldB s at))) ≤ d = max-le (ih (fieldA s at) (z .0)) (ih (fieldB s at) (z .1)) in
+    let m : max (depth (expressionTo s d (fieldA s at))) (depth (expressionTo s d (fieldB s at))) ≤ d = max-le (ih (fieldA s at) (z .0))
+    (ih (fieldB s at) (z .1)) in
     omega arith
 depth-by s d at ih ExpressionKind.And h =
     let z = and-of (depthWithin s d (fieldA s at)) (depthWithin s d (fieldB s at)) h in
-    let m : max (depth (expressionTo s d (fieldA s at))) (depth (expressionTo s d (fieldB s at))) ≤ d = max-le (ih (fieldA s at) (z .0)) (ih (fieldB s at) (z .1)) in
+    let m : max (depth (expressionTo s d (fieldA s at))) (depth (expressionTo s d (fieldB s at))) ≤ d = max-le (ih (fieldA s at) (z .0))
+    (ih (fieldB s at) (z .1)) in
     omega arith
 
 depth-to : (s : List ℕ) (d r : ℕ) → depthWithin s d r ≡ true → depth (expressionTo s d r) ≤ d
@@ -375,7 +403,8 @@ same-to s zero e r h l = let z : _≡_ {A = ℕ} 0 1 = cc in absurd (omega arith
 same-to s (suc d) zero r h l = absurd (omega arith)
 same-to s (suc d) (suc e) r h l = same-by s d e (expressionAt s r) (λ j t. same-to s d e j t (omega arith)) (expressionKindAt s r) h
 
-pub expression-row : (s : List ℕ) → WellFormed s → (r : ℕ) → r < expressionCount s → expressionOf s r ≡ expressionFrom s (expressionOf s) (expressionAt s r) (expressionKindAt s r)
+pub expression-row : (s : List ℕ) → WellFormed s → (r : ℕ) → r < expressionCount s
+    → expressionOf s r ≡ expressionFrom s (expressionOf s) (expressionAt s r) (expressionKindAt s r)
 unfolding expressionTo
 expression-row s w r l = same-to s expressionLevels (suc expressionLevels) r (expression-size s w r l) (omega arith)
 
@@ -383,7 +412,16 @@ expression-row s w r l = same-to s expressionLevels (suc expressionLevels) r (ex
 
 no-reply : MessageTypeShape noReply
 unfolding Rising NodesShape measure
-no-reply = record { shape = record { rising = tt; eachNode = (omega arith, tt); fewNodes = omega arith; fewLevels = omega arith }; mandatoryRoot = refl }
+no-reply = record {
+  shape = record {
+    rising = tt;
+    eachNode =
+        (omega arith, tt);
+    fewNodes = omega arith;
+    fewLevels = omega arith;
+  };
+  mandatoryRoot = refl;
+}
 
 -- The direction, as the byte and as the syntax have it.
 located-by : (d l : ℕ) → d ≤ 1 → locationFits d l ≡ true → LocationShape (pick (eqb d 0) input output) l
@@ -395,13 +433,15 @@ located-by (suc (suc d)) l h e = absurd (omega arith)
 pub operation-shape : (s : List ℕ) → WellFormed s → (r : ℕ) → r < operationCount s → OperationShape (operationOf s r)
 unfolding operationOf
 operation-shape s w r l = record {
-    request = root-shape s w (requestType s r) (k .request);
-    reply = replies (eqb (operationTwoWay s r) 1) refl;
-    named = positive (operationId s r) (k .named);
-    located = located-by (operationDirection s r) (operationLocation s r) (k .directions) (k .location) }
+  request = root-shape s w (requestType s r) (k .request);
+  reply = replies (eqb (operationTwoWay s r) 1) refl;
+  named = positive (operationId s r) (k .named);
+  located = located-by (operationDirection s r) (operationLocation s r) (k .directions) (k .location);
+}
   where
     k : OperationKept s r
     k = operation-kept s w r l
+
     replies : (t : Bool) → eqb (operationTwoWay s r) 1 ≡ t → MessageTypeShape (pick t (typeOf s (replyType s r)) noReply)
     replies true e = root-shape s w (replyType s r) (k .reply (eq-of (operationTwoWay s r) 1 e))
     replies false e = no-reply

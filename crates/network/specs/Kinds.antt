@@ -4,9 +4,10 @@ use lib.Dec.{eqb}
 use Rattle.scalar.specs.Value.{pick}
 use Rattle.network.specs.declared.ExpressionKind.{ExpressionKind}
 use Rattle.network.specs.declared.BehaviourKind.{BehaviourKind}
-use Rattle.network.specs.declared.Sort.{Sort}
-use Rattle.network.specs.declared.Sort.the-variants.{Free, Unused, PathRow, EarlierRow, ExpressionRow, OperationRow, LaterRow, InputRow, BranchRun, BranchCount, ConstantPart}
-use Rattle.network.specs.declared.Shape.{Shape}
+use Rattle.network.specs.declared.FieldSort.{FieldSort}
+use Rattle.network.specs.declared.FieldSort.the-variants.{Free, Unused, PathRow, EarlierRow, ExpressionRow, OperationRow, LaterRow, InputRow}
+use Rattle.network.specs.declared.FieldSort.the-variants.{BranchRun, BranchCount, ConstantPart}
+use Rattle.network.specs.declared.Fields.{Fields}
 
 -- 01, E: "Kinds: 0 constant .., 1 path a, 2 is path a present, 3 not, 4 negate, 5 add, 6 subtract, 7 less, 8 equal, 9 and."
 unfoldable pub expressionKind : ℕ → ExpressionKind
@@ -43,35 +44,35 @@ behaviourKind n =
 -- `OperationRow` name a row of that section, `EarlierRow` an operand ("Operands a, b are earlier rows"), `LaterRow` a
 -- sub-behaviour ("A sub-behaviour is a later row"), `InputRow` a branch's input, `BranchRun` and `BranchCount` a choice's
 -- first row and count, `ConstantPart` a constant's start in D, whose length is the field after it.
-abbrev pub shape : Sort → Sort → Sort → Sort → Shape
-shape w x y z = record { a = w; b = x; c = y; d = z }
+abbrev pub fields : FieldSort → FieldSort → FieldSort → FieldSort → Fields
+fields w x y z = record { a = w; b = x; c = y; d = z }
 
 -- 01, E: what the fields a, b, c are; there is no d. A row of unknown kind has no fields to judge.
-unfoldable pub expressionShape : ExpressionKind → Shape
-expressionShape ExpressionKind.Constant = shape ConstantPart Free Unused Free
-expressionShape ExpressionKind.ValueAt = shape PathRow Unused Unused Free
-expressionShape ExpressionKind.Presence = shape PathRow Unused Unused Free
-expressionShape ExpressionKind.Not = shape EarlierRow Unused Unused Free
-expressionShape ExpressionKind.Negate = shape EarlierRow Unused Unused Free
-expressionShape ExpressionKind.Add = shape EarlierRow EarlierRow Unused Free
-expressionShape ExpressionKind.Subtract = shape EarlierRow EarlierRow Unused Free
-expressionShape ExpressionKind.Less = shape EarlierRow EarlierRow Unused Free
-expressionShape ExpressionKind.Equal = shape EarlierRow EarlierRow Unused Free
-expressionShape ExpressionKind.And = shape EarlierRow EarlierRow Unused Free
-expressionShape ExpressionKind.Unknown = shape Free Free Free Free
+unfoldable pub expressionFields : ExpressionKind → Fields
+expressionFields ExpressionKind.Constant = fields ConstantPart Free Unused Free
+expressionFields ExpressionKind.ValueAt = fields PathRow Unused Unused Free
+expressionFields ExpressionKind.Presence = fields PathRow Unused Unused Free
+expressionFields ExpressionKind.Not = fields EarlierRow Unused Unused Free
+expressionFields ExpressionKind.Negate = fields EarlierRow Unused Unused Free
+expressionFields ExpressionKind.Add = fields EarlierRow EarlierRow Unused Free
+expressionFields ExpressionKind.Subtract = fields EarlierRow EarlierRow Unused Free
+expressionFields ExpressionKind.Less = fields EarlierRow EarlierRow Unused Free
+expressionFields ExpressionKind.Equal = fields EarlierRow EarlierRow Unused Free
+expressionFields ExpressionKind.And = fields EarlierRow EarlierRow Unused Free
+expressionFields ExpressionKind.Unknown = fields Free Free Free Free
 
 -- 01, B: what the fields a, b, c, d are. A row of unknown kind has no fields to judge, and uses nothing.
-unfoldable pub behaviourShape : BehaviourKind → Shape
-behaviourShape BehaviourKind.Nil = shape Unused Unused Unused Unused
-behaviourShape BehaviourKind.OneWay = shape OperationRow PathRow Unused Unused
-behaviourShape BehaviourKind.RequestResponse = shape OperationRow PathRow PathRow LaterRow
-behaviourShape BehaviourKind.Notification = shape OperationRow ExpressionRow Unused Unused
-behaviourShape BehaviourKind.SolicitResponse = shape OperationRow ExpressionRow PathRow Unused
-behaviourShape BehaviourKind.If = shape ExpressionRow LaterRow LaterRow Unused
-behaviourShape BehaviourKind.While = shape ExpressionRow LaterRow Unused Unused
-behaviourShape BehaviourKind.Sequence = shape LaterRow LaterRow Unused Unused
-behaviourShape BehaviourKind.Parallel = shape LaterRow LaterRow Unused Unused
-behaviourShape BehaviourKind.Assign = shape PathRow ExpressionRow Unused Unused
-behaviourShape BehaviourKind.Choice = shape BranchRun BranchCount Unused Unused
-behaviourShape BehaviourKind.Branch = shape InputRow LaterRow Unused Unused
-behaviourShape BehaviourKind.Unknown = shape Free Free Free Free
+unfoldable pub behaviourFields : BehaviourKind → Fields
+behaviourFields BehaviourKind.Nil = fields Unused Unused Unused Unused
+behaviourFields BehaviourKind.OneWay = fields OperationRow PathRow Unused Unused
+behaviourFields BehaviourKind.RequestResponse = fields OperationRow PathRow PathRow LaterRow
+behaviourFields BehaviourKind.Notification = fields OperationRow ExpressionRow Unused Unused
+behaviourFields BehaviourKind.SolicitResponse = fields OperationRow ExpressionRow PathRow Unused
+behaviourFields BehaviourKind.If = fields ExpressionRow LaterRow LaterRow Unused
+behaviourFields BehaviourKind.While = fields ExpressionRow LaterRow Unused Unused
+behaviourFields BehaviourKind.Sequence = fields LaterRow LaterRow Unused Unused
+behaviourFields BehaviourKind.Parallel = fields LaterRow LaterRow Unused Unused
+behaviourFields BehaviourKind.Assign = fields PathRow ExpressionRow Unused Unused
+behaviourFields BehaviourKind.Choice = fields BranchRun BranchCount Unused Unused
+behaviourFields BehaviourKind.Branch = fields InputRow LaterRow Unused Unused
+behaviourFields BehaviourKind.Unknown = fields Free Free Free Free

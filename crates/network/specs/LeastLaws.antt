@@ -80,6 +80,7 @@ least-below (At x) (At y) p h = go (ltb x y) refl
         (λ w. let e : At x ≡ At (w .0) = w .1 in let k : x ≡ w .0 = cc in let l = w .2 in inl (omega arith))
         (λ w. let e : At y ≡ At (w .0) = w .1 in let k : y ≡ w .0 = cc in let l = w .2 in inr (omega arith))
         h
+
     go : (t : Bool) → ltb x y ≡ t → AtOrBelow (At (pick t x y)) p
     go true e = let l : x < y = ltb→lt x y (T-of e) in (x, refl, ⊎-elim (λ k. k) (λ k. omega arith) low)
     go false e = let l : y ≤ x = nltb→le x y (T-of-false e) in (y, refl, ⊎-elim (λ k. omega arith) (λ k. k) low)

@@ -10,6 +10,13 @@ pub mod Meets
 pub mod Shapes
 pub mod LeastLaws
 pub mod LowestLaws
+pub mod FoldLaws
 pub mod TestLaws
 pub mod RowLaws
+pub mod UseLaws
 pub mod DecodeLaws
+pub mod BehaviourLaws
+pub mod OnceLaws
+pub mod NetworkLaws
+pub mod OwnerLaws
+pub mod MeetsLaws

@@ -10,7 +10,8 @@ use Rattle.network.specs.declared.Broken.{Broken}
 use Rattle.network.specs.declared.Broken.the-variants.{At, Nowhere}
 use Rattle.network.specs.Least.{least, leastOver}
 use Rattle.network.specs.Layout.{pathCount, typeCount, expressionCount, behaviourCount, operationCount, serviceCount}
-use Rattle.network.specs.Rows.{pathRow, typeRow, expressionRow, behaviourRow, operationRow, serviceRow, pathRows, typeRows, expressionRows, behaviourRows, operationRows, serviceRows}
+use Rattle.network.specs.Rows.{pathRow, typeRow, expressionRow, behaviourRow, operationRow, serviceRow, pathRows, typeRows, expressionRows}
+use Rattle.network.specs.Rows.{behaviourRows, operationRows, serviceRows}
 use Rattle.network.specs.Uses.{usesRow, usesRows, broken}
 use Rattle.network.specs.LeastLaws.{AtOrBelow, least-hit, over-hit, least-below, over-below}
 
@@ -98,11 +99,12 @@ broken-below s q (ofService r l e) =
 
 -- "lowest place first": the place of refusal 4 is that of a broken rule, and no broken rule has a lower one.
 pub lowest-place : (s : List ℕ) (p : ℕ) → broken s ≡ At p → BrokenRow s p × ((q : ℕ) → BrokenRow s q → p ≤ q)
-lowest-place s p e =
-    (broken-hit s p e,
-    λ q h.
-        let w = broken-below s q h in
-        let same : At p ≡ At (w .0) = sym e ∙ w .1 in
-        let k : p ≡ w .0 = cc in
-        let l = w .2 in
-        omega arith)
+lowest-place s p e = (
+  broken-hit s p e,
+  λ q h.
+      let w = broken-below s q h in
+      let same : At p ≡ At (w .0) = sym e ∙ w .1 in
+      let k : p ≡ w .0 = cc in
+      let l = w .2 in
+      omega arith,
+)

@@ -6,21 +6,16 @@ use lib.Dec.{eqb}
 use Rattle.scalar.specs.Value.{pick}
 use Rattle.syntax.specs.Syntax.{Direction, input, output, Operation, Optional, none, some, Service, Network}
 
-abbrev pub isInput : Direction → Bool
-isInput input = true
-isInput output = false
+-- Entry number n of a list, counted from 0: of the services or operations, the one of row n.
+unfoldable pub entry : {A : Type 0} → ℕ → List A → Optional A
+entry n [] = none
+entry zero (a ∷ l) = some a
+entry (suc n) (a ∷ l) = entry n l
 
-abbrev pub same : Bool → Bool → Bool
-same true true = true
-same true false = false
-same false true = false
-same false false = true
-
--- The location of service number n; 0, which is no service's location, where there is none.
-unfoldable pub locationIn : List Service → ℕ → ℕ
-locationIn [] n = 0
-locationIn (v ∷ vs) zero = v .location
-locationIn (v ∷ vs) (suc n) = locationIn vs n
+-- The location of a service; 0, which is no service's location, where there is none.
+abbrev pub locationOf : Optional Service → ℕ
+locationOf none = 0
+locationOf (some v) = v .location
 
 -- Is one of the services at the location? "a location in the file".
 unfoldable pub someAt : List Service → ℕ → Bool
@@ -30,11 +25,22 @@ someAt (v ∷ vs) l = eqb (v .location) l || someAt vs l
 abbrev pub inFile : Network → ℕ → Bool
 inFile n l = someAt (n .services) l
 
--- Is i "an input there of the same id and kind"? The kind is one-way or two-way.
+abbrev pub isInputOperation : Direction → Bool
+isInputOperation input = true
+isInputOperation output = false
+
+-- The kind is one-way or two-way.
+abbrev pub sameKind : Bool → Bool → Bool
+sameKind true true = true
+sameKind true false = false
+sameKind false true = false
+sameKind false false = true
+
+-- Is i, for the output o, "an input there of the same id and kind"?
 unfoldable pub meets : Network → Operation → Operation → Bool
 meets n o i =
-    (isInput (i .direction) && eqb (locationIn (n .services) (i .service)) (o .location)) &&
-    (eqb (i .id) (o .id) && same (i .twoWay) (o .twoWay))
+    (isInputOperation (i .direction) && eqb (locationOf (entry (i .service) (n .services))) (o .location)) &&
+    (eqb (i .id) (o .id) && sameKind (i .twoWay) (o .twoWay))
 
 -- The first operation that passes the test.
 unfoldable pub firstOf : (Operation → Bool) → List Operation → Optional Operation

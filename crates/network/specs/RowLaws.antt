@@ -11,15 +11,22 @@ use Rattle.scalar.specs.Value.{pick, isValue}
 use Rattle.wire.specs.Wire.{byteAt, u16At}
 use Rattle.network.specs.declared.Broken.{Broken}
 use Rattle.network.specs.declared.Broken.the-variants.{At, Nowhere}
-use Rattle.network.specs.declared.Form.{Form}
-use Rattle.network.specs.declared.Form.the-variants.{Layout, Counts, Field, TooLarge, Whole}
+use Rattle.refusal.specs.declared.Refusal.the-variants.{FileLayout, SectionCount}
+use Rattle.refusal.specs.declared.Verdict.{Verdict}
+use Rattle.refusal.specs.declared.Verdict.the-variants.{Done, Refused}
 use Rattle.network.specs.Least.{least, rule, leastOver}
-use Rattle.network.specs.Layout.{laidOut, counted, pathCount, typeCount, expressionCount, behaviourCount, operationCount, serviceCount, pathAt, typeAt, expressionAt, operationAt, serviceAt}
-use Rattle.network.specs.Rows.{inRun, laterRun, pathRow, typeId, cardinality, typeBasic, firstChild, childCount, childrenFit, idBefore, childRule, childIds, typeRow, expressionRow, behaviourRow, pathRows, typeRows, expressionRows, behaviourRows, operationRows, serviceRows}
-use Rattle.network.specs.Rows.{operationService, operationDirection, operationTwoWay, operationId, operationLocation, requestType, replyType, rootFits, locationFits, replyFits, sameService, sameName, repeatRule, operationFields, operationLinks, operationRow}
+use Rattle.network.specs.Layout.{laidOut, counted, pathCount, typeCount, expressionCount, behaviourCount, operationCount, serviceCount, pathAt}
+use Rattle.network.specs.Layout.{typeAt, expressionAt, operationAt, serviceAt}
+use Rattle.network.specs.Rows.{inRun, laterRun, pathRow, typeId, cardinality, typeBasic, firstChild, childCount, childrenFit, idBefore}
+use Rattle.network.specs.Rows.{childRule, childIds, typeRow, expressionRow, behaviourRow, pathRows, typeRows, expressionRows, behaviourRows}
+use Rattle.network.specs.Rows.{operationRows, serviceRows}
+use Rattle.network.specs.Rows.{operationService, operationDirection, operationTwoWay, operationId, operationLocation, requestType, replyType}
+use Rattle.network.specs.Rows.{rootFits, locationFits, replyFits, sameService, sameName, repeatRule, operationFields, operationLinks}
+use Rattle.network.specs.Rows.{operationRow}
 use Rattle.network.specs.Rows.{serviceLocation, starterRow, clientRow, starterFits, clientFits, locationRule, serviceRow}
 use Rattle.network.specs.Uses.{usesRow, usesRows, broken}
-use Rattle.network.specs.Sizes.{typeWithin, levelsWithin, nodesTo, depthWithin, typeLevels, typeNodes, expressionLevels, typeLarge, expressionLarge, typeSizes, expressionSizes, large}
+use Rattle.network.specs.Sizes.{typeWithin, levelsWithin, nodesTo, depthWithin, typeLevels, typeNodes, expressionLevels, typeLarge}
+use Rattle.network.specs.Sizes.{expressionLarge, typeSizes, expressionSizes, large}
 use Rattle.network.specs.Form.{afterSizes, afterFields, formOf, WellFormed}
 use Rattle.network.specs.LeastLaws.{least-kept, rule-kept, over-kept}
 use Rattle.network.specs.TestLaws.{lt-of, le-of, eq-of, of-eq, and-of, or-of, not-of, clash, ne-of, under, in-run}
@@ -33,7 +40,7 @@ pub record Unrefused (s : List ℕ) : Type 0 where
   pub sizes : large s ≡ Nowhere
 
 unrefused-by : (s : List ℕ) (a b : Bool) (x y : Broken) → laidOut s ≡ a → counted s ≡ b → broken s ≡ x → large s ≡ y
-    → pick a (pick b (afterFields x y) Counts) Layout ≡ Whole → Unrefused s
+    → pick a (pick b (afterFields x y) (Refused SectionCount)) (Refused FileLayout) ≡ Done → Unrefused s
 unrefused-by s true true Nowhere Nowhere p q e f h = record { layout = p; counts = q; rules = e; sizes = f }
 unrefused-by s true true Nowhere (At y) p q e f h = let z : _≡_ {A = ℕ} 0 1 = cc in absurd (omega arith)
 unrefused-by s true true (At x) y p q e f h = let z : _≡_ {A = ℕ} 0 1 = cc in absurd (omega arith)
@@ -43,6 +50,35 @@ unrefused-by s false b x y p q e f h = let z : _≡_ {A = ℕ} 0 1 = cc in absur
 pub unrefused : (s : List ℕ) → WellFormed s → Unrefused s
 unfolding formOf
 unrefused s h = unrefused-by s (laidOut s) (counted s) (broken s) (large s) refl refl refl refl h
+
+-- "At most 256 rows in P, T, E, B; 64 in O; 1 to 4 in S."
+pub record CountsKept (s : List ℕ) : Type 0 where
+  pub paths : pathCount s ≤ 256
+  pub types : typeCount s ≤ 256
+  pub expressions : expressionCount s ≤ 256
+  pub behaviours : behaviourCount s ≤ 256
+  pub operations : operationCount s ≤ 64
+  pub someService : 1 ≤ serviceCount s
+  pub services : serviceCount s ≤ 4
+
+pub counts-kept : (s : List ℕ) → WellFormed s → CountsKept s
+unfolding counted
+counts-kept s w =
+    let a = and-of (leb (pathCount s) 256) _ (unrefused s w .counts) in
+    let b = and-of (leb (typeCount s) 256) _ (a .1) in
+    let c = and-of (leb (expressionCount s) 256) _ (b .1) in
+    let d = and-of (leb (behaviourCount s) 256) _ (c .1) in
+    let e = and-of (leb (operationCount s) 64) _ (d .1) in
+    let f = and-of (leb 1 (serviceCount s)) (leb (serviceCount s) 4) (e .1) in
+    record {
+      paths = le-of (pathCount s) 256 (a .0);
+      types = le-of (typeCount s) 256 (b .0);
+      expressions = le-of (expressionCount s) 256 (c .0);
+      behaviours = le-of (behaviourCount s) 256 (d .0);
+      operations = le-of (operationCount s) 64 (e .0);
+      someService = le-of 1 (serviceCount s) (f .0);
+      services = le-of (serviceCount s) 4 (f .1);
+    }
 
 -- ---- no row has a broken rule
 
@@ -59,8 +95,10 @@ pub unbroken : (s : List ℕ) → WellFormed s → Unbroken s
 unfolding broken pathRows typeRows expressionRows behaviourRows usesRows operationRows serviceRows
 unbroken s w =
     let h = unrefused s w .rules in
-    let a = least-kept (pathRows s) (least (typeRows s) (least (expressionRows s) (least (behaviourRows s) (least (usesRows s) (least (operationRows s) (serviceRows s)))))) h in
-    let b = least-kept (typeRows s) (least (expressionRows s) (least (behaviourRows s) (least (usesRows s) (least (operationRows s) (serviceRows s))))) (a .1) in
+    let a = least-kept (pathRows s) (least (typeRows s)
+    (least (expressionRows s) (least (behaviourRows s) (least (usesRows s) (least (operationRows s) (serviceRows s)))))) h in
+    let b = least-kept (typeRows s) (least (expressionRows s)
+    (least (behaviourRows s) (least (usesRows s) (least (operationRows s) (serviceRows s))))) (a .1) in
     let c = least-kept (expressionRows s) (least (behaviourRows s) (least (usesRows s) (least (operationRows s) (serviceRows s)))) (b .1) in
     let d = least-kept (behaviourRows s) (least (usesRows s) (least (operationRows s) (serviceRows s))) (c .1) in
     let e = least-kept (usesRows s) (least (operationRows s) (serviceRows s)) (d .1) in
@@ -72,7 +110,8 @@ unbroken s w =
       behaviours = λ r l. over-kept (behaviourRow s) (behaviourCount s) r (d .0) l;
       uses = λ r l. over-kept (usesRow s) (behaviourCount s) r (e .0) l;
       operations = λ r l. over-kept (operationRow s) (operationCount s) r (f .0) l;
-      services = λ r l. over-kept (serviceRow s) (serviceCount s) r (f .1) l }
+      services = λ r l. over-kept (serviceRow s) (serviceCount s) r (f .1) l;
+    }
 
 -- ---- P
 
@@ -107,16 +146,20 @@ type-kept s w r l =
       basicType = le-of (typeBasic s r) lastBasic (b .0);
       later = λ ne. fits (firstChild s r) (childCount s r) (c .0) ne .0;
       fit = λ ne. fits (firstChild s r) (childCount s r) (c .0) ne .1;
-      rising = λ j x y z. ids (firstChild s r) (childCount s r) j (over-kept (childRule s (firstChild s r) (childCount s r)) (typeCount s) j (c .1) z) x y }
+      rising = λ j x y z. ids (firstChild s r) (childCount s r) j
+          (over-kept (childRule s (firstChild s r) (childCount s r)) (typeCount s) j (c .1) z) x y;
+    }
   where
     run : (first n : ℕ) → laterRun (typeCount s) r first n ≡ true → (r < first) × (first + n ≤ typeCount s)
     run first n e = let f = and-of (ltb r first) (leb (first + n) (typeCount s)) e in (lt-of r first (f .0), le-of (first + n) (typeCount s) (f .1))
+
     fits : (first n : ℕ) → childrenFit s r first n ≡ true → (n ≡ 0 → ⊥) → (r < first) × (first + n ≤ typeCount s)
     fits first n e ne = go (eqb n 0) refl e
       where
         go : (t : Bool) → eqb n 0 ≡ t → pick t (eqb first 0) (laterRun (typeCount s) r first n) ≡ true → (r < first) × (first + n ≤ typeCount s)
         go true p q = absurd (ne (eq-of n 0 p))
         go false p q = run first n q
+
     ids : (first n j : ℕ) → childRule s first n j ≡ Nowhere → first ≤ j → j < first + n → idBefore s first j < typeId s j
     ids first n j e x y =
         lt-of (idBefore s first j) (typeId s j)
@@ -184,12 +227,15 @@ operation-kept s w r l =
       location = f .0;
       request = root-kept s (requestType s r) (g .0);
       reply = λ t. root-kept s (replyType s r) (replies (operationTwoWay s r) (replyType s r) (k .0) t);
-      once = λ q x. first-time q (over-kept (repeatRule s r) r q (k .1) x) }
+      once = λ q x. first-time q (over-kept (repeatRule s r) r q (k .1) x);
+    }
   where
     replies : (n t : ℕ) → replyFits s n t ≡ true → n ≡ 1 → rootFits s t ≡ true
     replies n t p e = rw e at p
+
     first-time : (q : ℕ) → repeatRule s r q ≡ Nowhere → sameService s r q && sameName s r q ≡ false
-    first-time q p = not-of (sameService s r q && sameName s r q) (rule-kept (not (sameService s r q && sameName s r q)) (operationAt s r) Nowhere p .0)
+    first-time q p = not-of (sameService s r q && sameName s r q)
+        (rule-kept (not (sameService s r q && sameName s r q)) (operationAt s r) Nowhere p .0)
 
 -- ---- S
 
@@ -211,7 +257,9 @@ service-kept s w r l =
       located = ne-of (serviceLocation s r) 0 (a .0);
       starters = b .0;
       clients = c .0;
-      once = λ q x. first-time q (over-kept (locationRule s r) r q (d .1) x) }
+      once = λ q x. first-time q (over-kept (locationRule s r) r q (d .1) x);
+    }
   where
     first-time : (q : ℕ) → locationRule s r q ≡ Nowhere → serviceLocation s q ≡ serviceLocation s r → ⊥
-    first-time q p = ne-of (serviceLocation s q) (serviceLocation s r) (rule-kept (not (eqb (serviceLocation s q) (serviceLocation s r))) (serviceAt s r) Nowhere p .0)
+    first-time q p = ne-of (serviceLocation s q) (serviceLocation s r)
+        (rule-kept (not (eqb (serviceLocation s q) (serviceLocation s r))) (serviceAt s r) Nowhere p .0)

@@ -12,13 +12,15 @@ use Rattle.network.specs.declared.Broken.{Broken}
 use Rattle.network.specs.declared.Broken.the-variants.{Nowhere}
 use Rattle.network.specs.declared.ExpressionKind.{ExpressionKind}
 use Rattle.network.specs.declared.BehaviourKind.{BehaviourKind}
-use Rattle.network.specs.declared.Sort.{Sort}
-use Rattle.network.specs.declared.Sort.the-variants.{Free, Unused, PathRow, EarlierRow, ExpressionRow, OperationRow, LaterRow, InputRow, BranchRun, BranchCount, ConstantPart}
-use Rattle.network.specs.declared.Shape.{Shape}
+use Rattle.network.specs.declared.FieldSort.{FieldSort}
+use Rattle.network.specs.declared.FieldSort.the-variants.{Free, Unused, PathRow, EarlierRow, ExpressionRow, OperationRow, LaterRow, InputRow}
+use Rattle.network.specs.declared.FieldSort.the-variants.{BranchRun, BranchCount, ConstantPart}
+use Rattle.network.specs.declared.Fields.{Fields}
 use Rattle.wire.specs.Wire.{byteAt, u16At}
 use Rattle.network.specs.Least.{least, rule, leastOver}
-use Rattle.network.specs.Layout.{pathCount, typeCount, expressionCount, behaviourCount, operationCount, serviceCount, dataSize, dataPart, pathAt, typeAt, expressionAt, behaviourAt, operationAt, serviceAt}
-use Rattle.network.specs.Kinds.{expressionKind, behaviourKind, expressionShape, behaviourShape}
+use Rattle.network.specs.Layout.{pathCount, typeCount, expressionCount, behaviourCount, operationCount, serviceCount, dataSize, dataPart}
+use Rattle.network.specs.Layout.{pathAt, typeAt, expressionAt, behaviourAt, operationAt, serviceAt}
+use Rattle.network.specs.Kinds.{expressionKind, behaviourKind, expressionFields, behaviourFields}
 
 -- Row j is one of the n rows from `first` on.
 abbrev pub inRun : ℕ → ℕ → ℕ → Bool
@@ -157,7 +159,7 @@ unfoldable pub constantFits : List ℕ → ℕ → ℕ → ℕ → Bool
 constantFits s basic v n = leb (v + n) (dataSize s) && isValue basic (dataPart s v n)
 
 -- The rule of each sort of field: v is the field in row r, w the field after it, `basic` the row's second byte.
-unfoldable pub fieldFits : List ℕ → ℕ → ℕ → Sort → ℕ → ℕ → Bool
+unfoldable pub fieldFits : List ℕ → ℕ → ℕ → FieldSort → ℕ → ℕ → Bool
 fieldFits s r basic Free v w = true
 fieldFits s r basic Unused v w = eqb v 0
 fieldFits s r basic PathRow v w = ltb v (pathCount s)
@@ -171,7 +173,7 @@ fieldFits s r basic BranchCount v w = leb 1 v && leb v 8
 fieldFits s r basic ConstantPart v w = constantFits s basic v w
 
 -- The rules of the fields a, b, c of row r, whose first byte is `at`.
-unfoldable pub fieldsRule : List ℕ → ℕ → ℕ → Shape → ℕ → Broken → Broken
+unfoldable pub fieldsRule : List ℕ → ℕ → ℕ → Fields → ℕ → Broken → Broken
 fieldsRule s r basic q at others =
     rule (fieldFits s r basic (q .a) (fieldA s at) (fieldB s at)) (at + 2)
     (rule (fieldFits s r basic (q .b) (fieldB s at) (fieldC s at)) (at + 4)
@@ -196,7 +198,7 @@ abbrev pub expressionBy : List ℕ → ℕ → ℕ → ExpressionKind → Broken
 expressionBy s r at k =
     rule (leb (byteAt s at) 9) at
     (rule (basicFits k (byteAt s (at + 1))) (at + 1)
-    (fieldsRule s r (byteAt s (at + 1)) (expressionShape k) at Nowhere))
+    (fieldsRule s r (byteAt s (at + 1)) (expressionFields k) at Nowhere))
 
 unfoldable pub expressionRow : List ℕ → ℕ → Broken
 expressionRow s r = expressionBy s r (expressionAt s r) (expressionKindAt s r)
@@ -206,7 +208,7 @@ unfoldable pub behaviourHead : List ℕ → ℕ → Broken → Broken
 behaviourHead s at others = rule (leb (byteAt s at) 11) at (rule (eqb (byteAt s (at + 1)) 0) (at + 1) others)
 
 -- B: the fields, with d.
-abbrev pub behaviourBy : List ℕ → ℕ → ℕ → Shape → Broken → Broken
+abbrev pub behaviourBy : List ℕ → ℕ → ℕ → Fields → Broken → Broken
 behaviourBy s r at q others =
     behaviourHead s at (fieldsRule s r 0 q at (rule (fieldFits s r 0 (q .d) (fieldD s at) 0) (at + 8) others))
 
@@ -221,7 +223,7 @@ unfoldable pub choiceRun : List ℕ → ℕ → Broken
 choiceRun s r = pick (isChoice (kindAt s r)) (branchRows s (behaviourAt s r)) Nowhere
 
 unfoldable pub behaviourRow : List ℕ → ℕ → Broken
-behaviourRow s r = behaviourBy s r (behaviourAt s r) (behaviourShape (kindAt s r)) (choiceRun s r)
+behaviourRow s r = behaviourBy s r (behaviourAt s r) (behaviourFields (kindAt s r)) (choiceRun s r)
 
 -- O: "service row u8, direction u8 (0 in, 1 out), two-way u8 (0, 1), 0, id u16, location u16 .., request type u16, reply type u16".
 unfoldable pub operationService : List ℕ → ℕ → ℕ

@@ -10,8 +10,12 @@ use Rattle.forest.specs.Forest.{Forest, end, node, Tree, tree, RisingTree, node
 use Rattle.forest.specs.Path.{Path, path}
 use Rattle.scalar.specs.Basic.{lastBasic}
 use Rattle.scalar.specs.Value.{Value, value, isValue, basicOf, bytesOf}
-use Rattle.syntax.specs.Syntax.{Mark, mark, mandatory, basic, Types, MessageType, Unary, Binary, Expression, constant, valueAt, presence, unary, binary, Direction, input, output, Operation, Behaviour, nil, oneWay, requestResponse, notification, solicitResponse, ifThenElse, whileDo, sequence, parallel, assign, choice, branch, lastBranch, waiting, answering}
+use Rattle.syntax.specs.Syntax.{Mark, mark, mandatory, basic, Types, MessageType, Unary, Binary, Expression, constant, valueAt, presence, unary}
+use Rattle.syntax.specs.Syntax.{binary, Direction, input, output, Operation, Behaviour, nil, oneWay, requestResponse, notification, solicitResponse}
+use Rattle.syntax.specs.Syntax.{ifThenElse, whileDo, sequence, parallel, assign, choice, branch, lastBranch, waiting, answering, Optional, none, some}
+use Rattle.syntax.specs.Syntax.{Service, Network}
 use Rattle.network.specs.Sizes.{typeLevels, typeNodes, expressionLevels}
+use Rattle.network.specs.Meets.{entry}
 
 unfoldable pub AllPositive : List ℕ → Type 0
 AllPositive [] = Unit {0}
@@ -228,3 +232,44 @@ OperationsBy f (branch r a b m) = OperationsBy f a × OperationsBy f b × Operat
 OperationsBy f (lastBranch r a b) = OperationsBy f a × OperationsBy f b
 OperationsBy f (waiting r o x) = o ≡ f r
 OperationsBy f (answering r o y d) = (o ≡ f r) × OperationsBy f d
+
+-- A starter or client of a file whose B rows name the operations that f gives.
+pub record FileBehaviour (f : ℕ → Operation) (b : Behaviour) : Type 0 where
+  pub once : EachRowOnce b
+  pub inFile : AsInFile alone b
+  pub parts : BehaviourShape b
+  pub operations : OperationsBy f b
+
+-- What holds of a thing, if there is one.
+abbrev pub IfAny : {A : Type 0} → Optional A → (A → Type 0) → Type 0
+IfAny none P = Unit {0}
+IfAny (some a) P = P a
+
+-- A service's two behaviours by their role.
+pub data Role : Type 0 where
+  asStarter asClient : Role
+
+abbrev pub behaviourIn : Role → Service → Optional Behaviour
+behaviourIn asStarter v = v .starter
+behaviourIn asClient v = v .client
+
+-- The network that an unrefused file is, entry by entry.
+pub record NetworkShape (f : ℕ → Operation) (n : Network) : Type 0 where
+  pub behaviours : (q : ℕ) (v : Service) (x : Role) → entry q (n .services) ≡ some v → IfAny (behaviourIn x v) (FileBehaviour f)
+  -- "starter row (a choice)"
+  pub starters : (q : ℕ) (v : Service) → entry q (n .services) ≡ some v → IfAny (v .starter) (λ b. T (isChoiceBehaviour b))
+  -- "Each row is used exactly once, by a row or a service": different services' and roles' behaviours share no row
+  pub apart : (p q : ℕ) (v u : Service) (x y : Role) (a b : Behaviour) → entry p (n .services) ≡ some v → entry q (n .services) ≡ some u
+      → behaviourIn x v ≡ some a → behaviourIn y u ≡ some b → (p ≡ q → x ≡ y → ⊥) → Apart a b
+  -- "location u16, unique and not 0"
+  pub located : (q : ℕ) (v : Service) → entry q (n .services) ≡ some v → 0 < v .location
+  pub locationsOnce : (p q : ℕ) (v u : Service) → entry p (n .services) ≡ some v → entry q (n .services) ≡ some u → v .location ≡ u .location → p ≡ q
+  pub operations : (i : ℕ) (o : Operation) → entry i (n .operations) ≡ some o → OperationShape o
+  pub numbered : (i : ℕ) (o : Operation) → entry i (n .operations) ≡ some o → o .row ≡ i
+  pub owned : (i : ℕ) (o : Operation) → entry i (n .operations) ≡ some o → (v : Service) × (entry (o .service) (n .services) ≡ some v)
+  -- "Input ids are unique in a service"
+  pub inputsOnce : (i j : ℕ) (o p : Operation) → entry i (n .operations) ≡ some o → entry j (n .operations) ≡ some p
+      → o .direction ≡ input → p .direction ≡ input → o .service ≡ p .service → o .id ≡ p .id → i ≡ j
+  -- "so are pairs of id and location for outputs"
+  pub outputsOnce : (i j : ℕ) (o p : Operation) → entry i (n .operations) ≡ some o → entry j (n .operations) ≡ some p
+      → o .direction ≡ output → p .direction ≡ output → o .service ≡ p .service → o .id ≡ p .id → o .location ≡ p .location → i ≡ j

@@ -59,7 +59,7 @@ unfoldable pub depthWithin : List ℕ → ℕ → ℕ → Bool
 depthWithin s zero r = false
 depthWithin s (suc d) r =
     operandsWithin (expressionKindAt s r)
-        (depthWithin s d (fieldA s (expressionAt s r))) (depthWithin s d (fieldB s (expressionAt s r)))
+    (depthWithin s d (fieldA s (expressionAt s r))) (depthWithin s d (fieldB s (expressionAt s r)))
 
 abbrev pub expressionLevels : ℕ
 expressionLevels = 8

@@ -8,16 +8,18 @@ use mathlib.Core.Bool.{Bool, true, false, not, _&&_}
 use lib.Dec.{eqb, ltb}
 use Rattle.network.specs.declared.Broken.{Broken}
 use Rattle.network.specs.declared.Broken.the-variants.{Nowhere}
-use Rattle.network.specs.declared.Sort.{Sort}
-use Rattle.network.specs.declared.Sort.the-variants.{Free, Unused, PathRow, EarlierRow, ExpressionRow, OperationRow, LaterRow, InputRow, BranchRun, BranchCount, ConstantPart}
-use Rattle.network.specs.declared.Shape.{Shape}
+use Rattle.network.specs.declared.FieldSort.{FieldSort}
+use Rattle.network.specs.declared.FieldSort.the-variants.{Free, Unused, PathRow, EarlierRow, ExpressionRow, OperationRow, LaterRow, InputRow}
+use Rattle.network.specs.declared.FieldSort.the-variants.{BranchRun, BranchCount, ConstantPart}
+use Rattle.network.specs.declared.Fields.{Fields}
 use Rattle.network.specs.Least.{least, rule, leastOver, sumOver}
 use Rattle.network.specs.Layout.{behaviourCount, serviceCount, behaviourAt, serviceAt}
-use Rattle.network.specs.Kinds.{behaviourShape}
-use Rattle.network.specs.Rows.{inRun, fieldA, fieldB, fieldC, fieldD, kindAt, starterRow, clientRow, pathRows, typeRows, expressionRows, behaviourRows, operationRows, serviceRows}
+use Rattle.network.specs.Kinds.{behaviourFields}
+use Rattle.network.specs.Rows.{inRun, fieldA, fieldB, fieldC, fieldD, kindAt, starterRow, clientRow, pathRows, typeRows, expressionRows}
+use Rattle.network.specs.Rows.{behaviourRows, operationRows, serviceRows}
 
 -- Does a field v, of the given sort and with the field w after it, use row t?
-unfoldable pub fieldUses : Sort → ℕ → ℕ → ℕ → Bool
+unfoldable pub fieldUses : FieldSort → ℕ → ℕ → ℕ → Bool
 fieldUses Free v w t = false
 fieldUses Unused v w t = false
 fieldUses PathRow v w t = false
@@ -36,14 +38,14 @@ one true = 1
 one false = 0
 
 -- How often the B row whose first byte is `at` uses row t.
-abbrev pub usesBy : List ℕ → ℕ → ℕ → Shape → ℕ
+abbrev pub usesBy : List ℕ → ℕ → ℕ → Fields → ℕ
 usesBy s t at q =
     one (fieldUses (q .a) (fieldA s at) (fieldB s at) t) +
     (one (fieldUses (q .b) (fieldB s at) (fieldC s at) t) +
     (one (fieldUses (q .c) (fieldC s at) 0 t) + one (fieldUses (q .d) (fieldD s at) 0 t)))
 
 unfoldable pub rowUses : List ℕ → ℕ → ℕ → ℕ
-rowUses s t r = usesBy s t (behaviourAt s r) (behaviourShape (kindAt s r))
+rowUses s t r = usesBy s t (behaviourAt s r) (behaviourFields (kindAt s r))
 
 -- How often S row q uses row t, as its starter or its client.
 unfoldable pub serviceUses : List ℕ → ℕ → ℕ → ℕ

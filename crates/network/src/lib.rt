@@ -6,15 +6,6 @@ pub enum Broken {
     Nowhere,
 }
 
-// What refusals 2 to 5 say of a file; a place is a byte offset.
-pub enum Form {
-    Layout,
-    Counts,
-    Field(usize),
-    TooLarge(usize),
-    Whole,
-}
-
 // The kinds of an E row.
 pub enum ExpressionKind {
     Constant,
@@ -48,7 +39,7 @@ pub enum BehaviourKind {
 }
 
 // What a field of an E or B row is.
-pub enum Sort {
+pub enum FieldSort {
     Free,
     Unused,
     PathRow,
@@ -63,9 +54,9 @@ pub enum Sort {
 }
 
 // What the fields a, b, c, d of a row are.
-pub struct Shape {
-    a: Sort,
-    b: Sort,
-    c: Sort,
-    d: Sort,
+pub struct Fields {
+    pub a: FieldSort,
+    pub b: FieldSort,
+    pub c: FieldSort,
+    pub d: FieldSort,
 }

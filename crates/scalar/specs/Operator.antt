@@ -4,13 +4,13 @@
 use mathlib.Core.List.{List, [], _∷_}
 use mathlib.Core.Bool.{Bool, true, false, not, _&&_}
 use Prim.Native.Nat.{ℕ, zero, suc, _%_, _/_}
-use lib.Dec.{eqb, ltb}
+use lib.Dec.{eqb}
 use lib.IntN.{ℤ, negℤ, _+ℤ_, _-ℤ_}
 use lib.Signed.{ltZ}
 use lib.Ieee.{Float, binary64, ofBits, toBits}
 use lib.Ieee as Ieee
-use mir.Syntax.{w32, w64}
-use mir.Val.{toZ}
+use mir.Syntax.{Width, w32, w64}
+use mir.Val.{bits, toZ}
 use Rattle.integer.specs.Wrap.{pattern}
 use Rattle.scalar.specs.Basic.{bool, int, double, long, void}
 use Rattle.scalar.specs.Value.{Value, value, number, pick}
@@ -38,18 +38,25 @@ bit true = 1
 abbrev pub ofBool : Bool → Value
 ofBool b = value bool (bit b ∷ [])
 
--- "int 4 bytes and long 8 (two's complement)"; `pattern` keeps what the width holds, so an exact result "wraps at its width".
+-- "int 4 bytes and long 8 (two's complement)": the integer that bytes of a width stand for, and the bytes of an integer at a
+-- width. `pattern` keeps what the width holds, so an exact result "wraps at its width".
+abbrev pub signed : Width → List ℕ → ℤ
+signed w v = toZ w (number v)
+
+abbrev pub wrapped : Width → ℤ → List ℕ
+wrapped w z = littleEndian (bits w / 8) (pattern w z)
+
 abbrev pub intOf : List ℕ → ℤ
-intOf v = toZ w32 (number v)
+intOf v = signed w32 v
 
 abbrev pub ofInt : ℤ → Value
-ofInt z = value int (littleEndian 4 (pattern w32 z))
+ofInt z = value int (wrapped w32 z)
 
 abbrev pub longOf : List ℕ → ℤ
-longOf v = toZ w64 (number v)
+longOf v = signed w64 v
 
 abbrev pub ofLong : ℤ → Value
-ofLong z = value long (littleEndian 8 (pattern w64 z))
+ofLong z = value long (wrapped w64 z)
 
 -- "double 8 (IEEE 754; the only NaN is 7FF8000000000000 hexadecimal)": `toBits` writes that one.
 abbrev pub doubleOf : List ℕ → Float
@@ -140,12 +147,12 @@ sameBytes [] (b ∷ w) = false
 sameBytes (a ∷ v) [] = false
 sameBytes (a ∷ v) (b ∷ w) = eqb a b && sameBytes v w
 
--- "Equal: alike, not void; doubles by IEEE equality" (a NaN equals nothing, 0.0 equals -0.0), the others by their bytes. Void is
--- the last basic type.
+-- "Equal: alike, not void; doubles by IEEE equality" (a NaN equals nothing, 0.0 equals -0.0), the others by their bytes.
 abbrev pub equalBy : ℕ → List ℕ → List ℕ → Answer
 equalBy b v w =
-    pick (eqb b double) (gives (ofBool (Ieee.eq (doubleOf v) (doubleOf w))))
-    (pick (ltb b void) (gives (ofBool (sameBytes v w))) wrong)
+    pick (eqb b void) wrong
+    (pick (eqb b double) (gives (ofBool (Ieee.eq (doubleOf v) (doubleOf w))))
+    (gives (ofBool (sameBytes v w))))
 
 unfoldable pub equalOf : Value → Value → Answer
 equalOf = alike equalBy

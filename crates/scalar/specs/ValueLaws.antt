@@ -1,7 +1,7 @@
 -- Laws of values: bytes that stand in a slice as numbers, and what `isValue` says at each basic type.
-use mathlib.Core.Path.{_≡_, refl, ap, sym, _∙_}
+use mathlib.Core.Path.{_≡_, refl, sym, _∙_}
 use mathlib.Core.List.{List, [], _∷_}
-use mathlib.Core.Bool.{Bool, true, false, _&&_, _||_}
+use mathlib.Core.Bool.{Bool, true, false, _&&_}
 use mathlib.Core.Logic.{_⊎_, ⊎-elim}
 use Prim.Native.Nat.{ℕ, zero, suc, _+_, _*_, _%_, _≤_, _<_}
 use native.Mathlib.Nat.{add-zero, add-suc, eq-or-lt-of-le}
@@ -9,7 +9,7 @@ use native.Mathlib.Omega.{arith}
 use lib.ListN.{length, take, drop, getD}
 use lib.Seq.{drop-cons}
 use lib.Dec.{eqb, leb}
-use borrow.Author.Tests.{eq-eqb, ne-eqb, le-leb, lt-leb}
+use borrow.Author.Tests.{ne-eqb, le-leb, lt-leb, eqb-true, leb-true}
 use Rattle.wire.specs.Wire.{byteAt, u16At, u32At, u64At, part}
 use Rattle.wire.specs.WireLaws.{length-part}
 use Rattle.scalar.specs.Value.{number, isValue, isDouble, pick}
@@ -102,3 +102,52 @@ module _ (s : List ℕ) (at b n : ℕ) (h : at + n ≤ length s) where
   pub no-value : 6 < b → Says false
   unfolding isValue
   no-value e = simp (ne-eqb b 0 (omega arith), ne-eqb b 1 (omega arith), ne-eqb b 2 (omega arith), ne-eqb b 3 (omega arith), ne-eqb b 4 (omega arith), ne-eqb b 5 (omega arith), ne-eqb b 6 (omega arith))
+
+-- ---- what the value rule tells of the bytes
+
+both : (s t : Bool) → (s && t) ≡ true → (s ≡ true) × (t ≡ true)
+both true t e = (refl, e)
+both false t e = let z : _≡_ {A = ℕ} 0 1 = cc in absurd (omega arith)
+
+module _ (b : ℕ) (v : List ℕ) (h : isValue b v ≡ true) where
+  pub bool-bytes : b ≡ 0 → (length v ≡ 1) × (number v ≤ 1)
+  unfolding isValue
+  bool-bytes e =
+      let k = both (eqb (length v) 1) (leb (number v) 1) (rw e at h) in
+      (eqb-true (length v) 1 (k .0), leb-true (number v) 1 (k .1))
+
+  pub int-bytes : b ≡ 1 → length v ≡ 4
+  unfolding isValue
+  int-bytes e = eqb-true (length v) 4 (rw e at h)
+
+  pub double-bytes : b ≡ 2 → (length v ≡ 8) × (isDouble (number v) ≡ true)
+  unfolding isValue
+  double-bytes e =
+      let k = both (eqb (length v) 8) (isDouble (number v)) (rw e at h) in
+      (eqb-true (length v) 8 (k .0), k .1)
+
+  pub long-bytes : b ≡ 3 → length v ≡ 8
+  unfolding isValue
+  long-bytes e = eqb-true (length v) 8 (rw e at h)
+
+  pub string-bytes : b ≡ 4 → length v ≤ 16
+  unfolding isValue
+  string-bytes e = leb-true (length v) 16 (rw e at h)
+
+  pub raw-bytes : b ≡ 5 → length v ≤ 16
+  unfolding isValue
+  raw-bytes e = leb-true (length v) 16 (rw e at h)
+
+  pub void-bytes : 6 ≤ b → (b ≡ 6) × (v ≡ [])
+  unfolding isValue
+  void-bytes e =
+      let k = simp (ne-eqb b 0 (λ q. omega arith), ne-eqb b 1 (λ q. omega arith), ne-eqb b 2 (λ q. omega arith), ne-eqb b 3 (λ q. omega arith), ne-eqb b 4 (λ q. omega arith), ne-eqb b 5 (λ q. omega arith)) at h in
+      void-by (eqb b 6) refl k
+    where
+      empty : (u : List ℕ) → length u ≡ 0 → u ≡ []
+      empty [] e = refl
+      empty (a ∷ u) e = absurd (omega arith)
+
+      void-by : (t : Bool) → eqb b 6 ≡ t → pick t (eqb (length v) 0) false ≡ true → (b ≡ 6) × (v ≡ [])
+      void-by true q r = (eqb-true b 6 q, empty v (eqb-true (length v) 0 r))
+      void-by false q r = let z : _≡_ {A = ℕ} 0 1 = cc in absurd (omega arith)

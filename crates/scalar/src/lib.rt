@@ -1,8 +1,50 @@
 // Scalars: values of the basic types, and the operators on them.
 ghost use mathlib.Core.Path.{_≡_};
-ghost use Prim.Native.Nat.{_+_, _≤_};
+ghost use mathlib.Core.Bool.{true, _&&_};
+ghost use mathlib.Core.List.{[]};
+ghost use Prim.Native.Nat.{_+_, _≤_, min};
 ghost use lib.ListN.{length, take, drop};
-ghost use Rattle.scalar.specs.Value.{isValue};
+ghost use lib.Ieee.{binary64, ofBits, toBits, nanBits};
+ghost use Rattle.scalar.specs.Value.{value, bytesOf, isValue};
+ghost use Rattle.wire.specs.Wire.{part, withPart};
+ghost use Rattle.scalar.specs.Operator.{notOf, negateOf, andOf, addOf, subtractOf, lessOf, equalOf, sameBytes, bit};
+ghost use Rattle.scalar.specs.Scalar.{valueOf, valueBeside, answerOf, beside, AsPair};
+
+// A value of a basic type. The bytes of a string or a raw stand beside it.
+pub enum Scalar {
+    Bool(bool),
+    Int(i32),
+    Double(f64),
+    Long(i64),
+    String,
+    Raw,
+    Void,
+}
+
+// A scalar and the bytes beside it: the first `len`.
+pub struct Operand {
+    pub scalar: Scalar,
+    pub bytes: [u8; 16],
+    pub len: usize,
+}
+
+// Two scalars of one kind; or two of different kinds.
+enum Pair {
+    Bools(bool, bool),
+    Ints(i32, i32),
+    Doubles(f64, f64),
+    Longs(i64, i64),
+    Strings,
+    Raws,
+    Voids,
+    Unlike,
+}
+
+// What an operator gives: a scalar, or that its operands are of the wrong kind.
+pub enum Computed {
+    Wrong,
+    Gives(Scalar),
+}
 
 // Are the `len` bytes at `at` a value of the basic type?
 pub fn value_ok(s: &[u8], at: usize, basic: u8, len: usize) -> bool
@@ -31,5 +73,298 @@ pub fn value_ok(s: &[u8], at: usize, basic: u8, len: usize) -> bool
         4 | 5 => len <= 16,
         6 => len == 0,
         _ => false,
+    }
+}
+
+// Is the pattern a NaN's?
+fn is_nan(n: u64) -> bool
+    ensures { λ r. ⌜ r ≡ nanBits binary64 n ⌝ }
+{
+    if n % 0x8000000000000000 / 0x10000000000000 == 2047 {
+        n % 0x10000000000000 != 0
+    } else {
+        false
+    }
+}
+
+// The double of a pattern; every NaN's pattern gives the one NaN.
+pub fn double_of(n: u64) -> f64
+    ensures { λ r. ⌜ r ≡ ofBits binary64 n ⌝ }
+{
+    if is_nan(n) {
+        0.0 / 0.0
+    } else {
+        f64::from_bits(n)
+    }
+}
+
+// The pattern of a double; a NaN has the one.
+pub fn double_bits(x: f64) -> u64
+    ensures { λ r. ⌜ r ≡ toBits binary64 x ⌝ }
+{
+    if x != x {
+        0x7FF8000000000000
+    } else {
+        f64::to_bits(x)
+    }
+}
+
+// Are the bytes of two slices the same?
+pub fn same_bytes(s: &[u8], t: &[u8]) -> bool
+    ensures { λ r. ⌜ r ≡ sameBytes (now (s .entry)) (now (t .entry)) ⌝ }
+{
+    if s.len() != t.len() {
+        return false;
+    }
+    let mut i: usize = 0;
+    while i < s.len() {
+        if s[i] != t[i] {
+            return false;
+        }
+        i += 1;
+    }
+    true
+}
+
+// Two scalars of one kind, or that they are not.
+fn paired(x: Scalar, y: Scalar) -> Pair
+    ensures { λ r. ⌜ AsPair x y r ⌝ }
+{
+    match x {
+        Scalar::Bool(p) => match y {
+            Scalar::Bool(q) => Pair::Bools(p, q),
+            _ => Pair::Unlike,
+        },
+        Scalar::Int(p) => match y {
+            Scalar::Int(q) => Pair::Ints(p, q),
+            _ => Pair::Unlike,
+        },
+        Scalar::Double(p) => match y {
+            Scalar::Double(q) => Pair::Doubles(p, q),
+            _ => Pair::Unlike,
+        },
+        Scalar::Long(p) => match y {
+            Scalar::Long(q) => Pair::Longs(p, q),
+            _ => Pair::Unlike,
+        },
+        Scalar::String => match y {
+            Scalar::String => Pair::Strings,
+            _ => Pair::Unlike,
+        },
+        Scalar::Raw => match y {
+            Scalar::Raw => Pair::Raws,
+            _ => Pair::Unlike,
+        },
+        Scalar::Void => match y {
+            Scalar::Void => Pair::Voids,
+            _ => Pair::Unlike,
+        },
+    }
+}
+
+pub fn logical_not(a: Operand) -> Computed
+    ensures { λ r. ⌜ answerOf r ≡ notOf (valueOf a) ⌝ }
+{
+    let x = a.scalar;
+    match x {
+        Scalar::Bool(p) => Computed::Gives(Scalar::Bool(!p)),
+        _ => Computed::Wrong,
+    }
+}
+
+pub fn negate(a: Operand) -> Computed
+    ensures { λ r. ⌜ answerOf r ≡ negateOf (valueOf a) ⌝ }
+{
+    let x = a.scalar;
+    match x {
+        Scalar::Int(p) => Computed::Gives(Scalar::Int(integer::int_negate(p))),
+        Scalar::Long(p) => Computed::Gives(Scalar::Long(integer::long_negate(p))),
+        Scalar::Double(p) => Computed::Gives(Scalar::Double(-p)),
+        _ => Computed::Wrong,
+    }
+}
+
+fn both(p: bool, q: bool) -> bool
+    ensures { λ r. ⌜ r ≡ (p && q) ⌝ }
+{
+    if p { q } else { false }
+}
+
+pub fn logical_and(a: Operand, b: Operand) -> Computed
+    ensures { λ r. ⌜ answerOf r ≡ andOf (valueOf a) (valueOf b) ⌝ }
+{
+    let x = a.scalar;
+    let y = b.scalar;
+    match paired(x, y) {
+        Pair::Bools(p, q) => Computed::Gives(Scalar::Bool(both(p, q))),
+        _ => Computed::Wrong,
+    }
+}
+
+pub fn add(a: Operand, b: Operand) -> Computed
+    ensures { λ r. ⌜ answerOf r ≡ addOf (valueOf a) (valueOf b) ⌝ }
+{
+    let x = a.scalar;
+    let y = b.scalar;
+    match paired(x, y) {
+        Pair::Ints(p, q) => Computed::Gives(Scalar::Int(integer::int_add(p, q))),
+        Pair::Longs(p, q) => Computed::Gives(Scalar::Long(integer::long_add(p, q))),
+        Pair::Doubles(p, q) => Computed::Gives(Scalar::Double(p + q)),
+        _ => Computed::Wrong,
+    }
+}
+
+pub fn subtract(a: Operand, b: Operand) -> Computed
+    ensures { λ r. ⌜ answerOf r ≡ subtractOf (valueOf a) (valueOf b) ⌝ }
+{
+    let x = a.scalar;
+    let y = b.scalar;
+    match paired(x, y) {
+        Pair::Ints(p, q) => Computed::Gives(Scalar::Int(integer::int_subtract(p, q))),
+        Pair::Longs(p, q) => Computed::Gives(Scalar::Long(integer::long_subtract(p, q))),
+        Pair::Doubles(p, q) => Computed::Gives(Scalar::Double(p - q)),
+        _ => Computed::Wrong,
+    }
+}
+
+pub fn less(a: Operand, b: Operand) -> Computed
+    ensures { λ r. ⌜ answerOf r ≡ lessOf (valueOf a) (valueOf b) ⌝ }
+{
+    let x = a.scalar;
+    let y = b.scalar;
+    match paired(x, y) {
+        Pair::Ints(p, q) => Computed::Gives(Scalar::Bool(p < q)),
+        Pair::Longs(p, q) => Computed::Gives(Scalar::Bool(p < q)),
+        Pair::Doubles(p, q) => Computed::Gives(Scalar::Bool(p < q)),
+        _ => Computed::Wrong,
+    }
+}
+
+// Are the bytes beside two operands the same?
+fn same_beside(a: Operand, b: Operand) -> bool
+    ensures { λ r. ⌜ r ≡ sameBytes (beside a) (beside b) ⌝ }
+{
+    let s = a.bytes;
+    let t = b.bytes;
+    let m = clipped(a.len);
+    let n = clipped(b.len);
+    same_bytes(&s[..m], &t[..n])
+}
+
+fn clipped(len: usize) -> usize
+    ensures { λ r. ⌜ r ≡ min len 16 ⌝ }
+{
+    if len < 16 { len } else { 16 }
+}
+
+pub fn equal(a: Operand, b: Operand) -> Computed
+    ensures { λ r. ⌜ answerOf r ≡ equalOf (valueOf a) (valueOf b) ⌝ }
+{
+    let x = a.scalar;
+    let y = b.scalar;
+    match paired(x, y) {
+        Pair::Bools(p, q) => Computed::Gives(Scalar::Bool(p == q)),
+        Pair::Ints(p, q) => Computed::Gives(Scalar::Bool(p == q)),
+        Pair::Longs(p, q) => Computed::Gives(Scalar::Bool(p == q)),
+        Pair::Doubles(p, q) => Computed::Gives(Scalar::Bool(p == q)),
+        Pair::Strings => Computed::Gives(Scalar::Bool(same_beside(a, b))),
+        Pair::Raws => Computed::Gives(Scalar::Bool(same_beside(a, b))),
+        _ => Computed::Wrong,
+    }
+}
+
+// A scalar with no bytes beside it.
+pub fn plain(x: Scalar) -> Operand
+    ensures { λ r. ⌜ valueOf r ≡ valueBeside x [] ⌝ }
+{
+    let bytes = [0u8; 16];
+    Operand {
+        scalar: x,
+        bytes: bytes,
+        len: 0,
+    }
+}
+
+// A scalar with the `len` bytes at `at` beside it.
+fn with_bytes(x: Scalar, s: &[u8], at: usize, len: usize) -> Operand
+    requires { ⌜ (at + len ≤ length (now s)) × (len ≤ 16) ⌝ }
+    ensures { λ r. ⌜ valueOf r ≡ valueBeside x (part (now (s .entry)) at len) ⌝ }
+{
+    let mut bytes = [0u8; 16];
+    let mut i: usize = 0;
+    while i < len {
+        bytes[i] = s[at + i];
+        i += 1;
+    }
+    Operand {
+        scalar: x,
+        bytes: bytes,
+        len: len,
+    }
+}
+
+// Reads the value of `len` bytes at `at`.
+pub fn read(s: &[u8], at: usize, basic: u8, len: usize) -> Operand
+    requires { ⌜ (at + len ≤ length (now s)) × (isValue basic (part (now s) at len) ≡ true) ⌝ }
+    ensures { λ r. ⌜ valueOf r ≡ value basic (part (now (s .entry)) at len) ⌝ }
+{
+    match basic {
+        0 => plain(Scalar::Bool(wire::byte_at(s, at) == 1)),
+        1 => plain(Scalar::Int(integer::int_of(wire::u32_at(s, at)))),
+        2 => plain(Scalar::Double(double_of(wire::u64_at(s, at)))),
+        3 => plain(Scalar::Long(integer::long_of(wire::u64_at(s, at)))),
+        4 => with_bytes(Scalar::String, s, at, len),
+        5 => with_bytes(Scalar::Raw, s, at, len),
+        _ => plain(Scalar::Void),
+    }
+}
+
+fn flag(p: bool) -> u8
+    ensures { λ r. ⌜ r ≡ bit p ⌝ }
+{
+    if p { 1 } else { 0 }
+}
+
+// Copies the bytes beside an operand to `at`, and says how many there are.
+fn write_beside(out: &mut [u8], at: usize, x: Operand) -> usize
+    requires { ⌜ at + length (beside x) ≤ length (now out) ⌝ }
+    ensures { λ r. ⌜ (r ≡ length (beside x)) × (now (out .exit) ≡ withPart (now (out .entry)) at (beside x)) ⌝ }
+{
+    let bytes = x.bytes;
+    let n = clipped(x.len);
+    let mut i: usize = 0;
+    while i < n {
+        out[at + i] = bytes[i];
+        i += 1;
+    }
+    n
+}
+
+// Writes the bytes of an operand's value to `at`, and says how many there are.
+pub fn write(out: &mut [u8], at: usize, x: Operand) -> usize
+    requires { ⌜ at + length (bytesOf (valueOf x)) ≤ length (now out) ⌝ }
+    ensures { λ r. ⌜ (r ≡ length (bytesOf (valueOf x))) × (now (out .exit) ≡ withPart (now (out .entry)) at (bytesOf (valueOf x))) ⌝ }
+{
+    let k = x.scalar;
+    match k {
+        Scalar::Bool(p) => {
+            out[at] = flag(p);
+            1
+        }
+        Scalar::Int(p) => {
+            wire::put_u32(out, at, integer::int_bits(p));
+            4
+        }
+        Scalar::Double(p) => {
+            wire::put_u64(out, at, double_bits(p));
+            8
+        }
+        Scalar::Long(p) => {
+            wire::put_u64(out, at, integer::long_bits(p));
+            8
+        }
+        Scalar::String => write_beside(out, at, x),
+        Scalar::Raw => write_beside(out, at, x),
+        Scalar::Void => 0,
     }
 }

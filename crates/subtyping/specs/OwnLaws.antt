@@ -8,8 +8,9 @@ use Rattle.forest.specs.ForestLaws.{find-map, map-set, Combining}
 use Rattle.scalar.specs.Value.{Value}
 use Rattle.syntax.specs.Syntax.{Mark, mark, Types, MessageType}
 use Rattle.subtyping.specs.Subtype.{ChildSubtype, inNeither, Subtypes, Subtype}
-use Rattle.subtyping.specs.SubtypeLaws.{child-cast, child-basics, child-below, in-both, subtypes-set, subtypes-complete, measure-sub}
-use Rattle.subtyping.specs.Own.{ownMark, ownTypes, ownType, ownLookup}
+use Rattle.subtyping.specs.SubtypeLaws.{child-cast, child-basics, child-below, in-both, subtypes-set, subtypes-complete}
+use Rattle.subtyping.specs.SubtypeLaws.{subtype-sound, subtype-complete, measure-sub}
+use Rattle.subtyping.specs.Own.{ownMark, ownTypes, ownType, ownLookup, Fits, fits}
 
 -- An own type is mandatory, so its ≤ as a child is its ≤ as a type.
 pub own-child : (x : Tree Value) (y : MessageType) → Subtype (ownType x) y → ChildSubtype (present (ownType x)) (present y)
@@ -52,3 +53,15 @@ module _ (g : ℕ → ℕ → ℕ) (G : Combining g) where
   -- A tree whose own type is ≤ Γ has no more nodes and no more levels than Γ.
   pub tree-within : (F : Forest Value) (Γ : Types) → Rising F → Rising Γ → Subtypes (ownTypes F) Γ → measure g F ≤ measure g Γ
   tree-within F Γ wf wg h = rw measure-own at (measure-sub g G (ownTypes F) Γ (subtypes-complete (ownTypes F) Γ (own-rising F wf) wg h))
+
+  -- A message that fits a type has, below its root, no more nodes and no more levels than the type.
+  pub message-within : (v : Value) (k : Forest Value) (a : Mark) (l : Types) → Rising k → Rising l → Fits (tree v k) (tree a l)
+      → measure g k ≤ measure g l
+  message-within v k a l wk wl h = tree-within k l wk wl (h .children)
+
+-- The test of fitting is the relation.
+pub fits-sound : (m : Tree Value) (t : MessageType) → T (fits m t) → Fits m t
+fits-sound m t h = subtype-sound (ownType m) t h
+
+pub fits-complete : (m : Tree Value) (t : MessageType) → RisingTree m → RisingTree t → Fits m t → T (fits m t)
+fits-complete (tree v k) t wm wt h = subtype-complete (ownType (tree v k)) t (own-rising k wm) wt h

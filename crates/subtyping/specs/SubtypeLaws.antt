@@ -8,7 +8,8 @@ use Rattle.forest.specs.Compare.{Compare, lt, eq, gt, compare, and-l, and-r, an
 use Rattle.forest.specs.Forest.{Forest, end, node, Tree, tree, Lookup, absent, present, find, findBy, set, Above, Rising, RisingTree, measure}
 use Rattle.forest.specs.ForestLaws.{find-eq, find-lt, find-gt, find-set-same, find-set-other, Combining}
 use Rattle.syntax.specs.Syntax.{Mark, mark, Types, MessageType}
-use Rattle.subtyping.specs.Subtype.{rootBasic, rootChildren, ChildSubtype, inNeither, optionalAbsent, inBoth, Subtypes, Subtype, implies, areSubtypesBy, areSubtypes, isSubtype}
+use Rattle.subtyping.specs.Subtype.{rootBasic, rootChildren, ChildSubtype, inNeither, optionalAbsent, inBoth, Subtypes, Subtype}
+use Rattle.subtyping.specs.Subtype.{implies, areSubtypesBy, areSubtypes, isSubtype}
 
 -- The children of a child that is in both.
 pub child-below : {m n : Bool} {b c : ℕ} {k l : Types} → ChildSubtype (present (tree (mark m b) k)) (present (tree (mark n c) l)) → Subtypes k l
@@ -37,7 +38,8 @@ unfolding find
 child-refl end i = inNeither
 child-refl (node j (mark m b) k r) i = go (compare i j) (λ x. child-refl k x) (child-refl r i)
   where
-    go : (c : Compare i j) → ((x : ℕ) → ChildSubtype (find x k) (find x k)) → ChildSubtype (find i r) (find i r) → ChildSubtype (findBy c (tree (mark m b) k) (find i r)) (findBy c (tree (mark m b) k) (find i r))
+    go : (c : Compare i j) → ((x : ℕ) → ChildSubtype (find x k) (find x k)) → ChildSubtype (find i r) (find i r)
+        → ChildSubtype (findBy c (tree (mark m b) k) (find i r)) (findBy c (tree (mark m b) k) (find i r))
     go (lt h) hk hr = inNeither
     go (eq h) hk hr = inBoth (λ t. t) hk
     go (gt h) hk hr = hr
@@ -61,7 +63,8 @@ pub not-intro : (n : Bool) → (T n → ⊥) → T (not n)
 not-intro true f = f tt
 not-intro false f = tt
 
-pub in-both : {m n : Bool} {c b : ℕ} {k l : Types} → c ≡ b → (T n → T m) → ((x : ℕ) → ChildSubtype (find x k) (find x l)) → ChildSubtype (present (tree (mark m c) k)) (present (tree (mark n b) l))
+pub in-both : {m n : Bool} {c b : ℕ} {k l : Types} → c ≡ b → (T n → T m) → ((x : ℕ) → ChildSubtype (find x k) (find x l))
+    → ChildSubtype (present (tree (mark m c) k)) (present (tree (mark n b) l))
 in-both {m} {n} {c} {b} {k} {l} e f p = subst (λ (x : ℕ). ChildSubtype (present (tree (mark m c) k)) (present (tree (mark n x) l))) e (inBoth f p)
 
 -- The test is right about every id; the order of ids does not matter here.
@@ -91,20 +94,26 @@ sound-at (node j (mark m c) l s) (node i (mark n b) k r) t x =
     both (eq d) (eq e) q u f g =
         let u1 = and-r (eqb c b) (implies n m && (areSubtypes l k && areSubtypes s r)) u in
         let u2 = and-r (implies n m) (areSubtypes l k && areSubtypes s r) u1 in
-        in-both (eqb→eq c b (and-l (eqb c b) (implies n m && (areSubtypes l k && areSubtypes s r)) u)) (implies-elim n m (and-l (implies n m) (areSubtypes l k && areSubtypes s r) u1)) ((f (and-l (areSubtypes l k) (areSubtypes s r) u2)))
+        in-both (eqb→eq c b (and-l (eqb c b) (implies n m && (areSubtypes l k && areSubtypes s r)) u))
+        (implies-elim n m (and-l (implies n m) (areSubtypes l k && areSubtypes s r) u1)) ((f (and-l (areSubtypes l k) (areSubtypes s r) u2)))
     both (eq d) (gt e) q u f g = absurd (omega arith)
     both (gt d) (lt e) q u f g = absurd (omega arith)
     both (gt d) (eq e) q u f g = absurd (omega arith)
     both (gt d) (gt e) q u f g =
-        g (and-r (areSubtypes l k) (areSubtypes s r) (and-r (implies n m) (areSubtypes l k && areSubtypes s r) (and-r (eqb c b) (implies n m && (areSubtypes l k && areSubtypes s r)) u)))
+        g (and-r (areSubtypes l k) (areSubtypes s r)
+        (and-r (implies n m) (areSubtypes l k && areSubtypes s r) (and-r (eqb c b) (implies n m && (areSubtypes l k && areSubtypes s r)) u)))
 
-    skip : (e : Compare x i) → i < j → T (not n && areSubtypes F r) → (T (areSubtypes F r) → ChildSubtype (find x F) (find x r)) → ChildSubtype (find x F) (findBy e (tree (mark n b) k) (find x r))
+    skip : (e : Compare x i) → i < j → T (not n && areSubtypes F r) → (T (areSubtypes F r) → ChildSubtype (find x F) (find x r))
+        → ChildSubtype (find x F) (findBy e (tree (mark n b) k) (find x r))
     skip (lt e) q u g = child-cast (sym (find-lt (compare x j) (omega arith) (tree (mark m c) l) (find x s))) refl inNeither
-    skip (eq e) q u g = child-cast (sym (find-lt (compare x j) (omega arith) (tree (mark m c) l) (find x s))) refl (optional-absent (not-not n (and-l (not n) (areSubtypes F r) u)))
+    skip (eq e) q u g =
+        child-cast (sym (find-lt (compare x j) (omega arith) (tree (mark m c) l) (find x s))) refl
+        (optional-absent (not-not n (and-l (not n) (areSubtypes F r) u)))
     skip (gt e) q u g = g (and-r (not n) (areSubtypes F r) u)
 
     go : (d : Compare j i) → T (areSubtypesBy d (eqb c b && (implies n m && (areSubtypes l k && areSubtypes s r))) (not n && areSubtypes F r))
-        → (T (areSubtypes l k) → (y : ℕ) → ChildSubtype (find y l) (find y k)) → (T (areSubtypes s r) → ChildSubtype (find x s) (find x r)) → (T (areSubtypes F r) → ChildSubtype (find x F) (find x r))
+        → (T (areSubtypes l k) → (y : ℕ) → ChildSubtype (find y l) (find y k)) → (T (areSubtypes s r) → ChildSubtype (find x s) (find x r))
+        → (T (areSubtypes F r) → ChildSubtype (find x F) (find x r))
         → ChildSubtype (find x F) (findBy (compare x i) (tree (mark n b) k) (find x r))
     go (lt d) u f g h = absurd u
     go (eq d) u f g h = both (compare x j) (compare x i) d u f g
@@ -126,7 +135,7 @@ child-absent inNeither = refl
 pub not-present-absent : {n : Tree Mark} → ChildSubtype (present n) absent → ⊥
 not-present-absent = elim [ ]
 
-find-above : (x i : ℕ) (r : Types) → Above i r → x ≤ i → find x r ≡ absent
+pub find-above : (x i : ℕ) (r : Types) → Above i r → x ≤ i → find x r ≡ absent
 unfolding find
 find-above x i end h l = refl
 find-above x i (node j a k r) h l = find-lt (compare x j) (omega arith) (tree a k) (find x r)
@@ -137,7 +146,8 @@ unfolding find areSubtypes Rising
 complete-at end end wf wg h = tt
 complete-at (node j a l s) end wf wg h = not-present-absent (child-cast (find-eq (compare j j) refl (tree a l) (find j s)) refl (h j))
 complete-at end (node i (mark n b) k r) wf wg h =
-    and-i (not n) (areSubtypes end r) (not-intro n (absent-not-mandatory (child-cast refl (find-eq (compare i i) refl (tree (mark n b) k) (find i r)) (h i))))
+    and-i (not n) (areSubtypes end r)
+    (not-intro n (absent-not-mandatory (child-cast refl (find-eq (compare i i) refl (tree (mark n b) k) (find i r)) (h i))))
     (complete-at end r wf (wg .2) (λ x. tail x (compare x i)))
   where
     tail : (x : ℕ) → Compare x i → ChildSubtype absent (find x r)
@@ -153,25 +163,37 @@ complete-at (node j (mark m c) l s) (node i (mark n b) k r) wf wg h =
     tailS : (x : ℕ) → j ≡ i → Compare x i → ChildSubtype (find x s) (find x r)
     tailS x e (lt d) = child-cast (sym (find-above x j s (wf .0) (omega arith))) (sym (find-above x i r (wg .0) (omega arith))) inNeither
     tailS x e (eq d) = child-cast (sym (find-above x j s (wf .0) (omega arith))) (sym (find-above x i r (wg .0) (omega arith))) inNeither
-    tailS x e (gt d) = child-cast (find-gt (compare x j) (omega arith) (tree (mark m c) l) (find x s)) (find-gt (compare x i) d (tree (mark n b) k) (find x r)) (h x)
+    tailS x e (gt d) =
+        child-cast (find-gt (compare x j) (omega arith) (tree (mark m c) l) (find x s)) (find-gt (compare x i) d (tree (mark n b) k) (find x r)) (h x)
 
     tailF : (x : ℕ) → i < j → Compare x i → ChildSubtype (find x F) (find x r)
-    tailF x e (lt d) = child-cast (sym (find-lt (compare x j) (omega arith) (tree (mark m c) l) (find x s))) (sym (find-above x i r (wg .0) (omega arith))) inNeither
-    tailF x e (eq d) = child-cast (sym (find-lt (compare x j) (omega arith) (tree (mark m c) l) (find x s))) (sym (find-above x i r (wg .0) (omega arith))) inNeither
+    tailF x e (lt d) =
+        child-cast (sym (find-lt (compare x j) (omega arith) (tree (mark m c) l) (find x s))) (sym (find-above x i r (wg .0) (omega arith))) inNeither
+    tailF x e (eq d) =
+        child-cast (sym (find-lt (compare x j) (omega arith) (tree (mark m c) l) (find x s))) (sym (find-above x i r (wg .0) (omega arith))) inNeither
     tailF x e (gt d) = child-cast refl (find-gt (compare x i) d (tree (mark n b) k) (find x r)) (h x)
 
     atI : j ≡ i → ChildSubtype (present (tree (mark m c) l)) (present (tree (mark n b) k))
-    atI e = child-cast (find-eq (compare i j) (sym e) (tree (mark m c) l) (find i s)) (find-eq (compare i i) refl (tree (mark n b) k) (find i r)) (h i)
+    atI e = child-cast (find-eq (compare i j) (sym e) (tree (mark m c) l) (find i s)) (find-eq (compare i i) refl (tree (mark n b) k) (find i r))
+        (h i)
 
-    go : (d : Compare j i) → (((x : ℕ) → ChildSubtype (find x l) (find x k)) → T (areSubtypes l k)) → (((x : ℕ) → ChildSubtype (find x s) (find x r)) → T (areSubtypes s r)) → (((x : ℕ) → ChildSubtype (find x F) (find x r)) → T (areSubtypes F r))
+    go : (d : Compare j i) → (((x : ℕ) → ChildSubtype (find x l) (find x k)) → T (areSubtypes l k))
+        → (((x : ℕ) → ChildSubtype (find x s) (find x r)) → T (areSubtypes s r))
+        → (((x : ℕ) → ChildSubtype (find x F) (find x r)) → T (areSubtypes F r))
         → T (areSubtypesBy d (eqb c b && (implies n m && (areSubtypes l k && areSubtypes s r))) (not n && areSubtypes F r))
-    go (lt d) p q g = not-present-absent (child-cast (find-eq (compare j j) refl (tree (mark m c) l) (find j s)) (find-lt (compare j i) d (tree (mark n b) k) (find j r)) (h j))
+    go (lt d) p q g =
+        not-present-absent
+        (child-cast (find-eq (compare j j) refl (tree (mark m c) l) (find j s)) (find-lt (compare j i) d (tree (mark n b) k) (find j r)) (h j))
     go (eq d) p q g =
         and-i (eqb c b) (implies n m && (areSubtypes l k && areSubtypes s r)) (subst (λ (y : ℕ). T (eqb c y)) (child-basics (atI d)) (eqb-refl c))
         (and-i (implies n m) (areSubtypes l k && areSubtypes s r) (implies-intro n m (child-marks (atI d)))
         (and-i (areSubtypes l k) (areSubtypes s r) (p (child-below (atI d) .at)) (q (λ x. tailS x d (compare x i)))))
     go (gt d) p q g =
-        and-i (not n) (areSubtypes F r) (not-intro n (absent-not-mandatory (child-cast (find-lt (compare i j) d (tree (mark m c) l) (find i s)) (find-eq (compare i i) refl (tree (mark n b) k) (find i r)) (h i))))
+        and-i (not n) (areSubtypes F r)
+        (not-intro n
+        (absent-not-mandatory
+        (child-cast (find-lt (compare i j) d (tree (mark m c) l) (find i s)) (find-eq (compare i i) refl (tree (mark n b) k) (find i r))
+        (h i))))
         (g (λ x. tailF x d (compare x i)))
 
 pub subtypes-complete : (F G : Types) → Rising F → Rising G → Subtypes F G → T (areSubtypes F G)
@@ -216,17 +238,20 @@ module _ (g : ℕ → ℕ → ℕ) (G : Combining g) where
   measure-sub end end t = omega arith
   measure-sub (node j a l s) end t = absurd t
   measure-sub end (node i (mark n b) k r) t = omega arith
-  measure-sub (node j (mark m c) l s) (node i (mark n b) k r) t = go (compare j i) t (measure-sub l k) (measure-sub s r) (measure-sub (node j (mark m c) l s) r)
+  measure-sub (node j (mark m c) l s) (node i (mark n b) k r) t =
+      go (compare j i) t (measure-sub l k) (measure-sub s r) (measure-sub (node j (mark m c) l s) r)
     where
       F : Types
       F = node j (mark m c) l s
 
       go : (d : Compare j i) → T (areSubtypesBy d (eqb c b && (implies n m && (areSubtypes l k && areSubtypes s r))) (not n && areSubtypes F r))
-          → (T (areSubtypes l k) → measure g l ≤ measure g k) → (T (areSubtypes s r) → measure g s ≤ measure g r) → (T (areSubtypes F r) → measure g F ≤ measure g r)
+          → (T (areSubtypes l k) → measure g l ≤ measure g k) → (T (areSubtypes s r) → measure g s ≤ measure g r)
+          → (T (areSubtypes F r) → measure g F ≤ measure g r)
           → measure g F ≤ g (1 + measure g k) (measure g r)
       go (lt d) u p q h = absurd u
       go (eq d) u p q h =
-          let v = and-r (implies n m) (areSubtypes l k && areSubtypes s r) (and-r (eqb c b) (implies n m && (areSubtypes l k && areSubtypes s r)) u) in
+          let v = and-r (implies n m) (areSubtypes l k && areSubtypes s r)
+          (and-r (eqb c b) (implies n m && (areSubtypes l k && areSubtypes s r)) u) in
           let x = p (and-l (areSubtypes l k) (areSubtypes s r) v) in
           G .monotone (1 + measure g l) (measure g s) (1 + measure g k) (measure g r) (omega arith) (q (and-r (areSubtypes l k) (areSubtypes s r) v))
       go (gt d) u p q h = let x = h (and-r (not n) (areSubtypes F r) u) in let y = G .inflating (1 + measure g k) (measure g r) in omega arith

@@ -6,10 +6,13 @@ use Prim.Native.Nat.{ℕ}
 use lib.Dec.{eqb}
 use Rattle.forest.specs.Forest.{end, node, Tree, tree}
 use Rattle.forest.specs.Path.{Path}
+use Rattle.refusal.specs.declared.Refusal.the-variants.{WrongOperation, OperandType, TypeMisfit, EnvironmentsDiffer, SharedRoot, EnvironmentTooLarge}
 use Rattle.scalar.specs.Basic.{bool}
-use Rattle.syntax.specs.Syntax.{mark, Types, MessageType, Expression, input, output, Operation, Behaviour, nil, oneWay, requestResponse, notification, solicitResponse, ifThenElse, whileDo, sequence, parallel, assign, choice, branch, lastBranch, waiting, answering}
+use Rattle.syntax.specs.Syntax.{mark, Types, MessageType, Expression, input, output, Operation, Behaviour, nil, oneWay, requestResponse}
+use Rattle.syntax.specs.Syntax.{notification, solicitResponse, ifThenElse, whileDo, sequence, parallel, assign, choice, branch, lastBranch}
+use Rattle.syntax.specs.Syntax.{waiting, answering}
 use Rattle.subtyping.specs.Subtype.{rootBasic, isSubtype}
-use Rattle.typing.specs.Answer.{Answer, gives, require, andThen, Checked, passed, atRow, next}
+use Rattle.typing.specs.Result.{Result, yields, require, andThen, Checked, passed, atRow, next}
 use Rattle.typing.specs.Environment.{within, readFirm, place, assignTo}
 use Rattle.typing.specs.ExpressionTyping.{typeOf}
 use Rattle.typing.specs.Occurs.{noSharedRoot}
@@ -24,47 +27,47 @@ sameTypes (node i (mark m a) k r) (node j (mark n b) l s) =
     eqb i j && (sameBool m n && (eqb a b && (sameTypes k l && sameTypes r s)))
 
 -- 12, after a placing: "Γ passes 48 nodes or 6 levels."
-abbrev pub limited : Answer Types → Answer Types
-limited a = andThen a (λ Γ. require (within Γ) 12 (gives Γ))
+abbrev pub limited : Result Types → Result Types
+limited a = andThen a (λ Γ. require (within Γ) EnvironmentTooLarge (yields Γ))
 
 -- The expression's type, then its ≤ (9).
-abbrev pub sends : Types → Expression → MessageType → Answer Types
-sends Γ e t = andThen (typeOf Γ e) (λ n. require (isSubtype n t) 9 (gives Γ))
+abbrev pub sends : Types → Expression → MessageType → Result Types
+sends Γ e t = andThen (typeOf Γ e) (λ n. require (isSubtype n t) TypeMisfit (yields Γ))
 
 -- The reply path (7), then its ≤ (9).
-abbrev pub answers : Path → Types → MessageType → Answer Types
-answers c Γ t = andThen (readFirm c Γ) (λ n. require (isSubtype n t) 9 (gives Γ))
+abbrev pub answers : Path → Types → MessageType → Result Types
+answers c Γ t = andThen (readFirm c Γ) (λ n. require (isSubtype n t) TypeMisfit (yields Γ))
 
 -- The expression's type, then 8.
-abbrev pub condition : Types → Expression → Answer Types
-condition Γ e = andThen (typeOf Γ e) (λ n. require (eqb (rootBasic n) bool) 8 (gives Γ))
+abbrev pub condition : Types → Expression → Result Types
+condition Γ e = andThen (typeOf Γ e) (λ n. require (eqb (rootBasic n) bool) OperandType (yields Γ))
 
 -- 10: "Environments that must agree differ."
-abbrev pub agreeing : Types → Types → Answer Types
-agreeing Δ Γ = require (sameTypes Δ Γ) 10 (gives Γ)
+abbrev pub agreeing : Types → Types → Result Types
+agreeing Δ Γ = require (sameTypes Δ Γ) EnvironmentsDiffer (yields Γ)
 
 -- B, of the service row q, from Γ. The row c is that of the choice to which a branch belongs: all branches are checked
 -- before any two are compared, and the place of 10 is the choice's row. Only the clause of a branch looks at c.
 unfoldable pub check : ℕ → ℕ → Behaviour → Types → Checked Types
 check q c (nil r) Γ = passed Γ
-check q c (oneWay r o x) Γ = atRow r (require (permits q input false o) 6 (limited (place x (o .request) Γ)))
+check q c (oneWay r o x) Γ = atRow r (require (permits q input false o) WrongOperation (limited (place x (o .request) Γ)))
 check q c (requestResponse r o x p d) Γ =
-    next (atRow r (require (permits q input true o) 6 (limited (place x (o .request) Γ))))
+    next (atRow r (require (permits q input true o) WrongOperation (limited (place x (o .request) Γ))))
     (λ Γ1. next (check q c d Γ1) (λ Δ. atRow r (answers p Δ (o .reply))))
-check q c (notification r o e) Γ = atRow r (require (permits q output false o) 6 (sends Γ e (o .request)))
+check q c (notification r o e) Γ = atRow r (require (permits q output false o) WrongOperation (sends Γ e (o .request)))
 check q c (solicitResponse r o e x) Γ =
-    next (atRow r (require (permits q output true o) 6 (sends Γ e (o .request)))) (λ Γ1. atRow r (limited (place x (o .reply) Γ)))
+    next (atRow r (require (permits q output true o) WrongOperation (sends Γ e (o .request)))) (λ Γ1. atRow r (limited (place x (o .reply) Γ)))
 check q c (ifThenElse r e a b) Γ =
     next (atRow r (condition Γ e)) (λ Γ1. next (check q c a Γ) (λ Δ. next (check q c b Γ) (λ Θ. atRow r (agreeing Θ Δ))))
 check q c (whileDo r e b) Γ = next (atRow r (condition Γ e)) (λ Γ1. next (check q c b Γ) (λ Δ. atRow r (agreeing Δ Γ)))
 check q c (sequence r a b) Γ = next (check q c a Γ) (λ Γ1. check q c b Γ1)
 check q c (parallel r a b) Γ =
-    next (atRow r (require (noSharedRoot a b) 11 (gives Γ))) (λ Γ0. next (check q c a Γ) (λ Γ1. check q c b Γ1))
+    next (atRow r (require (noSharedRoot a b) SharedRoot (yields Γ))) (λ Γ0. next (check q c a Γ) (λ Γ1. check q c b Γ1))
 check q c (assign r x e) Γ = atRow r (andThen (typeOf Γ e) (λ n. limited (assignTo x (rootBasic n) Γ)))
 check q c (choice r m) Γ = check q r m Γ
 check q c (branch r a b m) Γ =
     next (next (check q c a Γ) (λ Γ1. check q c b Γ1)) (λ Δ. next (check q c m Γ) (λ Θ. atRow c (agreeing Θ Δ)))
 check q c (lastBranch r a b) Γ = next (check q c a Γ) (λ Γ1. check q c b Γ1)
-check q c (waiting r o x) Γ = atRow r (require (permits q output true o) 6 (limited (place x (o .reply) Γ)))
+check q c (waiting r o x) Γ = atRow r (require (permits q output true o) WrongOperation (limited (place x (o .reply) Γ)))
 check q c (answering r o p d) Γ =
-    next (atRow r (require (permits q input true o) 6 (gives Γ))) (λ Γ1. next (check q c d Γ) (λ Δ. atRow r (answers p Δ (o .reply))))
+    next (atRow r (require (permits q input true o) WrongOperation (yields Γ))) (λ Γ1. next (check q c d Γ) (λ Δ. atRow r (answers p Δ (o .reply))))

@@ -6,11 +6,15 @@ use lib.Dec.{T, eqb, eqb→eq, eqb-refl}
 use Rattle.forest.specs.Compare.{and-l, and-r, and-i}
 use Rattle.forest.specs.Forest.{end, node, Rising}
 use Rattle.forest.specs.Path.{Path}
+use Rattle.refusal.specs.declared.Refusal.the-variants.{WrongOperation, OperandType, TypeMisfit, EnvironmentsDiffer, SharedRoot, EnvironmentTooLarge}
 use Rattle.scalar.specs.Basic.{bool}
-use Rattle.syntax.specs.Syntax.{mark, Types, MessageType, Expression, input, output, Operation, Behaviour, nil, oneWay, requestResponse, notification, solicitResponse, ifThenElse, whileDo, sequence, parallel, assign, choice, branch, lastBranch, waiting, answering}
+use Rattle.syntax.specs.Syntax.{mark, Types, MessageType, Expression, input, output, Operation, Behaviour, nil, oneWay, requestResponse}
+use Rattle.syntax.specs.Syntax.{notification, solicitResponse, ifThenElse, whileDo, sequence, parallel, assign, choice, branch, lastBranch}
+use Rattle.syntax.specs.Syntax.{waiting, answering}
 use Rattle.subtyping.specs.Subtype.{rootBasic, isSubtype}
-use Rattle.typing.specs.Answer.{Answer, gives, require, andThen, passed, atRow, next}
-use Rattle.typing.specs.AnswerLaws.{gives-inj, passed-inj, require-gives, require-holds, atRow-passed, andThen-gives, andThen-holds, next-passed, next-holds}
+use Rattle.typing.specs.Result.{Result, yields, require, andThen, passed, atRow, next}
+use Rattle.typing.specs.ResultLaws.{yields-inj, passed-inj, require-yields, require-holds, atRow-passed, andThen-yields}
+use Rattle.typing.specs.ResultLaws.{andThen-holds, next-passed, next-holds}
 use Rattle.typing.specs.Environment.{within, readFirm, place, assignTo}
 use Rattle.typing.specs.ExpressionTyping.{typeOf}
 use Rattle.typing.specs.Occurs.{noSharedRoot}
@@ -20,13 +24,13 @@ use Rattle.typing.specs.Checker.{sameTypes, limited, sends, answers, con
 use Rattle.typing.specs.Typed.{TypedReply, TypedSend, TypedCondition, Typed}
 use Rattle.typing.specs.TypedLaws.{within-before}
 
-sameBool-eq : (m n : Bool) → T (sameBool m n) → m ≡ n
+pub sameBool-eq : (m n : Bool) → T (sameBool m n) → m ≡ n
 sameBool-eq true true t = refl
 sameBool-eq true false t = absurd t
 sameBool-eq false true t = absurd t
 sameBool-eq false false t = refl
 
-sameBool-refl : (m : Bool) → T (sameBool m m)
+pub sameBool-refl : (m : Bool) → T (sameBool m m)
 sameBool-refl true = tt
 sameBool-refl false = tt
 
@@ -36,130 +40,153 @@ sameTypes-eq end end t = refl
 sameTypes-eq end (node j b l s) t = absurd t
 sameTypes-eq (node i a k r) end t = absurd t
 sameTypes-eq (node i (mark m a) k r) (node j (mark n b) l s) t =
-  let t1 = and-r (eqb i j) (sameBool m n && (eqb a b && (sameTypes k l && sameTypes r s))) t in
-  let t2 = and-r (sameBool m n) (eqb a b && (sameTypes k l && sameTypes r s)) t1 in
-  let t3 = and-r (eqb a b) (sameTypes k l && sameTypes r s) t2 in
-  let e1 = eqb→eq i j (and-l (eqb i j) (sameBool m n && (eqb a b && (sameTypes k l && sameTypes r s))) t) in
-  let e2 = sameBool-eq m n (and-l (sameBool m n) (eqb a b && (sameTypes k l && sameTypes r s)) t1) in
-  let e3 = eqb→eq a b (and-l (eqb a b) (sameTypes k l && sameTypes r s) t2) in
-  let e4 = sameTypes-eq k l (and-l (sameTypes k l) (sameTypes r s) t3) in
-  let e5 = sameTypes-eq r s (and-r (sameTypes k l) (sameTypes r s) t3) in
-  cc
+    let t1 = and-r (eqb i j) (sameBool m n && (eqb a b && (sameTypes k l && sameTypes r s))) t in
+    let t2 = and-r (sameBool m n) (eqb a b && (sameTypes k l && sameTypes r s)) t1 in
+    let t3 = and-r (eqb a b) (sameTypes k l && sameTypes r s) t2 in
+    let e1 = eqb→eq i j (and-l (eqb i j) (sameBool m n && (eqb a b && (sameTypes k l && sameTypes r s))) t) in
+    let e2 = sameBool-eq m n (and-l (sameBool m n) (eqb a b && (sameTypes k l && sameTypes r s)) t1) in
+    let e3 = eqb→eq a b (and-l (eqb a b) (sameTypes k l && sameTypes r s) t2) in
+    let e4 = sameTypes-eq k l (and-l (sameTypes k l) (sameTypes r s) t3) in
+    let e5 = sameTypes-eq r s (and-r (sameTypes k l) (sameTypes r s) t3) in
+    cc
 
 pub sameTypes-refl : (F : Types) → T (sameTypes F F)
 unfolding sameTypes
 sameTypes-refl end = tt
 sameTypes-refl (node i (mark m a) k r) =
-  and-i (eqb i i) (sameBool m m && (eqb a a && (sameTypes k k && sameTypes r r))) (eqb-refl i)
+    and-i (eqb i i) (sameBool m m && (eqb a a && (sameTypes k k && sameTypes r r))) (eqb-refl i)
     (and-i (sameBool m m) (eqb a a && (sameTypes k k && sameTypes r r)) (sameBool-refl m)
-      (and-i (eqb a a) (sameTypes k k && sameTypes r r) (eqb-refl a) (and-i (sameTypes k k) (sameTypes r r) (sameTypes-refl k) (sameTypes-refl r))))
+    (and-i (eqb a a) (sameTypes k k && sameTypes r r) (eqb-refl a) (and-i (sameTypes k k) (sameTypes r r) (sameTypes-refl k) (sameTypes-refl r))))
 
-limited-gives : (r : Answer Types) (Δ : Types) → limited r ≡ gives Δ → (r ≡ gives Δ) × T (within Δ)
-limited-gives r Δ h =
-  let u = andThen-gives r (λ Γ. require (within Γ) 12 (gives Γ)) h in
-  let v = require-gives (within (u .0)) 12 (gives (u .0)) (u .2) in
-  (u .1 ∙ v .1, subst (λ (z : Types). T (within z)) (gives-inj (v .1)) (v .0))
+limited-yields : (r : Result Types) (Δ : Types) → limited r ≡ yields Δ → (r ≡ yields Δ) × T (within Δ)
+limited-yields r Δ h =
+    let u = andThen-yields r (λ Γ. require (within Γ) EnvironmentTooLarge (yields Γ)) h in
+    let v = require-yields (within (u .0)) EnvironmentTooLarge (yields (u .0)) (u .2) in
+    (u .1 ∙ v .1, subst (λ (z : Types). T (within z)) (yields-inj (v .1)) (v .0))
 
-placed-gives : (r : ℕ) (g : Bool) (x : Answer Types) (Δ : Types) → atRow r (require g 6 (limited x)) ≡ passed Δ → T g × (x ≡ gives Δ) × T (within Δ)
-placed-gives r g x Δ h =
-  let u = require-gives g 6 (limited x) (atRow-passed r _ Δ h) in
-  let v = limited-gives x Δ (u .1) in (u .0, v .0, v .1)
+placed-yields : (r : ℕ) (g : Bool) (x : Result Types) (Δ : Types) → atRow r (require g WrongOperation (limited x)) ≡ passed Δ
+    → T g × (x ≡ yields Δ) × T (within Δ)
+placed-yields r g x Δ h =
+    let u = require-yields g WrongOperation (limited x) (atRow-passed r _ Δ h) in
+    let v = limited-yields x Δ (u .1) in (u .0, v .0, v .1)
 
-sends-gives : (Γ Δ : Types) (e : Expression) (t : MessageType) → sends Γ e t ≡ gives Δ → TypedSend Γ e t × (Γ ≡ Δ)
-sends-gives Γ Δ e t h =
-  let u = andThen-gives (typeOf Γ e) (λ n. require (isSubtype n t) 9 (gives Γ)) h in
-  let v = require-gives (isSubtype (u .0) t) 9 (gives Γ) (u .2) in ((u .0, u .1, v .0), gives-inj (v .1))
+sends-yields : (Γ Δ : Types) (e : Expression) (t : MessageType) → sends Γ e t ≡ yields Δ → TypedSend Γ e t × (Γ ≡ Δ)
+sends-yields Γ Δ e t h =
+    let u = andThen-yields (typeOf Γ e) (λ n. require (isSubtype n t) TypeMisfit (yields Γ)) h in
+    let v = require-yields (isSubtype (u .0) t) TypeMisfit (yields Γ) (u .2) in ((u .0, u .1, v .0), yields-inj (v .1))
 
-answers-gives : (c : Path) (Γ Δ : Types) (t : MessageType) → answers c Γ t ≡ gives Δ → TypedReply c Γ t × (Γ ≡ Δ)
-answers-gives c Γ Δ t h =
-  let u = andThen-gives (readFirm c Γ) (λ n. require (isSubtype n t) 9 (gives Γ)) h in
-  let v = require-gives (isSubtype (u .0) t) 9 (gives Γ) (u .2) in ((u .0, u .1, v .0), gives-inj (v .1))
+answers-yields : (c : Path) (Γ Δ : Types) (t : MessageType) → answers c Γ t ≡ yields Δ → TypedReply c Γ t × (Γ ≡ Δ)
+answers-yields c Γ Δ t h =
+    let u = andThen-yields (readFirm c Γ) (λ n. require (isSubtype n t) TypeMisfit (yields Γ)) h in
+    let v = require-yields (isSubtype (u .0) t) TypeMisfit (yields Γ) (u .2) in ((u .0, u .1, v .0), yields-inj (v .1))
 
-condition-gives : (Γ Δ : Types) (e : Expression) → condition Γ e ≡ gives Δ → TypedCondition Γ e × (Γ ≡ Δ)
-condition-gives Γ Δ e h =
-  let u = andThen-gives (typeOf Γ e) (λ n. require (eqb (rootBasic n) bool) 8 (gives Γ)) h in
-  let v = require-gives (eqb (rootBasic (u .0)) bool) 8 (gives Γ) (u .2) in ((u .0, u .1, v .0), gives-inj (v .1))
+condition-yields : (Γ Δ : Types) (e : Expression) → condition Γ e ≡ yields Δ → TypedCondition Γ e × (Γ ≡ Δ)
+condition-yields Γ Δ e h =
+    let u = andThen-yields (typeOf Γ e) (λ n. require (eqb (rootBasic n) bool) OperandType (yields Γ)) h in
+    let v = require-yields (eqb (rootBasic (u .0)) bool) OperandType (yields Γ) (u .2) in ((u .0, u .1, v .0), yields-inj (v .1))
 
-agreeing-gives : (r : ℕ) (Θ Δ Γ : Types) → atRow r (agreeing Θ Δ) ≡ passed Γ → (Θ ≡ Γ) × (Δ ≡ Γ)
-agreeing-gives r Θ Δ Γ h =
-  let u = require-gives (sameTypes Θ Δ) 10 (gives Δ) (atRow-passed r _ Γ h) in
-  let e = sameTypes-eq Θ Δ (u .0) in (e ∙ gives-inj (u .1), gives-inj (u .1))
+agreeing-yields : (r : ℕ) (Θ Δ Γ : Types) → atRow r (agreeing Θ Δ) ≡ passed Γ → (Θ ≡ Γ) × (Δ ≡ Γ)
+agreeing-yields r Θ Δ Γ h =
+    let u = require-yields (sameTypes Θ Δ) EnvironmentsDiffer (yields Δ) (atRow-passed r _ Γ h) in
+    let e = sameTypes-eq Θ Δ (u .0) in (e ∙ yields-inj (u .1), yields-inj (u .1))
 
-limited-holds : (x : Answer Types) (Δ : Types) → x ≡ gives Δ → T (within Δ) → limited x ≡ gives Δ
-limited-holds x Δ h t = andThen-holds x (λ Γ. require (within Γ) 12 (gives Γ)) Δ h ∙ require-holds (within Δ) 12 (gives Δ) t
+limited-holds : (x : Result Types) (Δ : Types) → x ≡ yields Δ → T (within Δ) → limited x ≡ yields Δ
+limited-holds x Δ h t = andThen-holds x (λ Γ. require (within Γ) EnvironmentTooLarge (yields Γ)) Δ h
+    ∙ require-holds (within Δ) EnvironmentTooLarge (yields Δ) t
 
-placed-passes : (r : ℕ) (g : Bool) (x : Answer Types) (Δ : Types) → T g → x ≡ gives Δ → T (within Δ) → atRow r (require g 6 (limited x)) ≡ passed Δ
-placed-passes r g x Δ p h t = ap (atRow r) (require-holds g 6 (limited x) p ∙ limited-holds x Δ h t)
+placed-passes : (r : ℕ) (g : Bool) (x : Result Types) (Δ : Types) → T g → x ≡ yields Δ → T (within Δ)
+    → atRow r (require g WrongOperation (limited x)) ≡ passed Δ
+placed-passes r g x Δ p h t = ap (atRow r) (require-holds g WrongOperation (limited x) p ∙ limited-holds x Δ h t)
 
-sends-passes : (r : ℕ) (g : Bool) (Γ : Types) (e : Expression) (t : MessageType) → T g → TypedSend Γ e t → atRow r (require g 6 (sends Γ e t)) ≡ passed Γ
-sends-passes r g Γ e t p h = ap (atRow r) (require-holds g 6 (sends Γ e t) p ∙ (andThen-holds (typeOf Γ e) (λ n. require (isSubtype n t) 9 (gives Γ)) (h .0) (h .1) ∙ require-holds (isSubtype (h .0) t) 9 (gives Γ) (h .2)))
+sends-passes : (r : ℕ) (g : Bool) (Γ : Types) (e : Expression) (t : MessageType) → T g → TypedSend Γ e t
+    → atRow r (require g WrongOperation (sends Γ e t)) ≡ passed Γ
+sends-passes r g Γ e t p h =
+    ap (atRow r)
+    (require-holds g WrongOperation (sends Γ e t) p
+    ∙ (andThen-holds (typeOf Γ e) (λ n. require (isSubtype n t) TypeMisfit (yields Γ)) (h .0) (h .1)
+    ∙ require-holds (isSubtype (h .0) t) TypeMisfit (yields Γ) (h .2)))
 
 answers-passes : (r : ℕ) (c : Path) (Γ : Types) (t : MessageType) → TypedReply c Γ t → atRow r (answers c Γ t) ≡ passed Γ
-answers-passes r c Γ t h = ap (atRow r) (andThen-holds (readFirm c Γ) (λ n. require (isSubtype n t) 9 (gives Γ)) (h .0) (h .1) ∙ require-holds (isSubtype (h .0) t) 9 (gives Γ) (h .2))
+answers-passes r c Γ t h =
+    ap (atRow r) (andThen-holds (readFirm c Γ) (λ n. require (isSubtype n t) TypeMisfit (yields Γ)) (h .0) (h .1)
+    ∙ require-holds (isSubtype (h .0) t) TypeMisfit (yields Γ) (h .2))
 
 condition-passes : (r : ℕ) (Γ : Types) (e : Expression) → TypedCondition Γ e → atRow r (condition Γ e) ≡ passed Γ
-condition-passes r Γ e h = ap (atRow r) (andThen-holds (typeOf Γ e) (λ n. require (eqb (rootBasic n) bool) 8 (gives Γ)) (h .0) (h .1) ∙ require-holds (eqb (rootBasic (h .0)) bool) 8 (gives Γ) (h .2))
+condition-passes r Γ e h =
+    ap (atRow r) (andThen-holds (typeOf Γ e) (λ n. require (eqb (rootBasic n) bool) OperandType (yields Γ)) (h .0) (h .1)
+    ∙ require-holds (eqb (rootBasic (h .0)) bool) OperandType (yields Γ) (h .2))
 
 agreeing-passes : (r : ℕ) (Γ : Types) → atRow r (agreeing Γ Γ) ≡ passed Γ
-agreeing-passes r Γ = ap (atRow r) (require-holds (sameTypes Γ Γ) 10 (gives Γ) (sameTypes-refl Γ))
+agreeing-passes r Γ = ap (atRow r) (require-holds (sameTypes Γ Γ) EnvironmentsDiffer (yields Γ) (sameTypes-refl Γ))
 
 module _ (q : ℕ) where
   -- What the checker passes, the rules type.
   pub check-typed : (c : ℕ) (B : Behaviour) (Γ Δ : Types) → check q c B Γ ≡ passed Δ → Typed q B Γ Δ
   unfolding check Typed
   check-typed c (nil r) Γ Δ h = cc
-  check-typed c (oneWay r o x) Γ Δ h = let u = placed-gives r (permits q input false o) (place x (o .request) Γ) Δ h in (u .0, u .1)
+  check-typed c (oneWay r o x) Γ Δ h = let u = placed-yields r (permits q input false o) (place x (o .request) Γ) Δ h in (u .0, u .1)
   check-typed c (requestResponse r o x y d) Γ Δ h =
-    let u = next-passed _ _ Δ h in
-    let v = next-passed _ _ Δ (u .2) in
-    let p = placed-gives r (permits q input true o) (place x (o .request) Γ) (u .0) (u .1) in
-    let s = answers-gives y (v .0) Δ (o .reply) (atRow-passed r _ Δ (v .2)) in
-    (p .0, u .0, p .1, subst (Typed q d (u .0)) (s .1) (check-typed c d (u .0) (v .0) (v .1)), subst (λ (z : Types). TypedReply y z (o .reply)) (s .1) (s .0))
+      let u = next-passed _ _ Δ h in
+      let v = next-passed _ _ Δ (u .2) in
+      let p = placed-yields r (permits q input true o) (place x (o .request) Γ) (u .0) (u .1) in
+      let s = answers-yields y (v .0) Δ (o .reply) (atRow-passed r _ Δ (v .2)) in (
+        p .0,
+        u .0,
+        p .1,
+        subst (Typed q d (u .0)) (s .1) (check-typed c d (u .0) (v .0) (v .1)),
+        subst (λ (z : Types). TypedReply y z (o .reply)) (s .1)
+            (s .0),
+      )
   check-typed c (notification r o e) Γ Δ h =
-    let u = require-gives (permits q output false o) 6 (sends Γ e (o .request)) (atRow-passed r _ Δ h) in
-    let v = sends-gives Γ Δ e (o .request) (u .1) in (u .0, v .0, v .1)
+      let u = require-yields (permits q output false o) WrongOperation (sends Γ e (o .request)) (atRow-passed r _ Δ h) in
+      let v = sends-yields Γ Δ e (o .request) (u .1) in (u .0, v .0, v .1)
   check-typed c (solicitResponse r o e x) Γ Δ h =
-    let u = next-passed _ _ Δ h in
-    let v = require-gives (permits q output true o) 6 (sends Γ e (o .request)) (atRow-passed r _ (u .0) (u .1)) in
-    let w = sends-gives Γ (u .0) e (o .request) (v .1) in
-    (v .0, w .0, limited-gives (place x (o .reply) Γ) Δ (atRow-passed r _ Δ (u .2)) .0)
+      let u = next-passed _ _ Δ h in
+      let v = require-yields (permits q output true o) WrongOperation (sends Γ e (o .request)) (atRow-passed r _ (u .0) (u .1)) in
+      let w = sends-yields Γ (u .0) e (o .request) (v .1) in
+      (v .0, w .0, limited-yields (place x (o .reply) Γ) Δ (atRow-passed r _ Δ (u .2)) .0)
   check-typed c (ifThenElse r e a b) Γ Δ h =
-    let u = next-passed _ _ Δ h in
-    let k = condition-gives Γ (u .0) e (atRow-passed r _ (u .0) (u .1)) in
-    let v = next-passed _ _ Δ (u .2) in
-    let w = next-passed _ _ Δ (v .2) in
-    let s = agreeing-gives r (w .0) (v .0) Δ (w .2) in
-    (k .0, subst (Typed q a Γ) (s .1) (check-typed c a Γ (v .0) (v .1)), subst (Typed q b Γ) (s .0) (check-typed c b Γ (w .0) (w .1)))
+      let u = next-passed _ _ Δ h in
+      let k = condition-yields Γ (u .0) e (atRow-passed r _ (u .0) (u .1)) in
+      let v = next-passed _ _ Δ (u .2) in
+      let w = next-passed _ _ Δ (v .2) in
+      let s = agreeing-yields r (w .0) (v .0) Δ (w .2) in
+      (k .0, subst (Typed q a Γ) (s .1) (check-typed c a Γ (v .0) (v .1)), subst (Typed q b Γ) (s .0) (check-typed c b Γ (w .0) (w .1)))
   check-typed c (whileDo r e b) Γ Δ h =
-    let u = next-passed _ _ Δ h in
-    let k = condition-gives Γ (u .0) e (atRow-passed r _ (u .0) (u .1)) in
-    let v = next-passed _ _ Δ (u .2) in
-    let s = agreeing-gives r (v .0) Γ Δ (v .2) in
-    (k .0, subst (Typed q b Γ) (s .0 ∙ sym (s .1)) (check-typed c b Γ (v .0) (v .1)), s .1)
+      let u = next-passed _ _ Δ h in
+      let k = condition-yields Γ (u .0) e (atRow-passed r _ (u .0) (u .1)) in
+      let v = next-passed _ _ Δ (u .2) in
+      let s = agreeing-yields r (v .0) Γ Δ (v .2) in
+      (k .0, subst (Typed q b Γ) (s .0 ∙ sym (s .1)) (check-typed c b Γ (v .0) (v .1)), s .1)
   check-typed c (sequence r a b) Γ Δ h = let u = next-passed _ _ Δ h in (u .0, check-typed c a Γ (u .0) (u .1), check-typed c b (u .0) Δ (u .2))
   check-typed c (parallel r a b) Γ Δ h =
-    let z = next-passed _ _ Δ h in
-    let d = require-gives (noSharedRoot a b) 11 (gives Γ) (atRow-passed r _ (z .0) (z .1)) in
-    let u = next-passed _ _ Δ (z .2) in
-    (no-shared-sound a b (d .0), u .0, check-typed c a Γ (u .0) (u .1), check-typed c b (u .0) Δ (u .2))
+      let z = next-passed _ _ Δ h in
+      let d = require-yields (noSharedRoot a b) SharedRoot (yields Γ) (atRow-passed r _ (z .0) (z .1)) in
+      let u = next-passed _ _ Δ (z .2) in
+      (no-shared-sound a b (d .0), u .0, check-typed c a Γ (u .0) (u .1), check-typed c b (u .0) Δ (u .2))
   check-typed c (assign r x e) Γ Δ h =
-    let u = andThen-gives (typeOf Γ e) (λ n. limited (assignTo x (rootBasic n) Γ)) (atRow-passed r _ Δ h) in
-    (u .0, u .1, limited-gives (assignTo x (rootBasic (u .0)) Γ) Δ (u .2) .0)
+      let u = andThen-yields (typeOf Γ e) (λ n. limited (assignTo x (rootBasic n) Γ)) (atRow-passed r _ Δ h) in
+      (u .0, u .1, limited-yields (assignTo x (rootBasic (u .0)) Γ) Δ (u .2) .0)
   check-typed c (choice r m) Γ Δ h = check-typed r m Γ Δ h
   check-typed c (branch r a b m) Γ Δ h =
-    let u = next-passed _ _ Δ h in
-    let x = next-passed _ _ (u .0) (u .1) in
-    let w = next-passed _ _ Δ (u .2) in
-    let s = agreeing-gives c (w .0) (u .0) Δ (w .2) in
-    (x .0, check-typed c a Γ (x .0) (x .1), subst (Typed q b (x .0)) (s .1) (check-typed c b (x .0) (u .0) (x .2)), subst (Typed q m Γ) (s .0) (check-typed c m Γ (w .0) (w .1)))
+      let u = next-passed _ _ Δ h in
+      let x = next-passed _ _ (u .0) (u .1) in
+      let w = next-passed _ _ Δ (u .2) in
+      let s = agreeing-yields c (w .0) (u .0) Δ (w .2) in (
+        x .0,
+        check-typed c a Γ (x .0) (x .1),
+        subst (Typed q b (x .0)) (s .1) (check-typed c b (x .0) (u .0) (x .2)),
+        subst (Typed q m Γ) (s .0)
+            (check-typed c m Γ (w .0) (w .1)),
+      )
   check-typed c (lastBranch r a b) Γ Δ h = let u = next-passed _ _ Δ h in (u .0, check-typed c a Γ (u .0) (u .1), check-typed c b (u .0) Δ (u .2))
-  check-typed c (waiting r o x) Γ Δ h = let u = placed-gives r (permits q output true o) (place x (o .reply) Γ) Δ h in (u .0, u .1)
+  check-typed c (waiting r o x) Γ Δ h = let u = placed-yields r (permits q output true o) (place x (o .reply) Γ) Δ h in (u .0, u .1)
   check-typed c (answering r o y d) Γ Δ h =
-    let u = next-passed _ _ Δ h in
-    let g = require-gives (permits q input true o) 6 (gives Γ) (atRow-passed r _ (u .0) (u .1)) in
-    let v = next-passed _ _ Δ (u .2) in
-    let s = answers-gives y (v .0) Δ (o .reply) (atRow-passed r _ Δ (v .2)) in
-    (g .0, subst (Typed q d Γ) (s .1) (check-typed c d Γ (v .0) (v .1)), subst (λ (z : Types). TypedReply y z (o .reply)) (s .1) (s .0))
+      let u = next-passed _ _ Δ h in
+      let g = require-yields (permits q input true o) WrongOperation (yields Γ) (atRow-passed r _ (u .0) (u .1)) in
+      let v = next-passed _ _ Δ (u .2) in
+      let s = answers-yields y (v .0) Δ (o .reply) (atRow-passed r _ Δ (v .2)) in
+      (g .0, subst (Typed q d Γ) (s .1) (check-typed c d Γ (v .0) (v .1)), subst (λ (z : Types). TypedReply y z (o .reply)) (s .1) (s .0))
 
   -- What the rules type, with the last environment within the limits, the checker passes.
   pub typed-check : (c : ℕ) (B : Behaviour) (Γ Δ : Types) → WellSorted B → Typed q B Γ Δ → T (within Δ) → check q c B Γ ≡ passed Δ
@@ -167,71 +194,84 @@ module _ (q : ℕ) where
   typed-check c (nil r) Γ Δ ws h t = ap passed h
   typed-check c (oneWay r o x) Γ Δ ws h t = placed-passes r (permits q input false o) (place x (o .request) Γ) Δ (h .0) (h .1) t
   typed-check c (requestResponse r o x y d) Γ Δ ws h t =
-    next-holds _ _ (h .1) (placed-passes r (permits q input true o) (place x (o .request) Γ) (h .1) (h .0) (h .2) (within-before q d (h .1) Δ (ws .1) (h .3) t))
-    ∙ (next-holds _ _ Δ (typed-check c d (h .1) Δ (ws .1) (h .3) t) ∙ answers-passes r y Δ (o .reply) (h .4))
+      next-holds _ _ (h .1)
+      (placed-passes r (permits q input true o) (place x (o .request) Γ) (h .1) (h .0) (h .2) (within-before q d (h .1) Δ (ws .1) (h .3) t))
+      ∙ (next-holds _ _ Δ (typed-check c d (h .1) Δ (ws .1) (h .3) t) ∙ answers-passes r y Δ (o .reply) (h .4))
   typed-check c (notification r o e) Γ Δ ws h t = sends-passes r (permits q output false o) Γ e (o .request) (h .0) (h .1) ∙ ap passed (h .2)
   typed-check c (solicitResponse r o e x) Γ Δ ws h t =
-    next-holds _ _ Γ (sends-passes r (permits q output true o) Γ e (o .request) (h .0) (h .1)) ∙ ap (atRow r) (limited-holds (place x (o .reply) Γ) Δ (h .2) t)
+      next-holds _ _ Γ (sends-passes r (permits q output true o) Γ e (o .request) (h .0) (h .1))
+      ∙ ap (atRow r) (limited-holds (place x (o .reply) Γ) Δ (h .2) t)
   typed-check c (ifThenElse r e a b) Γ Δ ws h t =
-    next-holds _ _ Γ (condition-passes r Γ e (h .0)) ∙ (next-holds _ _ Δ (typed-check c a Γ Δ (ws .0) (h .1) t) ∙ (next-holds _ _ Δ (typed-check c b Γ Δ (ws .1) (h .2) t) ∙ agreeing-passes r Δ))
+      next-holds _ _ Γ (condition-passes r Γ e (h .0))
+      ∙ (next-holds _ _ Δ (typed-check c a Γ Δ (ws .0) (h .1) t) ∙ (next-holds _ _ Δ (typed-check c b Γ Δ (ws .1) (h .2) t) ∙ agreeing-passes r Δ))
   typed-check c (whileDo r e b) Γ Δ ws h t =
-    let t2 : T (within Γ) = subst (λ (z : Types). T (within z)) (sym (h .2)) t in
-    next-holds _ _ Γ (condition-passes r Γ e (h .0)) ∙ (next-holds _ _ Γ (typed-check c b Γ Γ ws (h .1) t2) ∙ (agreeing-passes r Γ ∙ ap passed (h .2)))
-  typed-check c (sequence r a b) Γ Δ ws h t = next-holds _ _ (h .0) (typed-check c a Γ (h .0) (ws .0) (h .1) (within-before q b (h .0) Δ (ws .1) (h .2) t)) ∙ typed-check c b (h .0) Δ (ws .1) (h .2) t
+      let t2 : T (within Γ) = subst (λ (z : Types). T (within z)) (sym (h .2)) t in
+      next-holds _ _ Γ (condition-passes r Γ e (h .0))
+      ∙ (next-holds _ _ Γ (typed-check c b Γ Γ ws (h .1) t2) ∙ (agreeing-passes r Γ ∙ ap passed (h .2)))
+  typed-check c (sequence r a b) Γ Δ ws h t =
+      next-holds _ _ (h .0) (typed-check c a Γ (h .0) (ws .0) (h .1) (within-before q b (h .0) Δ (ws .1) (h .2) t))
+      ∙ typed-check c b (h .0) Δ (ws .1) (h .2) t
   typed-check c (parallel r a b) Γ Δ ws h t =
-    next-holds _ _ Γ (ap (atRow r) (require-holds (noSharedRoot a b) 11 (gives Γ) (no-shared-complete a b (h .0))))
-    ∙ (next-holds _ _ (h .1) (typed-check c a Γ (h .1) (ws .0) (h .2) (within-before q b (h .1) Δ (ws .1) (h .3) t)) ∙ typed-check c b (h .1) Δ (ws .1) (h .3) t)
+      next-holds _ _ Γ (ap (atRow r) (require-holds (noSharedRoot a b) SharedRoot (yields Γ) (no-shared-complete a b (h .0))))
+      ∙ (next-holds _ _ (h .1) (typed-check c a Γ (h .1) (ws .0) (h .2) (within-before q b (h .1) Δ (ws .1) (h .3) t))
+      ∙ typed-check c b (h .1) Δ (ws .1) (h .3) t)
   typed-check c (assign r x e) Γ Δ ws h t =
-    ap (atRow r) (andThen-holds (typeOf Γ e) (λ n. limited (assignTo x (rootBasic n) Γ)) (h .0) (h .1) ∙ limited-holds (assignTo x (rootBasic (h .0)) Γ) Δ (h .2) t)
+      ap (atRow r) (andThen-holds (typeOf Γ e) (λ n. limited (assignTo x (rootBasic n) Γ)) (h .0) (h .1)
+      ∙ limited-holds (assignTo x (rootBasic (h .0)) Γ) Δ (h .2) t)
   typed-check c (choice r m) Γ Δ ws h t = typed-check r m Γ Δ ws h t
   typed-check c (branch r a b m) Γ Δ ws h t =
-    next-holds _ _ Δ (next-holds _ _ (h .0) (typed-check c a Γ (h .0) (ws .0) (h .1) (within-before q b (h .0) Δ (ws .1) (h .2) t)) ∙ typed-check c b (h .0) Δ (ws .1) (h .2) t)
-    ∙ (next-holds _ _ Δ (typed-check c m Γ Δ (ws .2) (h .3) t) ∙ agreeing-passes c Δ)
-  typed-check c (lastBranch r a b) Γ Δ ws h t = next-holds _ _ (h .0) (typed-check c a Γ (h .0) (ws .0) (h .1) (within-before q b (h .0) Δ (ws .1) (h .2) t)) ∙ typed-check c b (h .0) Δ (ws .1) (h .2) t
+      next-holds _ _ Δ (next-holds _ _ (h .0) (typed-check c a Γ (h .0) (ws .0) (h .1) (within-before q b (h .0) Δ (ws .1) (h .2) t))
+      ∙ typed-check c b (h .0) Δ (ws .1) (h .2) t)
+      ∙ (next-holds _ _ Δ (typed-check c m Γ Δ (ws .2) (h .3) t) ∙ agreeing-passes c Δ)
+  typed-check c (lastBranch r a b) Γ Δ ws h t =
+      next-holds _ _ (h .0) (typed-check c a Γ (h .0) (ws .0) (h .1) (within-before q b (h .0) Δ (ws .1) (h .2) t))
+      ∙ typed-check c b (h .0) Δ (ws .1) (h .2) t
   typed-check c (waiting r o x) Γ Δ ws h t = placed-passes r (permits q output true o) (place x (o .reply) Γ) Δ (h .0) (h .1) t
   typed-check c (answering r o y d) Γ Δ ws h t =
-    next-holds _ _ Γ (ap (atRow r) (require-holds (permits q input true o) 6 (gives Γ) (h .0))) ∙ (next-holds _ _ Δ (typed-check c d Γ Δ (ws .1) (h .1) t) ∙ answers-passes r y Δ (o .reply) (h .2))
+      next-holds _ _ Γ (ap (atRow r) (require-holds (permits q input true o) WrongOperation (yields Γ) (h .0)))
+      ∙ (next-holds _ _ Δ (typed-check c d Γ Δ (ws .1) (h .1) t) ∙ answers-passes r y Δ (o .reply) (h .2))
 
   -- What the checker passes stays within the limits.
   pub check-within : (c : ℕ) (B : Behaviour) (Γ Δ : Types) → T (within Γ) → check q c B Γ ≡ passed Δ → T (within Δ)
   unfolding check
   check-within c (nil r) Γ Δ t h = subst (λ (z : Types). T (within z)) (passed-inj h) t
-  check-within c (oneWay r o x) Γ Δ t h = placed-gives r (permits q input false o) (place x (o .request) Γ) Δ h .2
+  check-within c (oneWay r o x) Γ Δ t h = placed-yields r (permits q input false o) (place x (o .request) Γ) Δ h .2
   check-within c (requestResponse r o x y d) Γ Δ t h =
-    let u = next-passed _ _ Δ h in
-    let v = next-passed _ _ Δ (u .2) in
-    let p = placed-gives r (permits q input true o) (place x (o .request) Γ) (u .0) (u .1) in
-    let s = answers-gives y (v .0) Δ (o .reply) (atRow-passed r _ Δ (v .2)) in
-    subst (λ (z : Types). T (within z)) (s .1) (check-within c d (u .0) (v .0) (p .2) (v .1))
+      let u = next-passed _ _ Δ h in
+      let v = next-passed _ _ Δ (u .2) in
+      let p = placed-yields r (permits q input true o) (place x (o .request) Γ) (u .0) (u .1) in
+      let s = answers-yields y (v .0) Δ (o .reply) (atRow-passed r _ Δ (v .2)) in
+      subst (λ (z : Types). T (within z)) (s .1) (check-within c d (u .0) (v .0) (p .2) (v .1))
   check-within c (notification r o e) Γ Δ t h =
-    let u = require-gives (permits q output false o) 6 (sends Γ e (o .request)) (atRow-passed r _ Δ h) in
-    subst (λ (z : Types). T (within z)) (sends-gives Γ Δ e (o .request) (u .1) .1) t
-  check-within c (solicitResponse r o e x) Γ Δ t h = let u = next-passed _ _ Δ h in limited-gives (place x (o .reply) Γ) Δ (atRow-passed r _ Δ (u .2)) .1
+      let u = require-yields (permits q output false o) WrongOperation (sends Γ e (o .request)) (atRow-passed r _ Δ h) in
+      subst (λ (z : Types). T (within z)) (sends-yields Γ Δ e (o .request) (u .1) .1) t
+  check-within c (solicitResponse r o e x) Γ Δ t h = let u =
+      next-passed _ _ Δ h in limited-yields (place x (o .reply) Γ) Δ (atRow-passed r _ Δ (u .2)) .1
   check-within c (ifThenElse r e a b) Γ Δ t h =
-    let u = next-passed _ _ Δ h in
-    let v = next-passed _ _ Δ (u .2) in
-    let w = next-passed _ _ Δ (v .2) in
-    subst (λ (z : Types). T (within z)) (agreeing-gives r (w .0) (v .0) Δ (w .2) .1) (check-within c a Γ (v .0) t (v .1))
+      let u = next-passed _ _ Δ h in
+      let v = next-passed _ _ Δ (u .2) in
+      let w = next-passed _ _ Δ (v .2) in
+      subst (λ (z : Types). T (within z)) (agreeing-yields r (w .0) (v .0) Δ (w .2) .1) (check-within c a Γ (v .0) t (v .1))
   check-within c (whileDo r e b) Γ Δ t h =
-    let u = next-passed _ _ Δ h in
-    let v = next-passed _ _ Δ (u .2) in
-    subst (λ (z : Types). T (within z)) (agreeing-gives r (v .0) Γ Δ (v .2) .1) t
+      let u = next-passed _ _ Δ h in
+      let v = next-passed _ _ Δ (u .2) in
+      subst (λ (z : Types). T (within z)) (agreeing-yields r (v .0) Γ Δ (v .2) .1) t
   check-within c (sequence r a b) Γ Δ t h = let u = next-passed _ _ Δ h in check-within c b (u .0) Δ (check-within c a Γ (u .0) t (u .1)) (u .2)
   check-within c (parallel r a b) Γ Δ t h =
-    let z = next-passed _ _ Δ h in let u = next-passed _ _ Δ (z .2) in check-within c b (u .0) Δ (check-within c a Γ (u .0) t (u .1)) (u .2)
+      let z = next-passed _ _ Δ h in let u = next-passed _ _ Δ (z .2) in check-within c b (u .0) Δ (check-within c a Γ (u .0) t (u .1)) (u .2)
   check-within c (assign r x e) Γ Δ t h =
-    let u = andThen-gives (typeOf Γ e) (λ n. limited (assignTo x (rootBasic n) Γ)) (atRow-passed r _ Δ h) in limited-gives (assignTo x (rootBasic (u .0)) Γ) Δ (u .2) .1
+      let u = andThen-yields (typeOf Γ e) (λ n. limited (assignTo x (rootBasic n) Γ)) (atRow-passed r _ Δ h) in limited-yields
+      (assignTo x (rootBasic (u .0)) Γ) Δ (u .2) .1
   check-within c (choice r m) Γ Δ t h = check-within r m Γ Δ t h
   check-within c (branch r a b m) Γ Δ t h =
-    let u = next-passed _ _ Δ h in
-    let w = next-passed _ _ Δ (u .2) in
-    let s = agreeing-gives c (w .0) (u .0) Δ (w .2) in
-    subst (λ (z : Types). T (within z)) (s .0) (check-within c m Γ (w .0) t (w .1))
+      let u = next-passed _ _ Δ h in
+      let w = next-passed _ _ Δ (u .2) in
+      let s = agreeing-yields c (w .0) (u .0) Δ (w .2) in
+      subst (λ (z : Types). T (within z)) (s .0) (check-within c m Γ (w .0) t (w .1))
   check-within c (lastBranch r a b) Γ Δ t h = let u = next-passed _ _ Δ h in check-within c b (u .0) Δ (check-within c a Γ (u .0) t (u .1)) (u .2)
-  check-within c (waiting r o x) Γ Δ t h = placed-gives r (permits q output true o) (place x (o .reply) Γ) Δ h .2
+  check-within c (waiting r o x) Γ Δ t h = placed-yields r (permits q output true o) (place x (o .reply) Γ) Δ h .2
   check-within c (answering r o y d) Γ Δ t h =
-    let u = next-passed _ _ Δ h in
-    let v = next-passed _ _ Δ (u .2) in
-    let s = answers-gives y (v .0) Δ (o .reply) (atRow-passed r _ Δ (v .2)) in
-    subst (λ (z : Types). T (within z)) (s .1) (check-within c d Γ (v .0) t (v .1))
-
+      let u = next-passed _ _ Δ h in
+      let v = next-passed _ _ Δ (u .2) in
+      let s = answers-yields y (v .0) Δ (o .reply) (atRow-passed r _ Δ (v .2)) in
+      subst (λ (z : Types). T (within z)) (s .1) (check-within c d Γ (v .0) t (v .1))

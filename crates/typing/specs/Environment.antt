@@ -6,10 +6,11 @@ use Prim.Native.Nat.{ℕ}
 use lib.Dec.{eqb, leb}
 use Rattle.forest.specs.Forest.{Forest, end, node, tree, Lookup, absent, present, find, nodes, levels}
 use Rattle.forest.specs.Path.{Path, path, readSteps, read, replaceAt}
+use Rattle.refusal.specs.declared.Refusal.the-variants.{PathNotFirm, TypeMisfit}
 use Rattle.scalar.specs.Basic.{void}
 use Rattle.syntax.specs.Syntax.{Mark, mark, Types, MessageType}
 use Rattle.subtyping.specs.Subtype.{isSubtype}
-use Rattle.typing.specs.Answer.{Answer, fails, gives, require}
+use Rattle.typing.specs.Result.{Result, fails, yields, require}
 
 -- "Γ, that union too, has at most 48 nodes and 6 levels below its empty root."
 abbrev pub within : {A : Type 0} → Forest A → Bool
@@ -35,13 +36,13 @@ abbrev pub standsFirm : Path → Types → Bool
 standsFirm (path i p) Γ = firmSteps p (find i Γ)
 
 -- The type found, or 7.
-abbrev pub theType : Lookup Mark → Answer MessageType
-theType absent = fails 7
-theType (present t) = gives t
+abbrev pub theType : Lookup Mark → Result MessageType
+theType absent = fails PathNotFirm
+theType (present t) = yields t
 
 -- "A path expression has the tree there and must stand firm"; 7: "A path is missing or doesn't stand firm where needed."
-abbrev pub readFirm : Path → Types → Answer MessageType
-readFirm x Γ = require (standsFirm x Γ) 7 (theType (read x Γ))
+abbrev pub readFirm : Path → Types → Result MessageType
+readFirm x Γ = require (standsFirm x Γ) PathNotFirm (theType (read x Γ))
 
 -- Every edge above the path's end is mandatory, as far as the path is in Γ. For a path in Γ: "the path above it stands firm".
 -- For another: "the longest part of x in Γ stands firm"; an empty part does.
@@ -72,18 +73,18 @@ noMandatory (node i (mark m b) k r) = not m && noMandatory r
 
 -- Placing T at x, by what stands at x: "if x is in Γ .. T ≤ the type there, Γ stays. Otherwise .. missing steps become
 -- mandatory void nodes, and T goes in as mandatory."
-abbrev pub placeAt : Path → MessageType → Types → Lookup Mark → Answer Types
-placeAt x t Γ (present u) = require (isSubtype t u) 9 (gives Γ)
-placeAt x t Γ absent = gives (replaceAt missingStep x (asMandatory t) Γ)
+abbrev pub placeAt : Path → MessageType → Types → Lookup Mark → Result Types
+placeAt x t Γ (present u) = require (isSubtype t u) TypeMisfit (yields Γ)
+placeAt x t Γ absent = yields (replaceAt missingStep x (asMandatory t) Γ)
 
-abbrev pub place : Path → MessageType → Types → Answer Types
-place x t Γ = require (firmAbove x Γ) 7 (placeAt x t Γ (read x Γ))
+abbrev pub place : Path → MessageType → Types → Result Types
+place x t Γ = require (firmAbove x Γ) PathNotFirm (placeAt x t Γ (read x Γ))
 
 -- "Assigning e places only e's basic type: for an x in Γ, the path above stands firm, the basic types are equal, and x is
 -- mandatory or has no mandatory child (else 7)."
-abbrev pub assignAt : Path → ℕ → Types → Lookup Mark → Answer Types
-assignAt x b Γ (present (tree (mark m c) k)) = require (eqb b c) 9 (require (m || noMandatory k) 7 (gives Γ))
-assignAt x b Γ absent = gives (replaceAt missingStep x (leaf b) Γ)
+abbrev pub assignAt : Path → ℕ → Types → Lookup Mark → Result Types
+assignAt x b Γ (present (tree (mark m c) k)) = require (eqb b c) TypeMisfit (require (m || noMandatory k) PathNotFirm (yields Γ))
+assignAt x b Γ absent = yields (replaceAt missingStep x (leaf b) Γ)
 
-abbrev pub assignTo : Path → ℕ → Types → Answer Types
-assignTo x b Γ = require (firmAbove x Γ) 7 (assignAt x b Γ (read x Γ))
+abbrev pub assignTo : Path → ℕ → Types → Result Types
+assignTo x b Γ = require (firmAbove x Γ) PathNotFirm (assignAt x b Γ (read x Γ))

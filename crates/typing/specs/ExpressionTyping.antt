@@ -6,11 +6,13 @@
 use mathlib.Core.Bool.{Bool, not, _&&_, _||_}
 use Prim.Native.Nat.{ℕ}
 use lib.Dec.{eqb}
+use Rattle.refusal.specs.declared.Refusal.the-variants.{PathNotFirm, OperandType}
 use Rattle.scalar.specs.Basic.{bool, int, double, long, void}
 use Rattle.scalar.specs.Value.{basicOf}
-use Rattle.syntax.specs.Syntax.{Types, MessageType, Unary, logicalNot, negate, Binary, add, subtract, less, equal, logicalAnd, Expression, constant, valueAt, presence, unary, binary}
+use Rattle.syntax.specs.Syntax.{Types, MessageType, Unary, logicalNot, negate, Binary, add, subtract, less, equal, logicalAnd, Expression}
+use Rattle.syntax.specs.Syntax.{constant, valueAt, presence, unary, binary}
 use Rattle.subtyping.specs.Subtype.{rootBasic}
-use Rattle.typing.specs.Answer.{Answer, gives, require, andThen}
+use Rattle.typing.specs.Result.{Result, yields, require, andThen}
 use Rattle.typing.specs.Environment.{isIn, readFirm, leaf}
 
 -- "int, long or double"
@@ -18,20 +20,20 @@ abbrev pub numeric : ℕ → Bool
 numeric b = eqb b int || (eqb b long || eqb b double)
 
 -- An operator's rule over its operands' basic types; 8: "An operand or condition has a wrong basic type."
-abbrev pub unaryType : Unary → ℕ → Answer MessageType
-unaryType logicalNot b = require (eqb b bool) 8 (gives (leaf bool))
-unaryType negate b = require (numeric b) 8 (gives (leaf b))
+abbrev pub unaryType : Unary → ℕ → Result MessageType
+unaryType logicalNot b = require (eqb b bool) OperandType (yields (leaf bool))
+unaryType negate b = require (numeric b) OperandType (yields (leaf b))
 
-abbrev pub binaryType : Binary → ℕ → ℕ → Answer MessageType
-binaryType add b c = require (numeric b && eqb b c) 8 (gives (leaf b))
-binaryType subtract b c = require (numeric b && eqb b c) 8 (gives (leaf b))
-binaryType less b c = require (numeric b && eqb b c) 8 (gives (leaf bool))
-binaryType equal b c = require (not (eqb b void) && eqb b c) 8 (gives (leaf bool))
-binaryType logicalAnd b c = require (eqb b bool && eqb c bool) 8 (gives (leaf bool))
+abbrev pub binaryType : Binary → ℕ → ℕ → Result MessageType
+binaryType add b c = require (numeric b && eqb b c) OperandType (yields (leaf b))
+binaryType subtract b c = require (numeric b && eqb b c) OperandType (yields (leaf b))
+binaryType less b c = require (numeric b && eqb b c) OperandType (yields (leaf bool))
+binaryType equal b c = require (not (eqb b void) && eqb b c) OperandType (yields (leaf bool))
+binaryType logicalAnd b c = require (eqb b bool && eqb c bool) OperandType (yields (leaf bool))
 
-unfoldable pub typeOf : Types → Expression → Answer MessageType
-typeOf Γ (constant v) = gives (leaf (basicOf v))
+unfoldable pub typeOf : Types → Expression → Result MessageType
+typeOf Γ (constant v) = yields (leaf (basicOf v))
 typeOf Γ (valueAt x) = readFirm x Γ
-typeOf Γ (presence x) = require (isIn x Γ) 7 (gives (leaf bool))
+typeOf Γ (presence x) = require (isIn x Γ) PathNotFirm (yields (leaf bool))
 typeOf Γ (unary o e) = andThen (typeOf Γ e) (λ t. unaryType o (rootBasic t))
 typeOf Γ (binary o a b) = andThen (typeOf Γ a) (λ t. andThen (typeOf Γ b) (λ u. binaryType o (rootBasic t) (rootBasic u)))

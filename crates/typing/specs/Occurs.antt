@@ -4,7 +4,9 @@ use mathlib.Core.Bool.{Bool, true, false, not, _&&_, _||_}
 use Prim.Native.Nat.{ℕ}
 use lib.Dec.{T, eqb}
 use Rattle.forest.specs.Path.{Path, rootId}
-use Rattle.syntax.specs.Syntax.{Expression, constant, valueAt, presence, unary, binary, Behaviour, nil, oneWay, requestResponse, notification, solicitResponse, ifThenElse, whileDo, sequence, parallel, assign, choice, branch, lastBranch, waiting, answering}
+use Rattle.syntax.specs.Syntax.{Expression, constant, valueAt, presence, unary, binary, Behaviour, nil, oneWay, requestResponse}
+use Rattle.syntax.specs.Syntax.{notification, solicitResponse, ifThenElse, whileDo, sequence, parallel, assign, choice, branch, lastBranch}
+use Rattle.syntax.specs.Syntax.{waiting, answering}
 
 abbrev pub isRoot : ℕ → Path → Bool
 isRoot i x = eqb i (rootId x)

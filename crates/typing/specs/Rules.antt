@@ -7,9 +7,11 @@ use lib.Dec.{T, eqb}
 use Rattle.forest.specs.Forest.{tree, Lookup, absent, present, RisingTree}
 use Rattle.forest.specs.Path.{Path, read, replaceAt}
 use Rattle.scalar.specs.Basic.{bool}
-use Rattle.syntax.specs.Syntax.{Mark, mark, Types, MessageType, Expression, Direction, input, output, Operation, Behaviour, nil, oneWay, requestResponse, notification, solicitResponse, ifThenElse, whileDo, sequence, parallel, assign, choice, branch, lastBranch, waiting, answering}
+use Rattle.syntax.specs.Syntax.{Mark, mark, Types, MessageType, Expression, Direction, input, output, Operation, Behaviour, nil, oneWay}
+use Rattle.syntax.specs.Syntax.{requestResponse, notification, solicitResponse, ifThenElse, whileDo, sequence, parallel, assign, choice}
+use Rattle.syntax.specs.Syntax.{branch, lastBranch, waiting, answering}
 use Rattle.subtyping.specs.Subtype.{rootBasic, Subtype}
-use Rattle.typing.specs.Answer.{gives}
+use Rattle.typing.specs.Result.{yields}
 use Rattle.typing.specs.Environment.{within, firmAbove, readFirm, missingStep, asMandatory, leaf, noMandatory}
 use Rattle.typing.specs.ExpressionTyping.{typeOf}
 use Rattle.typing.specs.Occurs.{NoSharedRoot}
@@ -49,15 +51,15 @@ Assigned x b Γ Δ = T (firmAbove x Γ) × AssignedAt x b Γ Δ (read x Γ) × T
 
 -- "expression ≤ request type"
 abbrev pub Sends : Types → Expression → MessageType → Type 0
-Sends Γ e t = (n : MessageType) × (typeOf Γ e ≡ gives n) × Subtype n t
+Sends Γ e t = (n : MessageType) × (typeOf Γ e ≡ yields n) × Subtype n t
 
 -- "the reply path stands firm and is ≤ the reply type"
 abbrev pub Answers : Path → Types → MessageType → Type 0
-Answers c Γ t = (n : MessageType) × (readFirm c Γ ≡ gives n) × Subtype n t
+Answers c Γ t = (n : MessageType) × (readFirm c Γ ≡ yields n) × Subtype n t
 
 -- "a bool"; a path's root value counts.
 abbrev pub Condition : Types → Expression → Type 0
-Condition Γ e = (n : MessageType) × (typeOf Γ e ≡ gives n) × (rootBasic n ≡ bool)
+Condition Γ e = (n : MessageType) × (typeOf Γ e ≡ yields n) × (rootBasic n ≡ bool)
 
 unfoldable pub Derives : ℕ → Behaviour → Types → Types → Type 0
 -- nil changes nothing
@@ -80,7 +82,7 @@ Derives q (sequence r a b) Γ Δ = (Γ1 : Types) × Derives q a Γ Γ1 × Derive
 -- "Parallel: no root id (a path's first id) occurs on both sides; left, then right."
 Derives q (parallel r a b) Γ Δ = NoSharedRoot a b × (Γ1 : Types) × Derives q a Γ Γ1 × Derives q b Γ1 Δ
 -- "Assigning e places only e's basic type"
-Derives q (assign r x e) Γ Δ = (n : MessageType) × (typeOf Γ e ≡ gives n) × Assigned x (rootBasic n) Γ Δ
+Derives q (assign r x e) Γ Δ = (n : MessageType) × (typeOf Γ e ≡ yields n) × Assigned x (rootBasic n) Γ Δ
 -- "Choice: all branches give equal Γ." A branch is its input, then what follows, "as in a sequence"; then the other branches.
 Derives q (choice r m) Γ Δ = Derives q m Γ Δ
 Derives q (branch r a b m) Γ Δ = (Γ1 : Types) × Derives q a Γ Γ1 × Derives q b Γ1 Δ × Derives q m Γ Δ

@@ -6,38 +6,40 @@ use Prim.Native.Nat.{ℕ}
 use lib.Dec.{T, eqb}
 use Rattle.forest.specs.Path.{Path}
 use Rattle.scalar.specs.Basic.{bool}
-use Rattle.syntax.specs.Syntax.{Types, MessageType, Expression, input, output, Operation, Behaviour, nil, oneWay, requestResponse, notification, solicitResponse, ifThenElse, whileDo, sequence, parallel, assign, choice, branch, lastBranch, waiting, answering}
+use Rattle.syntax.specs.Syntax.{Types, MessageType, Expression, input, output, Operation, Behaviour, nil, oneWay, requestResponse}
+use Rattle.syntax.specs.Syntax.{notification, solicitResponse, ifThenElse, whileDo, sequence, parallel, assign, choice, branch, lastBranch}
+use Rattle.syntax.specs.Syntax.{waiting, answering}
 use Rattle.subtyping.specs.Subtype.{rootBasic, isSubtype}
-use Rattle.typing.specs.Answer.{gives}
+use Rattle.typing.specs.Result.{yields}
 use Rattle.typing.specs.Environment.{readFirm, place, assignTo}
 use Rattle.typing.specs.ExpressionTyping.{typeOf}
 use Rattle.typing.specs.Occurs.{NoSharedRoot}
 use Rattle.typing.specs.Rules.{permits}
 
 abbrev pub TypedReply : Path → Types → MessageType → Type 0
-TypedReply c Γ t = (n : MessageType) × (readFirm c Γ ≡ gives n) × T (isSubtype n t)
+TypedReply c Γ t = (n : MessageType) × (readFirm c Γ ≡ yields n) × T (isSubtype n t)
 
 abbrev pub TypedSend : Types → Expression → MessageType → Type 0
-TypedSend Γ e t = (n : MessageType) × (typeOf Γ e ≡ gives n) × T (isSubtype n t)
+TypedSend Γ e t = (n : MessageType) × (typeOf Γ e ≡ yields n) × T (isSubtype n t)
 
 abbrev pub TypedCondition : Types → Expression → Type 0
-TypedCondition Γ e = (n : MessageType) × (typeOf Γ e ≡ gives n) × T (eqb (rootBasic n) bool)
+TypedCondition Γ e = (n : MessageType) × (typeOf Γ e ≡ yields n) × T (eqb (rootBasic n) bool)
 
 unfoldable pub Typed : ℕ → Behaviour → Types → Types → Type 0
 Typed q (nil r) Γ Δ = Γ ≡ Δ
-Typed q (oneWay r o x) Γ Δ = T (permits q input false o) × (place x (o .request) Γ ≡ gives Δ)
+Typed q (oneWay r o x) Γ Δ = T (permits q input false o) × (place x (o .request) Γ ≡ yields Δ)
 Typed q (requestResponse r o x c d) Γ Δ =
-    T (permits q input true o) × (Γ1 : Types) × (place x (o .request) Γ ≡ gives Γ1) × Typed q d Γ1 Δ × TypedReply c Δ (o .reply)
+    T (permits q input true o) × (Γ1 : Types) × (place x (o .request) Γ ≡ yields Γ1) × Typed q d Γ1 Δ × TypedReply c Δ (o .reply)
 Typed q (notification r o e) Γ Δ = T (permits q output false o) × TypedSend Γ e (o .request) × (Γ ≡ Δ)
 Typed q (solicitResponse r o e x) Γ Δ =
-    T (permits q output true o) × TypedSend Γ e (o .request) × (place x (o .reply) Γ ≡ gives Δ)
+    T (permits q output true o) × TypedSend Γ e (o .request) × (place x (o .reply) Γ ≡ yields Δ)
 Typed q (ifThenElse r e a b) Γ Δ = TypedCondition Γ e × Typed q a Γ Δ × Typed q b Γ Δ
 Typed q (whileDo r e b) Γ Δ = TypedCondition Γ e × Typed q b Γ Γ × (Γ ≡ Δ)
 Typed q (sequence r a b) Γ Δ = (Γ1 : Types) × Typed q a Γ Γ1 × Typed q b Γ1 Δ
 Typed q (parallel r a b) Γ Δ = NoSharedRoot a b × (Γ1 : Types) × Typed q a Γ Γ1 × Typed q b Γ1 Δ
-Typed q (assign r x e) Γ Δ = (n : MessageType) × (typeOf Γ e ≡ gives n) × (assignTo x (rootBasic n) Γ ≡ gives Δ)
+Typed q (assign r x e) Γ Δ = (n : MessageType) × (typeOf Γ e ≡ yields n) × (assignTo x (rootBasic n) Γ ≡ yields Δ)
 Typed q (choice r m) Γ Δ = Typed q m Γ Δ
 Typed q (branch r a b m) Γ Δ = (Γ1 : Types) × Typed q a Γ Γ1 × Typed q b Γ1 Δ × Typed q m Γ Δ
 Typed q (lastBranch r a b) Γ Δ = (Γ1 : Types) × Typed q a Γ Γ1 × Typed q b Γ1 Δ
-Typed q (waiting r o x) Γ Δ = T (permits q output true o) × (place x (o .reply) Γ ≡ gives Δ)
+Typed q (waiting r o x) Γ Δ = T (permits q output true o) × (place x (o .reply) Γ ≡ yields Δ)
 Typed q (answering r o c d) Γ Δ = T (permits q input true o) × Typed q d Γ Δ × TypedReply c Δ (o .reply)

@@ -1,13 +1,13 @@
 -- Laws of numbers in bytes, so that callers need not look at bytes: what is stored is read back (`same`), what lies apart is
 -- kept (`other`), a store keeps the length, and a lent part agrees with the whole.
-use Prim.Native.Nat.{ℕ, zero, suc, _+_, _-_, _*_, _/_, _%_, _≤_, _<_}
+use Prim.Native.Nat.{ℕ, _+_, _-_, _/_, _%_, _≤_, _<_}
 use native.Mathlib.Omega.{arith}
-use native.Mathlib.Nat.{add-zero, zero-add, suc-add}
+use native.Mathlib.Nat.{add-zero}
 use mathlib.Core.Logic.{_⊎_, inl, inr, ⊎-elim}
 use mathlib.Core.Path.{_≡_, refl, sym, _∙_, ap}
-use mathlib.Core.List.{List, [], _∷_, _++_, append-assoc}
-use lib.ListN.{getD, set, length, take, drop, length-set, length-append, length-take, length-drop, take-append-drop, List·getD-eq-default, List·getD-append}
-use lib.Seq.{getD-set-same, getD-set-other, getD-take, getD-drop, getD-append-add, set-append-left, drop-set-add, drop-set-lt, take-set-le, take-set-lt, drop-drop, length-take-le}
+use mathlib.Core.List.{List, _++_}
+use lib.ListN.{set, length, take, drop, length-set, length-append, length-take, length-drop, take-append-drop, List·getD-eq-default, List·getD-append}
+use lib.Seq.{getD-set-same, getD-set-other, getD-take, getD-drop, getD-append-add, drop-set-add, drop-set-lt, take-set-le, take-set-lt, drop-drop, length-take-le}
 use Rattle.wire.specs.Wire.{byteAt, u16At, u32At, u64At, putU16, putU32, putU64, part, withPart}
 
 -- The n bytes at k and the m bytes at `at` have none in common.

@@ -5,10 +5,6 @@ use mir.Syntax.{w32}
 use borrow.Author.Needs.{needs}
 use Rattle.integer.proofs.int_add.Statement.{statement}
 use Rattle.integer.proofs.int_add.Tie as tie
-use Rattle.integer.proofs.int_add.Reads as reads
-use Rattle.integer.proofs.int_add.Lts as lts
-use Rattle.integer.proofs.int_bits.Reads as int-bits-reads
-use Rattle.integer.proofs.int_of.Reads as int-of-reads
 
 int-bits-requires : tie.Need-int-bits-requires
 int-bits-requires c κs = search needs

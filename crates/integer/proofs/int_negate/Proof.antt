@@ -4,9 +4,6 @@ use mir.Syntax.{w32}
 use borrow.Author.Needs.{needs}
 use Rattle.integer.proofs.int_negate.Statement.{statement}
 use Rattle.integer.proofs.int_negate.Tie as tie
-use Rattle.integer.proofs.int_negate.Reads as reads
-use Rattle.integer.proofs.int_negate.Lts as lts
-use Rattle.integer.proofs.int_subtract.Reads as int-subtract-reads
 
 int-subtract-requires : tie.Need-int-subtract-requires
 int-subtract-requires c κs = search needs

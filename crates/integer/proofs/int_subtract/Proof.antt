@@ -5,11 +5,6 @@ use mir.Syntax.{w32}
 use borrow.Author.Needs.{needs}
 use Rattle.integer.proofs.int_subtract.Statement.{statement}
 use Rattle.integer.proofs.int_subtract.Tie as tie
-use Rattle.integer.proofs.int_subtract.Reads as reads
-use Rattle.integer.proofs.int_subtract.Lts as lts
-use Rattle.integer.proofs.int_bits.Reads as int-bits-reads
-use Rattle.integer.proofs.int_of.Reads as int-of-reads
-use Rattle.integer.proofs.sub_u32.Reads as sub-u32-reads
 
 int-bits-requires : tie.Need-int-bits-requires
 int-bits-requires c κs = search needs

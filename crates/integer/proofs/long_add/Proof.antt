@@ -5,10 +5,6 @@ use mir.Syntax.{w64}
 use borrow.Author.Needs.{needs}
 use Rattle.integer.proofs.long_add.Statement.{statement}
 use Rattle.integer.proofs.long_add.Tie as tie
-use Rattle.integer.proofs.long_add.Reads as reads
-use Rattle.integer.proofs.long_add.Lts as lts
-use Rattle.integer.proofs.long_bits.Reads as long-bits-reads
-use Rattle.integer.proofs.long_of.Reads as long-of-reads
 
 long-bits-requires : tie.Need-long-bits-requires
 long-bits-requires c κs = search needs

@@ -4,9 +4,6 @@ use mir.Syntax.{w64}
 use borrow.Author.Needs.{needs}
 use Rattle.integer.proofs.long_negate.Statement.{statement}
 use Rattle.integer.proofs.long_negate.Tie as tie
-use Rattle.integer.proofs.long_negate.Reads as reads
-use Rattle.integer.proofs.long_negate.Lts as lts
-use Rattle.integer.proofs.long_subtract.Reads as long-subtract-reads
 
 long-subtract-requires : tie.Need-long-subtract-requires
 long-subtract-requires c κs = search needs

@@ -5,11 +5,6 @@ use mir.Syntax.{w64}
 use borrow.Author.Needs.{needs}
 use Rattle.integer.proofs.long_subtract.Statement.{statement}
 use Rattle.integer.proofs.long_subtract.Tie as tie
-use Rattle.integer.proofs.long_subtract.Reads as reads
-use Rattle.integer.proofs.long_subtract.Lts as lts
-use Rattle.integer.proofs.long_bits.Reads as long-bits-reads
-use Rattle.integer.proofs.long_of.Reads as long-of-reads
-use Rattle.integer.proofs.sub_u64.Reads as sub-u64-reads
 
 long-bits-requires : tie.Need-long-bits-requires
 long-bits-requires c κs = search needs

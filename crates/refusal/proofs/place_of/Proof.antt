@@ -1,191 +1,142 @@
 use borrow.Author.Needs.{needs}
 use Rattle.refusal.proofs.place_of.Statement.{statement}
 use Rattle.refusal.proofs.place_of.Tie as tie
-use Rattle.refusal.proofs.place_of.Reads as reads
-use Rattle.refusal.proofs.place_of.Lts as lts
-use Rattle.refusal.proofs.row_place.Reads as row-place-reads
 
--- src/lib.rt:92:30
 enum-known-why : tie.Need-enum-known-why
 enum-known-why c = search needs
 
--- src/lib.rt:93:27
 enum-known-why-2 : tie.Need-enum-known-why-2
 enum-known-why-2 c = search needs
 
--- src/lib.rt:94:33
 enum-known-why-3 : tie.Need-enum-known-why-3
 enum-known-why-3 c = search needs
 
--- src/lib.rt:94:41
 row-place-requires : tie.Need-row-place-requires
 row-place-requires c κs = search needs
 
--- src/lib.rt:95:30
 enum-known-why-4 : tie.Need-enum-known-why-4
 enum-known-why-4 c = search needs
 
--- src/lib.rt:95:38
 row-place-requires-2 : tie.Need-row-place-requires-2
 row-place-requires-2 c κs = search needs
 
--- src/lib.rt:96:30
 enum-known-why-5 : tie.Need-enum-known-why-5
 enum-known-why-5 c = search needs
 
--- src/lib.rt:96:38
 row-place-requires-3 : tie.Need-row-place-requires-3
 row-place-requires-3 c κs = search needs
 
--- src/lib.rt:97:29
 enum-known-why-6 : tie.Need-enum-known-why-6
 enum-known-why-6 c = search needs
 
--- src/lib.rt:97:37
 row-place-requires-4 : tie.Need-row-place-requires-4
 row-place-requires-4 c κs = search needs
 
--- src/lib.rt:98:37
 enum-known-why-7 : tie.Need-enum-known-why-7
 enum-known-why-7 c = search needs
 
--- src/lib.rt:98:45
 row-place-requires-5 : tie.Need-row-place-requires-5
 row-place-requires-5 c κs = search needs
 
--- src/lib.rt:99:29
 enum-known-why-8 : tie.Need-enum-known-why-8
 enum-known-why-8 c = search needs
 
--- src/lib.rt:99:37
 row-place-requires-6 : tie.Need-row-place-requires-6
 row-place-requires-6 c κs = search needs
 
--- src/lib.rt:100:38
 enum-known-why-9 : tie.Need-enum-known-why-9
 enum-known-why-9 c = search needs
 
--- src/lib.rt:100:46
 row-place-requires-7 : tie.Need-row-place-requires-7
 row-place-requires-7 c κs = search needs
 
--- src/lib.rt:101:33
 enum-known-why-10 : tie.Need-enum-known-why-10
 enum-known-why-10 c = search needs
 
--- src/lib.rt:101:41
 row-place-requires-8 : tie.Need-row-place-requires-8
 row-place-requires-8 c κs = search needs
 
--- src/lib.rt:102:32
 enum-told : tie.Need-enum-told
 enum-told c = search needs
 
--- src/lib.rt:103:32
 enum-told-2 : tie.Need-enum-told-2
 enum-told-2 c = search needs
 
--- src/lib.rt:104:34
 enum-told-3 : tie.Need-enum-told-3
 enum-told-3 c = search needs
 
--- src/lib.rt:105:29
 enum-told-4 : tie.Need-enum-told-4
 enum-told-4 c = search needs
 
--- src/lib.rt:106:36
 enum-told-5 : tie.Need-enum-told-5
 enum-told-5 c = search needs
 
--- src/lib.rt:107:31
 enum-told-6 : tie.Need-enum-told-6
 enum-told-6 c = search needs
 
--- src/lib.rt:108:31
 enum-told-7 : tie.Need-enum-told-7
 enum-told-7 c = search needs
 
--- src/lib.rt:109:27
 enum-told-8 : tie.Need-enum-told-8
 enum-told-8 c = search needs
 
--- src/lib.rt:110:35
 enum-told-9 : tie.Need-enum-told-9
 enum-told-9 c = search needs
 
--- src/lib.rt:88:1
 returns : tie.Need-returns
 returns c = rw (c .before .why .given .1)
 
--- src/lib.rt:88:1
 returns-2 : tie.Need-returns-2
 returns-2 c = rw (c .before .why2 .given .1)
 
--- src/lib.rt:88:1
 returns-3 : tie.Need-returns-3
 returns-3 c = rw (c .before .before .why3 .given .1) (c .row-place .ensures)
 
--- src/lib.rt:88:1
 returns-4 : tie.Need-returns-4
 returns-4 c = rw (c .before .before .why4 .given .1) (c .row-place2 .ensures)
 
--- src/lib.rt:88:1
 returns-5 : tie.Need-returns-5
 returns-5 c = rw (c .before .before .why5 .given .1) (c .row-place3 .ensures)
 
--- src/lib.rt:88:1
 returns-6 : tie.Need-returns-6
 returns-6 c = rw (c .before .before .why6 .given .1) (c .row-place4 .ensures)
 
--- src/lib.rt:88:1
 returns-7 : tie.Need-returns-7
 returns-7 c = rw (c .before .before .why7 .given .1) (c .row-place5 .ensures)
 
--- src/lib.rt:88:1
 returns-8 : tie.Need-returns-8
 returns-8 c = rw (c .before .before .why8 .given .1) (c .row-place6 .ensures)
 
--- src/lib.rt:88:1
 returns-9 : tie.Need-returns-9
 returns-9 c = rw (c .before .before .why9 .given .1) (c .row-place7 .ensures)
 
--- src/lib.rt:88:1
 returns-10 : tie.Need-returns-10
 returns-10 c = rw (c .before .before .why10 .given .1) (c .row-place8 .ensures)
 
--- src/lib.rt:88:1
 returns-11 : tie.Need-returns-11
 returns-11 c = rw (c .enum-told .given .1)
 
--- src/lib.rt:88:1
 returns-12 : tie.Need-returns-12
 returns-12 c = rw (c .enum-told2 .given .1)
 
--- src/lib.rt:88:1
 returns-13 : tie.Need-returns-13
 returns-13 c = rw (c .enum-told3 .given .1)
 
--- src/lib.rt:88:1
 returns-14 : tie.Need-returns-14
 returns-14 c = rw (c .enum-told4 .given .1)
 
--- src/lib.rt:88:1
 returns-15 : tie.Need-returns-15
 returns-15 c = rw (c .enum-told5 .given .1)
 
--- src/lib.rt:88:1
 returns-16 : tie.Need-returns-16
 returns-16 c = rw (c .enum-told6 .given .1)
 
--- src/lib.rt:88:1
 returns-17 : tie.Need-returns-17
 returns-17 c = rw (c .enum-told7 .given .1)
 
--- src/lib.rt:88:1
 returns-18 : tie.Need-returns-18
 returns-18 c = rw (c .enum-told8 .given .1)
 
--- src/lib.rt:88:1
 returns-19 : tie.Need-returns-19
 returns-19 c = rw (c .enum-told9 .given .1)
 

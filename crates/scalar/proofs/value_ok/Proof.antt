@@ -3,56 +3,40 @@ use Rattle.scalar.specs.ValueLaws.{bool-value, bool-long, int-value, dou
 use borrow.Author.Needs.{needs}
 use Rattle.scalar.proofs.value_ok.Statement.{statement}
 use Rattle.scalar.proofs.value_ok.Tie as tie
-use Rattle.scalar.proofs.value_ok.Reads as reads
-use Rattle.scalar.proofs.value_ok.Lts as lts
-use Rattle.wire.proofs.byte_at.Reads as byte-at-reads
-use Rattle.wire.proofs.u64_at.Reads as u64-at-reads
 
--- src/lib.rt:15:24
 byte-at-requires : tie.Need-byte-at-requires
 byte-at-requires c κs = search needs
 
--- src/lib.rt:15:17
 returns : tie.Need-returns
 returns c = let a = c .before .before .before .before in bool-value (a .args .s .now) (a .args .at) (a .args .basic) (a .args .len) (a .pre) _ (c .before .before .match .keys1) (c .before .if1 .taken) (c .byte-at .ensures)
 
--- src/lib.rt:22:21
 u64-at-requires : tie.Need-u64-at-requires
 u64-at-requires c κs = search needs
 
--- src/lib.rt:24:21
 returns-2 : tie.Need-returns-2
 returns-2 c = let a = c .before .before .before .before .before in double-plain (a .args .s .now) (a .args .at) (a .args .basic) (a .args .len) (a .pre) _ (c .before .before .before .match .keys3) (c .before .before .if2 .taken) (c .before .u64-at .ensures) (c .if3 .taken)
 
--- src/lib.rt:26:17
 returns-3 : tie.Need-returns-3
 returns-3 c = let a = c .before .before .before .before .before in double-nan (a .args .s .now) (a .args .at) (a .args .basic) (a .args .len) (a .pre) _ (c .before .before .before .match .keys3) (c .before .before .if2 .taken) (c .before .u64-at .ensures) (c .if3 .left)
 
--- src/lib.rt:8:1
 returns-4 : tie.Need-returns-4
 returns-4 c = let a = c .before .before .before in bool-long (a .args .s .now) (a .args .at) (a .args .basic) (a .args .len) (a .pre) (c .before .match .keys1) (c .if1 .left)
 
--- src/lib.rt:8:1
 returns-5 : tie.Need-returns-5
 returns-5 c = let a = c .before .before in int-value (a .args .s .now) (a .args .at) (a .args .basic) (a .args .len) (a .pre) (c .match .keys2)
 
--- src/lib.rt:8:1
 returns-6 : tie.Need-returns-6
 returns-6 c = let a = c .before .before .before in double-long (a .args .s .now) (a .args .at) (a .args .basic) (a .args .len) (a .pre) (c .before .match .keys3) (c .if2 .left)
 
--- src/lib.rt:8:1
 returns-7 : tie.Need-returns-7
 returns-7 c = let a = c .before .before in long-value (a .args .s .now) (a .args .at) (a .args .basic) (a .args .len) (a .pre) (c .match .keys4)
 
--- src/lib.rt:8:1
 returns-8 : tie.Need-returns-8
 returns-8 c = let a = c .before .before in void-value (a .args .s .now) (a .args .at) (a .args .basic) (a .args .len) (a .pre) (c .match .keys5)
 
--- src/lib.rt:8:1
 returns-9 : tie.Need-returns-9
 returns-9 c = let a = c .before .before .before in text-value (a .args .s .now) (a .args .at) (a .args .basic) (a .args .len) (a .pre) (omega arith) (omega arith)
 
--- src/lib.rt:8:1
 returns-10 : tie.Need-returns-10
 returns-10 c = let a = c .before .before .before in no-value (a .args .s .now) (a .args .at) (a .args .basic) (a .args .len) (a .pre) (omega arith)
 

@@ -1,37 +1,28 @@
 use lib.ListN.{length-set}
-use Rattle.wire.specs.Wire.{u16At, u32At, u64At, putU16, putU32, putU64}
+use Rattle.wire.specs.Wire.{putU16}
 use native.Mathlib.Omega.{arith}
 use borrow.Author.Needs.{needs}
 use Rattle.wire.proofs.put_u16.Statement.{statement}
 use Rattle.wire.proofs.put_u16.Tie as tie
-use Rattle.wire.proofs.put_u16.Reads as reads
-use Rattle.wire.proofs.put_u16.Lts as lts
 
--- src/lib.rt:85:13
 cast-s : tie.Need-cast-s
 cast-s c = search needs
 
--- src/lib.rt:85:5
 slice-write-s : tie.Need-slice-write-s
 slice-write-s c = search needs
 
--- src/lib.rt:86:17
 cast-s-2 : tie.Need-cast-s-2
 cast-s-2 c = search needs
 
--- src/lib.rt:86:7
 add-s : tie.Need-add-s
 add-s c = search needs
 
--- src/lib.rt:86:5
 slice-write-s-2 : tie.Need-slice-write-s-2
 slice-write-s-2 c = simp length-set (omega arith)
 
--- src/lib.rt:81:1
 same-length : tie.Need-same-length
 same-length c = search needs
 
--- src/lib.rt:81:1
 returns : tie.Need-returns
 unfolding putU16
 returns c = search needs

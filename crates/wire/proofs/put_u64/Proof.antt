@@ -1,36 +1,26 @@
-use Rattle.wire.specs.Wire.{u16At, u32At, u64At, putU16, putU32, putU64}
+use Rattle.wire.specs.Wire.{putU64}
 use borrow.Author.Needs.{needs}
 use Rattle.wire.proofs.put_u64.Statement.{statement}
 use Rattle.wire.proofs.put_u64.Tie as tie
-use Rattle.wire.proofs.put_u64.Reads as reads
-use Rattle.wire.proofs.put_u64.Lts as lts
-use Rattle.wire.proofs.put_u32.Reads as put-u32-reads
 
--- src/lib.rt:101:20
 cast-put-u32 : tie.Need-cast-put-u32
 cast-put-u32 c = search needs
 
--- src/lib.rt:101:5
 put-u32-requires : tie.Need-put-u32-requires
 put-u32-requires c κs = search needs
 
--- src/lib.rt:102:16
 add-put-u32 : tie.Need-add-put-u32
 add-put-u32 c = search needs
 
--- src/lib.rt:102:24
 cast-put-u32-2 : tie.Need-cast-put-u32-2
 cast-put-u32-2 c = search needs
 
--- src/lib.rt:102:5
 put-u32-requires-2 : tie.Need-put-u32-requires-2
 put-u32-requires-2 c κs = search needs
 
--- src/lib.rt:97:1
 same-length : tie.Need-same-length
 same-length c = search needs
 
--- src/lib.rt:97:1
 returns : tie.Need-returns
 unfolding putU64
 returns c = cc

@@ -1,47 +1,34 @@
 use mathlib.Core.Path.{sym}
-use Rattle.wire.specs.Wire.{u16At, u32At, u64At, putU16, putU32, putU64}
+use Rattle.wire.specs.Wire.{u16At}
 use Rattle.wire.specs.WireLaws.{u16-past}
 use borrow.Author.Needs.{needs}
 use Rattle.wire.proofs.u16_at.Statement.{statement}
 use Rattle.wire.proofs.u16_at.Tie as tie
-use Rattle.wire.proofs.u16_at.Reads as reads
-use Rattle.wire.proofs.u16_at.Lts as lts
-use Rattle.wire.proofs.byte_at.Reads as byte-at-reads
-use Rattle.wire.proofs.byte_to_u16.Reads as byte-to-u16-reads
 
--- src/lib.rt:50:9
 returns : tie.Need-returns
 returns c = sym (u16-past (c .before .before .args .s .now) (c .before .before .args .at) (search needs))
 
--- src/lib.rt:52:17
 byte-at-requires : tie.Need-byte-at-requires
 byte-at-requires c κs = search needs
 
--- src/lib.rt:52:5
 byte-to-u16-requires : tie.Need-byte-to-u16-requires
 byte-to-u16-requires c κs = search needs
 
--- src/lib.rt:52:64
 add-byte-at : tie.Need-add-byte-at
 add-byte-at c = search needs
 
--- src/lib.rt:52:53
 byte-at-requires-2 : tie.Need-byte-at-requires-2
 byte-at-requires-2 c κs = search needs
 
--- src/lib.rt:52:41
 byte-to-u16-requires-2 : tie.Need-byte-to-u16-requires-2
 byte-to-u16-requires-2 c κs = search needs
 
--- src/lib.rt:52:35
 mul-result : tie.Need-mul-result
 mul-result c = search needs
 
--- src/lib.rt:52:5
 add-result : tie.Need-add-result
 add-result c = search needs
 
--- src/lib.rt:46:1
 returns-2 : tie.Need-returns-2
 unfolding u16At
 returns-2 c = search needs

@@ -1,0 +1,290 @@
+-- What each way out of an operator's code gives is what the operator's definition gives.
+use Prim.Native.Nat.{ℕ}
+use mathlib.Core.Path.{_≡_, refl, sym, ap, _∙_, subst}
+use mathlib.Core.Bool.{true, false, not, _&&_, Bool·beq}
+use mathlib.Core.Bool as B
+use mathlib.Core.List.{List, [], _∷_}
+use lib.IntN.{ℤ, negℤ, _+ℤ_, _-ℤ_}
+use lib.Signed.{ltZ}
+use lib.Dec.{T, eqb}
+use lib.Ieee.{Float, binary64, fits}
+use lib.Ieee as Ieee
+use types.Run.{OneOf, miss}
+use denote.Enum.Declared.{tagOf}
+use borrow.Author.Tests.{ne-eqb}
+use mir.Syntax.{w32, w64}
+use mir.Val.{SFits, ofZ}
+use Rattle.integer.specs.Wrap.{wrap}
+use Rattle.scalar.specs.declared.Scalar.{Scalar}
+use Rattle.scalar.specs.declared.Scalar.the-variants.{Bool, Int, Double, Long, String, Raw, Void}
+use Rattle.scalar.specs.declared.Pair.{Pair}
+use Rattle.scalar.specs.declared.Pair.the-variants.{Bools, Ints, Doubles, Longs, Strings, Raws, Voids, Unlike}
+use Rattle.scalar.specs.declared.Operand.{Operand}
+use Rattle.scalar.specs.declared.Computed.the-variants.{Wrong, Gives}
+use Rattle.scalar.specs.Basic.{string, raw}
+use Rattle.scalar.specs.Value.{Value, value, basicOf, number}
+use Rattle.scalar.specs.Operator.{Answer, wrong, gives, ofBool, ofInt, ofLong, ofDouble, boolOf, bit, sameBytes, alike, Numeric, numericBy, adding, subtracting, comparing, equalBy, andBy, notOf, negateOf, andOf, addOf, subtractOf, lessOf, equalOf}
+use Rattle.scalar.specs.NumberLaws.{exact, wrapped-wrap, double-back}
+use Rattle.scalar.specs.Scalar.{valueBeside, beside, valueOf, answerOf, kindOf, AsPair}
+use Rattle.scalar.proofs.Same.{same-wrapped, same-bit}
+use Rattle.scalar.proofs.Scalar as S
+use Rattle.scalar.proofs.Pair as P
+
+-- ---- the kind of a scalar is its tag and its value's basic type
+
+tag-kind : (x : Scalar) → tagOf S.the-type x ≡ kindOf x
+tag-kind (Bool b) = refl
+tag-kind (Int z) = refl
+tag-kind (Double x) = refl
+tag-kind (Long z) = refl
+tag-kind String = refl
+tag-kind Raw = refl
+tag-kind Void = refl
+
+basic-kind : (x : Scalar) (t : List ℕ) → basicOf (valueBeside x t) ≡ kindOf x
+basic-kind (Bool b) t = refl
+basic-kind (Int z) t = refl
+basic-kind (Double x) t = refl
+basic-kind (Long z) t = refl
+basic-kind String t = refl
+basic-kind Raw t = refl
+basic-kind Void t = refl
+
+-- The arm of `paired` where the second scalar is of none of the kinds that the first is of.
+pub kinds-differ : (k : ℕ) (ks : List ℕ) (x y : Scalar) → (OneOf ks k → ⊥) → kindOf x ≡ k → OneOf ks (tagOf S.the-type y) → eqb (kindOf x) (kindOf y) ≡ false
+kinds-differ k ks x y n e h = ne-eqb (kindOf x) (kindOf y) (λ q. n (subst (OneOf ks) (tag-kind y ∙ sym q ∙ e) h))
+
+-- ---- the value of an operand whose scalar is known
+
+module _ (a : Operand) where
+  value-is : {x : Scalar} → a .scalar ≡ x → valueOf a ≡ valueBeside x (beside a)
+  unfolding valueOf
+  value-is e = ap (λ (x : Scalar). valueBeside x (beside a)) e
+
+-- ---- one operand
+
+pub not-bool : (a : Operand) {p : B.Bool} → a .scalar ≡ Bool p → answerOf (Gives (Bool (not p))) ≡ notOf (valueOf a)
+unfolding answerOf notOf number
+not-bool a {p = true} e = rw (value-is a e) refl
+not-bool a {p = false} e = rw (value-is a e) refl
+
+not-other-by : (x : Scalar) (t : List ℕ) → OneOf (1 ∷ 2 ∷ 3 ∷ 4 ∷ 5 ∷ 6 ∷ []) (tagOf S.the-type x) → wrong ≡ notOf (valueBeside x t)
+unfolding notOf
+not-other-by (Bool b) t h = absurd (miss (1 ∷ 2 ∷ 3 ∷ 4 ∷ 5 ∷ 6 ∷ []) 0 tt h)
+not-other-by (Int z) t h = refl
+not-other-by (Double x) t h = refl
+not-other-by (Long z) t h = refl
+not-other-by String t h = refl
+not-other-by Raw t h = refl
+not-other-by Void t h = refl
+
+pub not-other : (a : Operand) → OneOf (1 ∷ 2 ∷ 3 ∷ 4 ∷ 5 ∷ 6 ∷ []) (tagOf S.the-type (a .scalar)) → answerOf Wrong ≡ notOf (valueOf a)
+unfolding answerOf valueOf
+not-other a h = not-other-by (a .scalar) (beside a) h
+
+pub negate-int : (a : Operand) {p r : ℤ} → a .scalar ≡ Int p → SFits w32 p → r ≡ wrap w32 (negℤ p) → answerOf (Gives (Int r)) ≡ negateOf (valueOf a)
+unfolding answerOf negateOf
+negate-int a {p} e f q = rw (value-is a e, exact w32 p f, q, wrapped-wrap w32 (negℤ p)) refl
+
+pub negate-long : (a : Operand) {p r : ℤ} → a .scalar ≡ Long p → SFits w64 p → r ≡ wrap w64 (negℤ p) → answerOf (Gives (Long r)) ≡ negateOf (valueOf a)
+unfolding answerOf negateOf
+negate-long a {p} e f q = rw (value-is a e, exact w64 p f, q, wrapped-wrap w64 (negℤ p)) refl
+
+pub negate-double : (a : Operand) {p : Float} → a .scalar ≡ Double p → T (fits binary64 p) → answerOf (Gives (Double (Ieee.neg p))) ≡ negateOf (valueOf a)
+unfolding answerOf negateOf
+negate-double a {p} e f = rw (value-is a e, double-back p f) refl
+
+negate-other-by : (x : Scalar) (t : List ℕ) → OneOf (0 ∷ 4 ∷ 5 ∷ 6 ∷ []) (tagOf S.the-type x) → wrong ≡ negateOf (valueBeside x t)
+unfolding negateOf
+negate-other-by (Bool b) t h = refl
+negate-other-by (Int z) t h = absurd (miss (0 ∷ 4 ∷ 5 ∷ 6 ∷ []) 1 tt h)
+negate-other-by (Double x) t h = absurd (miss (0 ∷ 4 ∷ 5 ∷ 6 ∷ []) 2 tt h)
+negate-other-by (Long z) t h = absurd (miss (0 ∷ 4 ∷ 5 ∷ 6 ∷ []) 3 tt h)
+negate-other-by String t h = refl
+negate-other-by Raw t h = refl
+negate-other-by Void t h = refl
+
+pub negate-other : (a : Operand) → OneOf (0 ∷ 4 ∷ 5 ∷ 6 ∷ []) (tagOf S.the-type (a .scalar)) → answerOf Wrong ≡ negateOf (valueOf a)
+unfolding answerOf valueOf
+negate-other a h = negate-other-by (a .scalar) (beside a) h
+
+-- ---- two operands: the values of a pair
+
+module _ (a b : Operand) (m : Pair) (h : AsPair (a .scalar) (b .scalar) m) where
+  -- both are of one kind
+  pub bools : {p q : B.Bool} → m ≡ Bools p q → (valueOf a ≡ ofBool p) × (valueOf b ≡ ofBool q)
+  bools e = let k = subst (AsPair (a .scalar) (b .scalar)) e h in (value-is a (k .0), value-is b (k .1))
+
+  pub ints : {p q : ℤ} → m ≡ Ints p q → (valueOf a ≡ ofInt p) × (valueOf b ≡ ofInt q)
+  ints e = let k = subst (AsPair (a .scalar) (b .scalar)) e h in (value-is a (k .0), value-is b (k .1))
+
+  pub longs : {p q : ℤ} → m ≡ Longs p q → (valueOf a ≡ ofLong p) × (valueOf b ≡ ofLong q)
+  longs e = let k = subst (AsPair (a .scalar) (b .scalar)) e h in (value-is a (k .0), value-is b (k .1))
+
+  pub doubles : {p q : Float} → m ≡ Doubles p q → (valueOf a ≡ ofDouble p) × (valueOf b ≡ ofDouble q)
+  doubles e = let k = subst (AsPair (a .scalar) (b .scalar)) e h in (value-is a (k .0), value-is b (k .1))
+
+  pub strings : m ≡ Strings → (valueOf a ≡ value string (beside a)) × (valueOf b ≡ value string (beside b))
+  strings e = let k = subst (AsPair (a .scalar) (b .scalar)) e h in (value-is a (k .0), value-is b (k .1))
+
+  pub raws : m ≡ Raws → (valueOf a ≡ value raw (beside a)) × (valueOf b ≡ value raw (beside b))
+  raws e = let k = subst (AsPair (a .scalar) (b .scalar)) e h in (value-is a (k .0), value-is b (k .1))
+
+-- values of two kinds
+alike-differ : (f : ℕ → List ℕ → List ℕ → Answer) (x y : Value) → eqb (basicOf x) (basicOf y) ≡ false → wrong ≡ alike f x y
+alike-differ f (value b v) (value c w) e = rw e refl
+
+unlike : (f : ℕ → List ℕ → List ℕ → Answer) (x y : Scalar) (s t : List ℕ) → eqb (kindOf x) (kindOf y) ≡ false → wrong ≡ alike f (valueBeside x s) (valueBeside y t)
+unlike f x y s t e = alike-differ f (valueBeside x s) (valueBeside y t) (rw (basic-kind x s, basic-kind y t) e)
+
+-- ---- add, subtract, less
+
+module _ (o : Numeric) (a b : Operand) (m : Pair) (h : AsPair (a .scalar) (b .scalar) m) where
+  on-ints : {p q : ℤ} → m ≡ Ints p q → SFits w32 p → SFits w32 q → gives (o .ints p q) ≡ alike (numericBy o) (valueOf a) (valueOf b)
+  on-ints {p} {q} e f g = let k = ints a b m h e in rw (k .0, k .1, exact w32 p f, exact w32 q g) refl
+
+  on-longs : {p q : ℤ} → m ≡ Longs p q → SFits w64 p → SFits w64 q → gives (o .longs p q) ≡ alike (numericBy o) (valueOf a) (valueOf b)
+  on-longs {p} {q} e f g = let k = longs a b m h e in rw (k .0, k .1, exact w64 p f, exact w64 q g) refl
+
+  on-doubles : {p q : Float} → m ≡ Doubles p q → T (fits binary64 p) → T (fits binary64 q) → gives (o .doubles p q) ≡ alike (numericBy o) (valueOf a) (valueOf b)
+  on-doubles {p} {q} e f g = let k = doubles a b m h e in rw (k .0, k .1, double-back p f, double-back q g) refl
+
+abbrev NoNumbers : List ℕ
+NoNumbers = 0 ∷ 4 ∷ 5 ∷ 6 ∷ 7 ∷ []
+
+no-numbers-by : (o : Numeric) (x y : Scalar) (s t : List ℕ) (m : Pair) → AsPair x y m → OneOf NoNumbers (tagOf P.the-type m) → wrong ≡ alike (numericBy o) (valueBeside x s) (valueBeside y t)
+no-numbers-by o x y s t (Bools p q) h k = rw (h .0, h .1) refl
+no-numbers-by o x y s t (Ints p q) h k = absurd (miss NoNumbers 1 tt k)
+no-numbers-by o x y s t (Doubles p q) h k = absurd (miss NoNumbers 2 tt k)
+no-numbers-by o x y s t (Longs p q) h k = absurd (miss NoNumbers 3 tt k)
+no-numbers-by o x y s t Strings h k = rw (h .0, h .1) refl
+no-numbers-by o x y s t Raws h k = rw (h .0, h .1) refl
+no-numbers-by o x y s t Voids h k = rw (h .0, h .1) refl
+no-numbers-by o x y s t Unlike h k = unlike (numericBy o) x y s t h
+
+module _ (a b : Operand) (m : Pair) (h : AsPair (a .scalar) (b .scalar) m) where
+  no-numbers : (o : Numeric) → OneOf NoNumbers (tagOf P.the-type m) → wrong ≡ alike (numericBy o) (valueOf a) (valueOf b)
+  unfolding valueOf
+  no-numbers o k = no-numbers-by o (a .scalar) (b .scalar) (beside a) (beside b) m h k
+
+  pub add-ints : {p q r : ℤ} → m ≡ Ints p q → SFits w32 p → SFits w32 q → r ≡ wrap w32 (p +ℤ q) → answerOf (Gives (Int r)) ≡ addOf (valueOf a) (valueOf b)
+  unfolding answerOf addOf
+  add-ints {p} {q} e f g k = rw (k, wrapped-wrap w32 (p +ℤ q)) (on-ints adding a b m h e f g)
+
+  pub add-longs : {p q r : ℤ} → m ≡ Longs p q → SFits w64 p → SFits w64 q → r ≡ wrap w64 (p +ℤ q) → answerOf (Gives (Long r)) ≡ addOf (valueOf a) (valueOf b)
+  unfolding answerOf addOf
+  add-longs {p} {q} e f g k = rw (k, wrapped-wrap w64 (p +ℤ q)) (on-longs adding a b m h e f g)
+
+  pub add-doubles : {p q : Float} → m ≡ Doubles p q → T (fits binary64 p) → T (fits binary64 q) → answerOf (Gives (Double (Ieee.add binary64 p q))) ≡ addOf (valueOf a) (valueOf b)
+  unfolding answerOf addOf
+  add-doubles e f g = on-doubles adding a b m h e f g
+
+  pub add-other : OneOf NoNumbers (tagOf P.the-type m) → answerOf Wrong ≡ addOf (valueOf a) (valueOf b)
+  unfolding answerOf addOf
+  add-other k = no-numbers adding k
+
+  pub subtract-ints : {p q r : ℤ} → m ≡ Ints p q → SFits w32 p → SFits w32 q → r ≡ wrap w32 (p -ℤ q) → answerOf (Gives (Int r)) ≡ subtractOf (valueOf a) (valueOf b)
+  unfolding answerOf subtractOf
+  subtract-ints {p} {q} e f g k = rw (k, wrapped-wrap w32 (p -ℤ q)) (on-ints subtracting a b m h e f g)
+
+  pub subtract-longs : {p q r : ℤ} → m ≡ Longs p q → SFits w64 p → SFits w64 q → r ≡ wrap w64 (p -ℤ q) → answerOf (Gives (Long r)) ≡ subtractOf (valueOf a) (valueOf b)
+  unfolding answerOf subtractOf
+  subtract-longs {p} {q} e f g k = rw (k, wrapped-wrap w64 (p -ℤ q)) (on-longs subtracting a b m h e f g)
+
+  pub subtract-doubles : {p q : Float} → m ≡ Doubles p q → T (fits binary64 p) → T (fits binary64 q) → answerOf (Gives (Double (Ieee.sub binary64 p q))) ≡ subtractOf (valueOf a) (valueOf b)
+  unfolding answerOf subtractOf
+  subtract-doubles e f g = on-doubles subtracting a b m h e f g
+
+  pub subtract-other : OneOf NoNumbers (tagOf P.the-type m) → answerOf Wrong ≡ subtractOf (valueOf a) (valueOf b)
+  unfolding answerOf subtractOf
+  subtract-other k = no-numbers subtracting k
+
+  pub less-ints : {p q : ℤ} {t : B.Bool} → m ≡ Ints p q → SFits w32 p → SFits w32 q → t ≡ ltZ p q → answerOf (Gives (Bool t)) ≡ lessOf (valueOf a) (valueOf b)
+  unfolding answerOf lessOf
+  less-ints e f g k = rw k (on-ints comparing a b m h e f g)
+
+  pub less-longs : {p q : ℤ} {t : B.Bool} → m ≡ Longs p q → SFits w64 p → SFits w64 q → t ≡ ltZ p q → answerOf (Gives (Bool t)) ≡ lessOf (valueOf a) (valueOf b)
+  unfolding answerOf lessOf
+  less-longs e f g k = rw k (on-longs comparing a b m h e f g)
+
+  pub less-doubles : {p q : Float} → m ≡ Doubles p q → T (fits binary64 p) → T (fits binary64 q) → answerOf (Gives (Bool (Ieee.lt p q))) ≡ lessOf (valueOf a) (valueOf b)
+  unfolding answerOf lessOf
+  less-doubles e f g = on-doubles comparing a b m h e f g
+
+  pub less-other : OneOf NoNumbers (tagOf P.the-type m) → answerOf Wrong ≡ lessOf (valueOf a) (valueOf b)
+  unfolding answerOf lessOf
+  less-other k = no-numbers comparing k
+
+-- ---- and
+
+and-bits : (p q : B.Bool) → ofBool (p && q) ≡ ofBool (boolOf (bit p ∷ []) && boolOf (bit q ∷ []))
+unfolding number
+and-bits true true = refl
+and-bits true false = refl
+and-bits false true = refl
+and-bits false false = refl
+
+abbrev NoBools : List ℕ
+NoBools = 1 ∷ 2 ∷ 3 ∷ 4 ∷ 5 ∷ 6 ∷ 7 ∷ []
+
+no-bools-by : (x y : Scalar) (s t : List ℕ) (m : Pair) → AsPair x y m → OneOf NoBools (tagOf P.the-type m) → wrong ≡ alike andBy (valueBeside x s) (valueBeside y t)
+no-bools-by x y s t (Bools p q) h k = absurd (miss NoBools 0 tt k)
+no-bools-by x y s t (Ints p q) h k = rw (h .0, h .1) refl
+no-bools-by x y s t (Doubles p q) h k = rw (h .0, h .1) refl
+no-bools-by x y s t (Longs p q) h k = rw (h .0, h .1) refl
+no-bools-by x y s t Strings h k = rw (h .0, h .1) refl
+no-bools-by x y s t Raws h k = rw (h .0, h .1) refl
+no-bools-by x y s t Voids h k = rw (h .0, h .1) refl
+no-bools-by x y s t Unlike h k = unlike andBy x y s t h
+
+-- ---- equal
+
+abbrev NoEquals : List ℕ
+NoEquals = 6 ∷ 7 ∷ []
+
+no-equals-by : (x y : Scalar) (s t : List ℕ) (m : Pair) → AsPair x y m → OneOf NoEquals (tagOf P.the-type m) → wrong ≡ alike equalBy (valueBeside x s) (valueBeside y t)
+no-equals-by x y s t (Bools p q) h k = absurd (miss NoEquals 0 tt k)
+no-equals-by x y s t (Ints p q) h k = absurd (miss NoEquals 1 tt k)
+no-equals-by x y s t (Doubles p q) h k = absurd (miss NoEquals 2 tt k)
+no-equals-by x y s t (Longs p q) h k = absurd (miss NoEquals 3 tt k)
+no-equals-by x y s t Strings h k = absurd (miss NoEquals 4 tt k)
+no-equals-by x y s t Raws h k = absurd (miss NoEquals 5 tt k)
+no-equals-by x y s t Voids h k = rw (h .0, h .1) refl
+no-equals-by x y s t Unlike h k = unlike equalBy x y s t h
+
+module _ (a b : Operand) (m : Pair) (h : AsPair (a .scalar) (b .scalar) m) where
+  pub and-bools : {p q t : B.Bool} → m ≡ Bools p q → t ≡ (p && q) → answerOf (Gives (Bool t)) ≡ andOf (valueOf a) (valueOf b)
+  unfolding answerOf andOf
+  and-bools {p} {q} e k = let v = bools a b m h e in rw (k, v .0, v .1) (ap gives (and-bits p q))
+
+  pub and-other : OneOf NoBools (tagOf P.the-type m) → answerOf Wrong ≡ andOf (valueOf a) (valueOf b)
+  unfolding answerOf andOf valueOf
+  and-other k = no-bools-by (a .scalar) (b .scalar) (beside a) (beside b) m h k
+
+  pub equal-bools : {p q : B.Bool} → m ≡ Bools p q → answerOf (Gives (Bool (Bool·beq p q))) ≡ equalOf (valueOf a) (valueOf b)
+  unfolding answerOf equalOf
+  equal-bools {p} {q} e = let v = bools a b m h e in rw (v .0, v .1, same-bit p q) refl
+
+  pub equal-ints : {p q : ℤ} → m ≡ Ints p q → SFits w32 p → SFits w32 q → answerOf (Gives (Bool (eqb (ofZ w32 p) (ofZ w32 q)))) ≡ equalOf (valueOf a) (valueOf b)
+  unfolding answerOf equalOf
+  equal-ints {p} {q} e f g = let v = ints a b m h e in rw (v .0, v .1, same-wrapped w32 p q f g) refl
+
+  pub equal-longs : {p q : ℤ} → m ≡ Longs p q → SFits w64 p → SFits w64 q → answerOf (Gives (Bool (eqb (ofZ w64 p) (ofZ w64 q)))) ≡ equalOf (valueOf a) (valueOf b)
+  unfolding answerOf equalOf
+  equal-longs {p} {q} e f g = let v = longs a b m h e in rw (v .0, v .1, same-wrapped w64 p q f g) refl
+
+  pub equal-doubles : {p q : Float} → m ≡ Doubles p q → T (fits binary64 p) → T (fits binary64 q) → answerOf (Gives (Bool (Ieee.eq p q))) ≡ equalOf (valueOf a) (valueOf b)
+  unfolding answerOf equalOf
+  equal-doubles {p} {q} e f g = let v = doubles a b m h e in rw (v .0, v .1, double-back p f, double-back q g) refl
+
+  pub equal-strings : {t : B.Bool} → m ≡ Strings → t ≡ sameBytes (beside a) (beside b) → answerOf (Gives (Bool t)) ≡ equalOf (valueOf a) (valueOf b)
+  unfolding answerOf equalOf
+  equal-strings e k = let v = strings a b m h e in rw (k, v .0, v .1) refl
+
+  pub equal-raws : {t : B.Bool} → m ≡ Raws → t ≡ sameBytes (beside a) (beside b) → answerOf (Gives (Bool t)) ≡ equalOf (valueOf a) (valueOf b)
+  unfolding answerOf equalOf
+  equal-raws e k = let v = raws a b m h e in rw (k, v .0, v .1) refl
+
+  pub equal-other : OneOf NoEquals (tagOf P.the-type m) → answerOf Wrong ≡ equalOf (valueOf a) (valueOf b)
+  unfolding answerOf equalOf valueOf
+  equal-other k = no-equals-by (a .scalar) (b .scalar) (beside a) (beside b) m h k

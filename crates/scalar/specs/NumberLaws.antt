@@ -1,0 +1,247 @@
+-- Laws of numbers as the bytes of a value: what is written is read back, and what an operator writes is a value.
+use mathlib.Core.Path.{_≡_, refl, ap, sym, _∙_}
+use mathlib.Core.List.{List, [], _∷_, _++_, append-assoc}
+use mathlib.Core.Bool.{Bool, true, false, not, _||_}
+use Prim.Native.Nat.{ℕ, zero, suc, _+_, _*_, _/_, _%_, _^_, _≤_, _<_}
+use native.Mathlib.Nat.{pow-suc, pow-succ', mul-assoc, add-zero, add-suc, suc-add}
+use native.Mathlib.Numerals.{add-one}
+use native.Mathlib.Omega.{arith}
+use lib.ListN.{length, take, drop, set, length-append}
+use lib.Seq.{sets, sets-eq}
+use lib.Dec.{T, eqb, leb}
+use lib.IntN.{ℤ}
+use lib.Ieee.{Float, nan, inf, fin, binary64, isNan, nanBits, fits, ofBits, toBits, ofFields}
+use lib.Ieee.Bits.{ofBits-toBits, toBits-ofBits, toBits-lt, nanBits-is, nanBits-above}
+use borrow.Author.Tests.{le-leb, le-ltb, ltb-false, leb-true, leb-false, eqb-true}
+use mir.Syntax.{Width, w8, w16, w32, w64, w128}
+use mir.Val.{bits, toZ, SFits, Fits}
+use mir.ValLaws.{ofZ-toZ, toZ-fits}
+use Rattle.wire.specs.Wire.{byteAt, putU16, putU32, putU64, part, withPart}
+use Rattle.wire.specs.WireLaws.{agree-byte, part-agrees, byte-past, length-part}
+use Rattle.integer.specs.Wrap.{pattern, wrap}
+use Rattle.integer.specs.WrapLaws.{pattern-fits, pattern-exact, wrap-exact, wrap-fits, wrap-pattern}
+use Rattle.scalar.specs.Basic.{bool, int, double, long}
+use Rattle.scalar.specs.Value.{Value, basicOf, bytesOf, number, isValue, isDouble, theNan}
+use Rattle.scalar.specs.Operator.{littleEndian, signed, wrapped, ofBool, ofInt, ofLong, doubleOf, ofDouble}
+
+-- ---- little-endian bytes
+
+pub length-littleEndian : (n x : ℕ) → length (littleEndian n x) ≡ n
+unfolding littleEndian
+length-littleEndian zero x = refl
+length-littleEndian (suc n) x = ap suc (length-littleEndian n (x / 256))
+
+pub number-littleEndian : (n x : ℕ) → x < 256 ^ n → number (littleEndian n x) ≡ x
+unfolding littleEndian number
+number-littleEndian zero x h = omega arith
+number-littleEndian (suc n) x h =
+    let k : x < 256 ^ n * 256 = rw (pow-suc 256 n) at h in
+    omega (arith, number-littleEndian n (x / 256) (omega arith))
+
+-- Every element is a byte.
+pub data Bytes : List ℕ → Type 0 where
+  none : Bytes []
+  more : {b : ℕ} {v : List ℕ} → b < 256 → Bytes v → Bytes (b ∷ v)
+
+pub littleEndian-number : {v : List ℕ} → Bytes v → littleEndian (length v) (number v) ≡ v
+unfolding littleEndian number
+littleEndian-number none = refl
+littleEndian-number (more {b = b} {v = v} h r) =
+    let e : (b + 256 * number v) % 256 ≡ b = omega arith in
+    let f : (b + 256 * number v) / 256 ≡ number v = omega arith in
+    rw (e, f, littleEndian-number r) refl
+
+pub number-below : {v : List ℕ} → Bytes v → number v < 256 ^ length v
+unfolding number
+number-below none = omega arith
+number-below (more {v = v} h r) = let k = number-below r in rw (pow-suc 256 (length v)) (omega arith)
+
+pub bytes-all : (v : List ℕ) → ((k : ℕ) → byteAt v k < 256) → Bytes v
+bytes-all [] h = none
+bytes-all (b ∷ v) h = more (h 0) (bytes-all v (λ k. h (suc k)))
+
+-- The bytes of a part of a slice are bytes.
+pub part-bytes : (s : List ℕ) (at n : ℕ) → ((k : ℕ) → byteAt s k < 256) → at + n ≤ length s → Bytes (part s at n)
+part-bytes s at n h l = bytes-all (part s at n) (λ k. by k (leb (suc k) n) refl)
+  where
+    by : (k : ℕ) (t : Bool) → leb (suc k) n ≡ t → byteAt (part s at n) k < 256
+    by k true q =
+        let e = leb-true (suc k) n q in
+        rw (agree-byte (part-agrees s at n k 1 (omega arith))) (h (at + k))
+    by k false q =
+        let e = leb-false (suc k) n q in
+        rw (byte-past (part s at n) k (omega (arith, length-part s at n l))) (omega arith)
+
+-- ---- integers of a width
+
+whole-bytes : (w : Width) → 2 ^ bits w ≡ 256 ^ (bits w / 8)
+whole-bytes w8 = refl
+whole-bytes w16 = refl
+whole-bytes w32 = refl
+whole-bytes w64 = refl
+whole-bytes w128 = refl
+
+pub number-wrapped : (w : Width) (z : ℤ) → number (wrapped w z) ≡ pattern w z
+number-wrapped w z = number-littleEndian (bits w / 8) (pattern w z) (rw (whole-bytes w) at (pattern-fits w z .fits))
+
+pub signed-wrapped : (w : Width) (z : ℤ) → signed w (wrapped w z) ≡ wrap w z
+unfolding wrap
+signed-wrapped w z = ap (toZ w) (number-wrapped w z)
+
+-- 01: "exact at the ends of their ranges": an exact result z that fits its width is what the written bytes stand for. Over the
+-- width, so for int and long, and for sums, differences and opposites alike.
+pub exact : (w : Width) (z : ℤ) → SFits w z → signed w (wrapped w z) ≡ z
+exact w z f = signed-wrapped w z ∙ wrap-exact w z f
+
+-- Wrapping first changes nothing.
+pub wrapped-wrap : (w : Width) (z : ℤ) → wrapped w (wrap w z) ≡ wrapped w z
+wrapped-wrap w z = ap (littleEndian (bits w / 8)) (pattern-exact w (wrap w z) (wrap-fits w z) ∙ wrap-pattern w z)
+
+-- Bytes of the width that are read and written again are the same bytes.
+pub wrapped-signed : (w : Width) {v : List ℕ} → Bytes v → length v ≡ bits w / 8 → wrapped w (signed w v) ≡ v
+wrapped-signed w {v} h e =
+    let l : number v < 2 ^ bits w = rw (e, ← whole-bytes w) at (number-below h) in
+    let f : Fits w (number v) = record { fits = l } in
+    ap (littleEndian (bits w / 8)) (pattern-exact w (toZ w (number v)) (toZ-fits w (number v) f) ∙ ofZ-toZ w (number v) f)
+    ∙ ap (λ (n : ℕ). littleEndian n (number v)) (sym e) ∙ littleEndian-number h
+
+-- ---- doubles
+
+pub double-back : (x : Float) → T (fits binary64 x) → doubleOf (littleEndian 8 (toBits binary64 x)) ≡ x
+double-back x f = ap (ofBits binary64) (number-littleEndian 8 (toBits binary64 x) (toBits-lt binary64 x f)) ∙ ofBits-toBits binary64 x f
+
+-- The pattern of a double is a value's: a NaN has the one.
+plain-double : (n : ℕ) → nanBits binary64 n ≡ false → isDouble n ≡ true
+plain-double n e =
+    let l : n % 0x8000000000000000 ≤ 0x7FF0000000000000 = ltb-false 0x7FF0000000000000 (n % 0x8000000000000000) (sym (nanBits-above binary64 n) ∙ e) in
+    rw (le-leb (n % 0x8000000000000000) 0x7FF0000000000000 l) refl
+
+pub double-pattern : (x : Float) → T (fits binary64 x) → isDouble (toBits binary64 x) ≡ true
+unfolding toBits isNan
+double-pattern nan f = refl
+double-pattern (inf s) f = plain-double (toBits binary64 (inf s)) (nanBits-is binary64 (toBits binary64 (inf s)) ∙ ap isNan (ofBits-toBits binary64 (inf s) f))
+double-pattern (fin s m e) f = plain-double (toBits binary64 (fin s m e)) (nanBits-is binary64 (toBits binary64 (fin s m e)) ∙ ap isNan (ofBits-toBits binary64 (fin s m e) f))
+
+nan-same : toBits binary64 (ofBits binary64 theNan) ≡ theNan
+unfolding toBits ofBits ofFields
+nan-same = refl
+
+-- The bytes of a double that are read and written again are the same bytes.
+pattern-same : (n : ℕ) → n < 0x10000000000000000 → isDouble n ≡ true → toBits binary64 (ofBits binary64 n) ≡ n
+pattern-same n l h = by (leb (n % 0x8000000000000000) 0x7FF0000000000000) (eqb n theNan) refl refl h
+  where
+    not-nan : (t : Bool) → t ≡ false → T (not t)
+    not-nan true e = let z : _≡_ {A = ℕ} 0 1 = cc in absurd (omega arith)
+    not-nan false e = tt
+
+    by : (p q : Bool) → leb (n % 0x8000000000000000) 0x7FF0000000000000 ≡ p → eqb n theNan ≡ q → (p || q) ≡ true → toBits binary64 (ofBits binary64 n) ≡ n
+    by true q e f k =
+        let m : nanBits binary64 n ≡ false = nanBits-above binary64 n ∙ le-ltb 0x7FF0000000000000 (n % 0x8000000000000000) (leb-true (n % 0x8000000000000000) 0x7FF0000000000000 e) in
+        toBits-ofBits binary64 n l (not-nan (isNan (ofBits binary64 n)) (sym (nanBits-is binary64 n) ∙ m))
+    by false true e f k = rw (eqb-true n theNan f) nan-same
+    by false false e f k = let z : _≡_ {A = ℕ} 0 1 = cc in absurd (omega arith)
+
+pub double-same : {v : List ℕ} → Bytes v → length v ≡ 8 → isDouble (number v) ≡ true → littleEndian 8 (toBits binary64 (doubleOf v)) ≡ v
+double-same {v} h e k =
+    let l : number v < 0x10000000000000000 = rw e at (number-below h) in
+    ap (littleEndian 8) (pattern-same (number v) l k) ∙ ap (λ (n : ℕ). littleEndian n (number v)) (sym e) ∙ littleEndian-number h
+
+-- ---- what is written is a value
+
+-- A value of a basic type, by the value rule.
+pub record Sound (b : ℕ) (x : Value) : Type 0 where
+  pub basic : basicOf x ≡ b
+  pub rule : isValue b (bytesOf x) ≡ true
+
+pub sound-bool : (t : Bool) → Sound bool (ofBool t)
+unfolding isValue number
+sound-bool true = record { basic = refl; rule = refl }
+sound-bool false = record { basic = refl; rule = refl }
+
+pub sound-int : (z : ℤ) → Sound int (ofInt z)
+unfolding isValue
+sound-int z = record { basic = refl; rule = rw (length-littleEndian 4 (pattern w32 z)) refl }
+
+pub sound-long : (z : ℤ) → Sound long (ofLong z)
+unfolding isValue
+sound-long z = record { basic = refl; rule = rw (length-littleEndian 8 (pattern w64 z)) refl }
+
+pub sound-double : (x : Float) → T (fits binary64 x) → Sound double (ofDouble x)
+unfolding isValue
+sound-double x f = record {
+  basic = refl;
+  rule = rw (length-littleEndian 8 (toBits binary64 x), number-littleEndian 8 (toBits binary64 x) (toBits-lt binary64 x f)) (double-pattern x f);
+}
+
+-- ---- numbers stored in a slice, as the bytes of a value
+
+sets-append : (s : List ℕ) (i : ℕ) (v u : List ℕ) → sets s i (v ++ u) ≡ sets (sets s i v) (i + length v) u
+sets-append s i [] u = ap (λ (k : ℕ). sets s k u) (sym (add-zero i))
+sets-append s i (a ∷ v) u = sets-append (set s i a) (suc i) v u ∙ ap (λ (k : ℕ). sets (sets (set s i a) (suc i) v) k u) (suc-add i (length v) ∙ sym (add-suc i (length v)))
+
+put-sets-16 : (s : List ℕ) (at v : ℕ) → v < 0x10000 → putU16 s at v ≡ sets s at (littleEndian 2 v)
+unfolding putU16 littleEndian
+put-sets-16 s at v h =
+    let e : v / 256 % 256 ≡ v / 256 = omega arith in
+    rw (e, add-one at) refl
+
+-- The bytes of a number are those of its low part, then those of its high part.
+bytes-littleEndian : (n x : ℕ) → Bytes (littleEndian n x)
+unfolding littleEndian
+bytes-littleEndian zero x = none
+bytes-littleEndian (suc n) x = more {b = x % 256} (omega arith) (bytes-littleEndian n (x / 256))
+
+bytes-append : {v u : List ℕ} → Bytes v → Bytes u → Bytes (v ++ u)
+bytes-append none k = k
+bytes-append (more h r) k = more h (bytes-append r k)
+
+number-append : (v u : List ℕ) → number (v ++ u) ≡ number v + 256 ^ length v * number u
+unfolding number
+number-append [] u = omega arith
+number-append (a ∷ v) u =
+    let p : 256 ^ suc (length v) * number u ≡ 256 * (256 ^ length v * number u) = ap (λ (k : ℕ). k * number u) (pow-succ' 256 (length v)) ∙ mul-assoc 256 (256 ^ length v) (number u) in
+    omega (arith, number-append v u)
+
+join : (m n lo hi : ℕ) → lo < 256 ^ m → hi < 256 ^ n → littleEndian m lo ++ littleEndian n hi ≡ littleEndian (m + n) (lo + 256 ^ m * hi)
+join m n lo hi h k =
+    let v = littleEndian m lo in
+    let u = littleEndian n hi in
+    let l : length (v ++ u) ≡ m + n = length-append v u ∙ rw (length-littleEndian m lo, length-littleEndian n hi) refl in
+    let e : number (v ++ u) ≡ lo + 256 ^ m * hi = number-append v u ∙ rw (length-littleEndian m lo, number-littleEndian m lo h, number-littleEndian n hi k) refl in
+    sym (littleEndian-number (bytes-append (bytes-littleEndian m lo) (bytes-littleEndian n hi))) ∙ rw (l, e) refl
+
+halves-32 : (v : ℕ) → v < 0x100000000 → littleEndian 2 (v % 0x10000) ++ littleEndian 2 (v / 0x10000) ≡ littleEndian 4 v
+halves-32 v h = let e : v % 0x10000 + 0x10000 * (v / 0x10000) ≡ v = omega arith in join 2 2 (v % 0x10000) (v / 0x10000) (omega arith) (omega arith) ∙ ap (littleEndian 4) e
+
+halves-64 : (v : ℕ) → v < 0x10000000000000000 → littleEndian 4 (v % 0x100000000) ++ littleEndian 4 (v / 0x100000000) ≡ littleEndian 8 v
+halves-64 v h = let e : v % 0x100000000 + 0x100000000 * (v / 0x100000000) ≡ v = omega arith in join 4 4 (v % 0x100000000) (v / 0x100000000) (omega arith) (omega arith) ∙ ap (littleEndian 8) e
+
+put-sets-32 : (s : List ℕ) (at v : ℕ) → v < 0x100000000 → putU32 s at v ≡ sets s at (littleEndian 4 v)
+unfolding putU32
+put-sets-32 s at v h =
+    put-sets-16 (putU16 s at (v % 0x10000)) (at + 2) (v / 0x10000) (omega arith)
+    ∙ ap (λ (x : List ℕ). sets x (at + 2) (littleEndian 2 (v / 0x10000))) (put-sets-16 s at (v % 0x10000) (omega arith))
+    ∙ ap (λ (k : ℕ). sets (sets s at (littleEndian 2 (v % 0x10000))) (at + k) (littleEndian 2 (v / 0x10000))) (sym (length-littleEndian 2 (v % 0x10000)))
+    ∙ sym (sets-append s at (littleEndian 2 (v % 0x10000)) (littleEndian 2 (v / 0x10000)))
+    ∙ ap (sets s at) (halves-32 v h)
+
+put-sets-64 : (s : List ℕ) (at v : ℕ) → v < 0x10000000000000000 → putU64 s at v ≡ sets s at (littleEndian 8 v)
+unfolding putU64
+put-sets-64 s at v h =
+    put-sets-32 (putU32 s at (v % 0x100000000)) (at + 4) (v / 0x100000000) (omega arith)
+    ∙ ap (λ (x : List ℕ). sets x (at + 4) (littleEndian 4 (v / 0x100000000))) (put-sets-32 s at (v % 0x100000000) (omega arith))
+    ∙ ap (λ (k : ℕ). sets (sets s at (littleEndian 4 (v % 0x100000000))) (at + k) (littleEndian 4 (v / 0x100000000))) (sym (length-littleEndian 4 (v % 0x100000000)))
+    ∙ sym (sets-append s at (littleEndian 4 (v % 0x100000000)) (littleEndian 4 (v / 0x100000000)))
+    ∙ ap (sets s at) (halves-64 v h)
+
+sets-part : (s : List ℕ) (at : ℕ) (v : List ℕ) → at + length v ≤ length s → sets s at v ≡ withPart s at v
+sets-part s at v h = sets-eq v s at h ∙ append-assoc (take at s) v (drop (at + length v) s)
+
+pub put-16 : (s : List ℕ) (at v : ℕ) → v < 0x10000 → at + 2 ≤ length s → putU16 s at v ≡ withPart s at (littleEndian 2 v)
+put-16 s at v h l = put-sets-16 s at v h ∙ sets-part s at (littleEndian 2 v) (rw (length-littleEndian 2 v) l)
+
+pub put-32 : (s : List ℕ) (at v : ℕ) → v < 0x100000000 → at + 4 ≤ length s → putU32 s at v ≡ withPart s at (littleEndian 4 v)
+put-32 s at v h l = put-sets-32 s at v h ∙ sets-part s at (littleEndian 4 v) (rw (length-littleEndian 4 v) l)
+
+pub put-64 : (s : List ℕ) (at v : ℕ) → v < 0x10000000000000000 → at + 8 ≤ length s → putU64 s at v ≡ withPart s at (littleEndian 8 v)
+put-64 s at v h l = put-sets-64 s at v h ∙ sets-part s at (littleEndian 8 v) (rw (length-littleEndian 8 v) l)

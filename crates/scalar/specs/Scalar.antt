@@ -1,0 +1,62 @@
+-- The scalars of the code and the values that they stand for. 01, "Each place and its form": "The evaluator's scalar enum carries a
+-- bool, int, long or an f64; string bytes stay beside it."
+use mathlib.Core.Path.{_≡_}
+use mathlib.Core.Bool.{false}
+use mathlib.Core.List.{List, []}
+use Prim.Native.Nat.{ℕ}
+use lib.ListN.{take}
+use lib.Dec.{eqb}
+use Rattle.scalar.specs.Basic.{bool, int, double, long, string, raw, void}
+use Rattle.scalar.specs.Value.{Value, value}
+use Rattle.scalar.specs.Operator.{Answer, wrong, gives, ofBool, ofInt, ofLong, ofDouble}
+use Rattle.scalar.specs.declared.Scalar.{Scalar}
+use Rattle.scalar.specs.declared.Scalar.the-variants.{Bool, Int, Double, Long, String, Raw, Void}
+use Rattle.scalar.specs.declared.Operand.{Operand}
+use Rattle.scalar.specs.declared.Pair.{Pair}
+use Rattle.scalar.specs.declared.Pair.the-variants.{Bools, Ints, Doubles, Longs, Strings, Raws, Voids, Unlike}
+use Rattle.scalar.specs.declared.Computed.{Computed}
+use Rattle.scalar.specs.declared.Computed.the-variants.{Wrong, Gives}
+
+-- The value of a scalar with the bytes beside it, which only a string and a raw use.
+abbrev pub valueBeside : Scalar → List ℕ → Value
+valueBeside (Bool b) t = ofBool b
+valueBeside (Int z) t = ofInt z
+valueBeside (Double x) t = ofDouble x
+valueBeside (Long z) t = ofLong z
+valueBeside String t = value string t
+valueBeside Raw t = value raw t
+valueBeside Void t = value void []
+
+-- The bytes beside a scalar: as many of them as the operand says.
+abbrev pub beside : Operand → List ℕ
+beside o = take (o .len) (o .bytes)
+
+-- The value of an operand.
+unfoldable pub valueOf : Operand → Value
+valueOf o = valueBeside (o .scalar) (beside o)
+
+-- What an operator's code gives. A result is never a string, a raw or void, so no bytes stand beside it.
+unfoldable pub answerOf : Computed → Answer
+answerOf Wrong = wrong
+answerOf (Gives s) = gives (valueBeside s [])
+
+-- The number of a scalar's basic type.
+abbrev pub kindOf : Scalar → ℕ
+kindOf (Bool b) = bool
+kindOf (Int z) = int
+kindOf (Double x) = double
+kindOf (Long z) = long
+kindOf String = string
+kindOf Raw = raw
+kindOf Void = void
+
+-- What `paired` finds of two scalars.
+abbrev pub AsPair : Scalar → Scalar → Pair → Type 0
+AsPair x y (Bools p q) = (x ≡ Bool p) × (y ≡ Bool q)
+AsPair x y (Ints p q) = (x ≡ Int p) × (y ≡ Int q)
+AsPair x y (Doubles p q) = (x ≡ Double p) × (y ≡ Double q)
+AsPair x y (Longs p q) = (x ≡ Long p) × (y ≡ Long q)
+AsPair x y Strings = (x ≡ String) × (y ≡ String)
+AsPair x y Raws = (x ≡ Raw) × (y ≡ Raw)
+AsPair x y Voids = (x ≡ Void) × (y ≡ Void)
+AsPair x y Unlike = eqb (kindOf x) (kindOf y) ≡ false

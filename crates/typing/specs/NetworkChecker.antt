@@ -1,0 +1,107 @@
+-- The checker of a network: 01's refusals 6 to 13. "Services go by row, starter first, outputs last." Numbers 6 to 12 are
+-- placed at a B row, 13 at the output's O row. The environments of each service, or number and place of the first refusal.
+use mathlib.Core.List.{List, [], _∷_}
+use mathlib.Core.Bool.{Bool, true, false, _&&_, _||_}
+use Prim.Native.Nat.{ℕ, suc}
+use lib.Dec.{eqb}
+use Rattle.forest.specs.Forest.{end, node, tree, Lookup, absent, present, find}
+use Rattle.refusal.specs.declared.Refusal.the-variants.{EnvironmentsDiffer, OutputMismatch}
+use Rattle.syntax.specs.Syntax.{Mark, mark, Types, MessageType, input, output, Operation, Behaviour, nil, oneWay, requestResponse}
+use Rattle.syntax.specs.Syntax.{notification, solicitResponse, ifThenElse, whileDo, sequence, parallel, assign, choice, branch, lastBranch}
+use Rattle.syntax.specs.Syntax.{waiting, answering, Optional, none, some, Service, Network}
+use Rattle.subtyping.specs.Subtype.{implies, isSubtype}
+use Rattle.typing.specs.Result.{Result, yields, require, Checked, passed, atRow, next}
+use Rattle.typing.specs.Environment.{within}
+use Rattle.typing.specs.Rules.{sameBool, sameDirection, permits}
+use Rattle.typing.specs.Checker.{sameTypes, limited, check}
+use Rattle.typing.specs.NetworkRules.{branchesOf, unionOf, Environments}
+
+-- The row of a behaviour.
+abbrev pub rowOf : Behaviour → ℕ
+rowOf (nil r) = r
+rowOf (oneWay r o x) = r
+rowOf (requestResponse r o x c d) = r
+rowOf (notification r o e) = r
+rowOf (solicitResponse r o e x) = r
+rowOf (ifThenElse r e a b) = r
+rowOf (whileDo r e b) = r
+rowOf (sequence r a b) = r
+rowOf (parallel r a b) = r
+rowOf (assign r x e) = r
+rowOf (choice r m) = r
+rowOf (branch r a b m) = r
+rowOf (lastBranch r a b) = r
+rowOf (waiting r o x) = r
+rowOf (answering r o c d) = r
+
+-- Each behaviour from the empty environment, one after the other.
+unfoldable pub checkEach : ℕ → List Behaviour → Checked (List Types)
+checkEach q [] = passed []
+checkEach q (B ∷ Bs) = next (check q (rowOf B) B end) (λ Γ. next (checkEach q Bs) (λ Γs. passed (Γ ∷ Γs)))
+
+-- A root t, where the other environment binds it: the same tree.
+abbrev pub sameTree : MessageType → MessageType → Bool
+sameTree (tree (mark m b) k) (tree (mark n c) l) = sameBool m n && (eqb b c && sameTypes k l)
+
+abbrev pub oneTypeAt : MessageType → Lookup Mark → Bool
+oneTypeAt t absent = true
+oneTypeAt t (present u) = sameTree t u
+
+-- "a root bound by two branches has one type"
+unfoldable pub oneType : Types → Types → Bool
+oneType end Δ = true
+oneType (node i a k r) Δ = oneTypeAt (tree a k) (find i Δ) && oneType r Δ
+
+unfoldable pub oneTypeWith : Types → List Types → Bool
+oneTypeWith Γ [] = true
+oneTypeWith Γ (Δ ∷ Δs) = oneType Γ Δ && oneTypeWith Γ Δs
+
+unfoldable pub oneTypeEach : List Types → Bool
+oneTypeEach [] = true
+oneTypeEach (Γ ∷ Γs) = oneTypeWith Γ Γs && oneTypeEach Γs
+
+-- A starter: its branches, then 10 and then 12 at the starter's own row, a choice's.
+abbrev pub checkStarter : ℕ → Behaviour → Checked Types
+checkStarter q B = next (checkEach q (branchesOf B)) (λ Γs. atRow (rowOf B) (require (oneTypeEach Γs) EnvironmentsDiffer (limited (yields (unionOf Γs)))))
+
+-- A client. (A client's choice is an ordinary one.)
+abbrev pub checkClient : ℕ → Behaviour → Checked Types
+checkClient q B = check q (rowOf B) B end
+
+abbrev pub ifThere : (Behaviour → Checked Types) → Optional Behaviour → Checked (Optional Types)
+ifThere f none = passed none
+ifThere f (some B) = next (f B) (λ Γ. passed (some Γ))
+
+-- "Services go by row, starter first"
+unfoldable pub checkServices : ℕ → List Service → Checked (List Environments)
+checkServices q [] = passed []
+checkServices q (s ∷ ss) =
+    next (ifThere (checkStarter q) (s .starter))
+    (λ Γ. next (ifThere (checkClient q) (s .client))
+    (λ Δ. next (checkServices (suc q) ss) (λ Es. passed (record { starter = Γ; client = Δ } ∷ Es))))
+
+-- Does the output o meet the input i of the service row q?
+abbrev pub meets : ℕ → Operation → Operation → Bool
+meets q o i =
+    permits q input (o .twoWay) i
+    && (eqb (i .id) (o .id) && (isSubtype (o .request) (i .request) && implies (o .twoWay) (isSubtype (i .reply) (o .reply))))
+
+unfoldable pub meetsOne : ℕ → Operation → List Operation → Bool
+meetsOne q o [] = false
+meetsOne q o (i ∷ l) = meets q o i || meetsOne q o l
+
+unfoldable pub meetsAt : List Operation → Operation → ℕ → List Service → Bool
+meetsAt os o q [] = true
+meetsAt os o q (s ∷ ss) = implies (eqb (s .location) (o .location)) (meetsOne q o os) && meetsAt os o (suc q) ss
+
+-- The outputs of l in order. 13: "An output and its input disagree (place: the output's O row)."
+unfoldable pub checkOutputs : List Service → List Operation → List Operation → Checked (Unit {0})
+checkOutputs ss os [] = passed (tt {0})
+checkOutputs ss os (o ∷ l) =
+    next (atRow (o .row) (require (implies (sameDirection (o .direction) output) (meetsAt os o 0 ss)) OutputMismatch (yields (tt {0}))))
+    (λ u. checkOutputs ss os l)
+
+-- The whole checker after refusals 2 to 5.
+unfoldable pub checkNetwork : Network → Checked (List Environments)
+checkNetwork N =
+    next (checkServices 0 (N .services)) (λ Es. next (checkOutputs (N .services) (N .operations) (N .operations)) (λ u. passed Es))
