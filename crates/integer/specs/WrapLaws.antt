@@ -100,7 +100,10 @@ sum-of-patterns w a b fa fb = sum-near w a b fa (near w b fb)
 pub difference-of-patterns : (w : Width) (a b : ℤ) → SFits w a → SFits w b
     → (ofZ w a + (2 ^ bits w - ofZ w b)) % 2 ^ bits w ≡ pattern w (a -ℤ b)
 difference-of-patterns w a (pos zero) fa fb =
-    ap (λ (n : ℕ). (ofZ w a + n) % 2 ^ bits w) (sub-zero (2 ^ bits w)) ∙ add-mod-right (ofZ w a) (2 ^ bits w) ∙ ap (λ (n : ℕ). n % 2 ^ bits w) (sym (add-zero (ofZ w a))) ∙ sum-near w a (pos zero) fa (omega arith)
+    ap (λ (n : ℕ). (ofZ w a + n) % 2 ^ bits w) (sub-zero (2 ^ bits w))
+    ∙ add-mod-right (ofZ w a) (2 ^ bits w)
+    ∙ ap (λ (n : ℕ). n % 2 ^ bits w) (sym (add-zero (ofZ w a)))
+    ∙ sum-near w a (pos zero) fa (omega arith)
 difference-of-patterns w a (pos (suc k)) fa fb = let h = fb .sfits in sum-near w a (negsuc k) fa (omega arith)
 difference-of-patterns w a (negsuc k) fa fb =
     let h = fb .sfits in

@@ -2,7 +2,10 @@
 -- 01: "Each carries a place, 0 for 1 to 3 and from 14; number 0 is done." A later kind of refusal is one more case here.
 use Prim.Native.Nat.{ℕ}
 use Rattle.refusal.specs.declared.Refusal.{Refusal}
-use Rattle.refusal.specs.declared.Refusal.the-variants.{BufferSize, FileLayout, SectionCount, BrokenField, TooLarge, WrongOperation, PathNotFirm, OperandType, TypeMisfit, EnvironmentsDiffer, SharedRoot, EnvironmentTooLarge, OutputMismatch, NoState, MoveNotAllowed, QueueFull, NoMessage, Stuck, MessageMisfit}
+use Rattle.refusal.specs.declared.Refusal.the-variants.{BufferSize, FileLayout, SectionCount, BrokenField, TooLarge}
+use Rattle.refusal.specs.declared.Refusal.the-variants.{WrongOperation, PathNotFirm, OperandType, TypeMisfit}
+use Rattle.refusal.specs.declared.Refusal.the-variants.{EnvironmentsDiffer, SharedRoot, EnvironmentTooLarge, OutputMismatch}
+use Rattle.refusal.specs.declared.Refusal.the-variants.{NoState, MoveNotAllowed, QueueFull, NoMessage, Stuck, MessageMisfit}
 use Rattle.refusal.specs.declared.Verdict.{Verdict}
 use Rattle.refusal.specs.declared.Verdict.the-variants.{Done, Refused}
 use Rattle.refusal.specs.declared.Outcome.{Outcome}

@@ -207,9 +207,9 @@ module _ (a b : Operand) (m : Pair) (h : AsPair (a .scalar) (b .scalar) m) where
   unfolding answerOf lessOf
   less-longs e f g k = rw k (on-longs comparing a b m h e f g)
 
-  pub less-doubles : {p q : Float} → m ≡ Doubles p q → T (fits binary64 p) → T (fits binary64 q) → answerOf (Gives (Bool (Ieee.lt p q))) ≡ lessOf (valueOf a) (valueOf b)
+  pub less-doubles : {p q : Float} {t : B.Bool} → m ≡ Doubles p q → T (fits binary64 p) → T (fits binary64 q) → t ≡ Ieee.lt p q → answerOf (Gives (Bool t)) ≡ lessOf (valueOf a) (valueOf b)
   unfolding answerOf lessOf
-  less-doubles e f g = on-doubles comparing a b m h e f g
+  less-doubles e f g k = rw k (on-doubles comparing a b m h e f g)
 
   pub less-other : OneOf NoNumbers (tagOf P.the-type m) → answerOf Wrong ≡ lessOf (valueOf a) (valueOf b)
   unfolding answerOf lessOf
@@ -273,9 +273,9 @@ module _ (a b : Operand) (m : Pair) (h : AsPair (a .scalar) (b .scalar) m) where
   unfolding answerOf equalOf
   equal-longs {p} {q} e f g = let v = longs a b m h e in rw (v .0, v .1, same-wrapped w64 p q f g) refl
 
-  pub equal-doubles : {p q : Float} → m ≡ Doubles p q → T (fits binary64 p) → T (fits binary64 q) → answerOf (Gives (Bool (Ieee.eq p q))) ≡ equalOf (valueOf a) (valueOf b)
+  pub equal-doubles : {p q : Float} {t : B.Bool} → m ≡ Doubles p q → T (fits binary64 p) → T (fits binary64 q) → t ≡ Ieee.eq p q → answerOf (Gives (Bool t)) ≡ equalOf (valueOf a) (valueOf b)
   unfolding answerOf equalOf
-  equal-doubles {p} {q} e f g = let v = doubles a b m h e in rw (v .0, v .1, double-back p f, double-back q g) refl
+  equal-doubles {p} {q} e f g k = let v = doubles a b m h e in rw (k, v .0, v .1, double-back p f, double-back q g) refl
 
   pub equal-strings : {t : B.Bool} → m ≡ Strings → t ≡ sameBytes (beside a) (beside b) → answerOf (Gives (Bool t)) ≡ equalOf (valueOf a) (valueOf b)
   unfolding answerOf equalOf

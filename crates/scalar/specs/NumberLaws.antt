@@ -120,7 +120,8 @@ pub double-pattern : (x : Float) → T (fits binary64 x) → isDouble (toBits bi
 unfolding toBits isNan
 double-pattern nan f = refl
 double-pattern (inf s) f = plain-double (toBits binary64 (inf s)) (nanBits-is binary64 (toBits binary64 (inf s)) ∙ ap isNan (ofBits-toBits binary64 (inf s) f))
-double-pattern (fin s m e) f = plain-double (toBits binary64 (fin s m e)) (nanBits-is binary64 (toBits binary64 (fin s m e)) ∙ ap isNan (ofBits-toBits binary64 (fin s m e) f))
+double-pattern (fin s m e) f =
+    plain-double (toBits binary64 (fin s m e)) (nanBits-is binary64 (toBits binary64 (fin s m e)) ∙ ap isNan (ofBits-toBits binary64 (fin s m e) f))
 
 nan-same : toBits binary64 (ofBits binary64 theNan) ≡ theNan
 unfolding toBits ofBits ofFields
@@ -136,7 +137,8 @@ pattern-same n l h = by (leb (n % 0x8000000000000000) 0x7FF0000000000000) (eqb n
 
     by : (p q : Bool) → leb (n % 0x8000000000000000) 0x7FF0000000000000 ≡ p → eqb n theNan ≡ q → (p || q) ≡ true → toBits binary64 (ofBits binary64 n) ≡ n
     by true q e f k =
-        let m : nanBits binary64 n ≡ false = nanBits-above binary64 n ∙ le-ltb 0x7FF0000000000000 (n % 0x8000000000000000) (leb-true (n % 0x8000000000000000) 0x7FF0000000000000 e) in
+        let u = leb-true (n % 0x8000000000000000) 0x7FF0000000000000 e in
+        let m : nanBits binary64 n ≡ false = nanBits-above binary64 n ∙ le-ltb 0x7FF0000000000000 (n % 0x8000000000000000) u in
         toBits-ofBits binary64 n l (not-nan (isNan (ofBits binary64 n)) (sym (nanBits-is binary64 n) ∙ m))
     by false true e f k = rw (eqb-true n theNan f) nan-same
     by false false e f k = let z : _≡_ {A = ℕ} 0 1 = cc in absurd (omega arith)
@@ -177,7 +179,9 @@ sound-double x f = record {
 
 sets-append : (s : List ℕ) (i : ℕ) (v u : List ℕ) → sets s i (v ++ u) ≡ sets (sets s i v) (i + length v) u
 sets-append s i [] u = ap (λ (k : ℕ). sets s k u) (sym (add-zero i))
-sets-append s i (a ∷ v) u = sets-append (set s i a) (suc i) v u ∙ ap (λ (k : ℕ). sets (sets (set s i a) (suc i) v) k u) (suc-add i (length v) ∙ sym (add-suc i (length v)))
+sets-append s i (a ∷ v) u =
+    sets-append (set s i a) (suc i) v u
+    ∙ ap (λ (k : ℕ). sets (sets (set s i a) (suc i) v) k u) (suc-add i (length v) ∙ sym (add-suc i (length v)))
 
 put-sets-16 : (s : List ℕ) (at v : ℕ) → v < 0x10000 → putU16 s at v ≡ sets s at (littleEndian 2 v)
 unfolding putU16 littleEndian
@@ -199,7 +203,8 @@ number-append : (v u : List ℕ) → number (v ++ u) ≡ number v + 256 ^ length
 unfolding number
 number-append [] u = omega arith
 number-append (a ∷ v) u =
-    let p : 256 ^ suc (length v) * number u ≡ 256 * (256 ^ length v * number u) = ap (λ (k : ℕ). k * number u) (pow-succ' 256 (length v)) ∙ mul-assoc 256 (256 ^ length v) (number u) in
+    let p : 256 ^ suc (length v) * number u ≡ 256 * (256 ^ length v * number u) =
+    ap (λ (k : ℕ). k * number u) (pow-succ' 256 (length v)) ∙ mul-assoc 256 (256 ^ length v) (number u) in
     omega (arith, number-append v u)
 
 join : (m n lo hi : ℕ) → lo < 256 ^ m → hi < 256 ^ n → littleEndian m lo ++ littleEndian n hi ≡ littleEndian (m + n) (lo + 256 ^ m * hi)
@@ -207,14 +212,19 @@ join m n lo hi h k =
     let v = littleEndian m lo in
     let u = littleEndian n hi in
     let l : length (v ++ u) ≡ m + n = length-append v u ∙ rw (length-littleEndian m lo, length-littleEndian n hi) refl in
-    let e : number (v ++ u) ≡ lo + 256 ^ m * hi = number-append v u ∙ rw (length-littleEndian m lo, number-littleEndian m lo h, number-littleEndian n hi k) refl in
+    let e : number (v ++ u) ≡ lo + 256 ^ m * hi =
+    number-append v u ∙ rw (length-littleEndian m lo, number-littleEndian m lo h, number-littleEndian n hi k) refl in
     sym (littleEndian-number (bytes-append (bytes-littleEndian m lo) (bytes-littleEndian n hi))) ∙ rw (l, e) refl
 
 halves-32 : (v : ℕ) → v < 0x100000000 → littleEndian 2 (v % 0x10000) ++ littleEndian 2 (v / 0x10000) ≡ littleEndian 4 v
-halves-32 v h = let e : v % 0x10000 + 0x10000 * (v / 0x10000) ≡ v = omega arith in join 2 2 (v % 0x10000) (v / 0x10000) (omega arith) (omega arith) ∙ ap (littleEndian 4) e
+halves-32 v h =
+    let e : v % 0x10000 + 0x10000 * (v / 0x10000) ≡ v = omega arith in
+    join 2 2 (v % 0x10000) (v / 0x10000) (omega arith) (omega arith) ∙ ap (littleEndian 4) e
 
 halves-64 : (v : ℕ) → v < 0x10000000000000000 → littleEndian 4 (v % 0x100000000) ++ littleEndian 4 (v / 0x100000000) ≡ littleEndian 8 v
-halves-64 v h = let e : v % 0x100000000 + 0x100000000 * (v / 0x100000000) ≡ v = omega arith in join 4 4 (v % 0x100000000) (v / 0x100000000) (omega arith) (omega arith) ∙ ap (littleEndian 8) e
+halves-64 v h =
+    let e : v % 0x100000000 + 0x100000000 * (v / 0x100000000) ≡ v = omega arith in
+    join 4 4 (v % 0x100000000) (v / 0x100000000) (omega arith) (omega arith) ∙ ap (littleEndian 8) e
 
 put-sets-32 : (s : List ℕ) (at v : ℕ) → v < 0x100000000 → putU32 s at v ≡ sets s at (littleEndian 4 v)
 unfolding putU32
@@ -230,7 +240,8 @@ unfolding putU64
 put-sets-64 s at v h =
     put-sets-32 (putU32 s at (v % 0x100000000)) (at + 4) (v / 0x100000000) (omega arith)
     ∙ ap (λ (x : List ℕ). sets x (at + 4) (littleEndian 4 (v / 0x100000000))) (put-sets-32 s at (v % 0x100000000) (omega arith))
-    ∙ ap (λ (k : ℕ). sets (sets s at (littleEndian 4 (v % 0x100000000))) (at + k) (littleEndian 4 (v / 0x100000000))) (sym (length-littleEndian 4 (v % 0x100000000)))
+    ∙ ap (λ (k : ℕ). sets (sets s at (littleEndian 4 (v % 0x100000000))) (at + k) (littleEndian 4 (v / 0x100000000)))
+    (sym (length-littleEndian 4 (v % 0x100000000)))
     ∙ sym (sets-append s at (littleEndian 4 (v % 0x100000000)) (littleEndian 4 (v / 0x100000000)))
     ∙ ap (sets s at) (halves-64 v h)
 

@@ -16,7 +16,9 @@ use borrow.Author.Tests.{eqb-true}
 use Rattle.integer.specs.Wrap.{pattern, modulo}
 use Rattle.scalar.specs.Basic.{bool, int, double, long, void}
 use Rattle.scalar.specs.Value.{Value, value, basicOf, number, pick}
-use Rattle.scalar.specs.Operator.{Answer, wrong, gives, littleEndian, boolOf, ofBool, ofInt, intOf, longOf, doubleOf, sameBytes, alike, Numeric, numericBy, adding, subtracting, comparing, andBy, equalBy, notOf, negateOf, andOf, addOf, subtractOf, lessOf, equalOf}
+use Rattle.scalar.specs.Operator.{Answer, wrong, gives, littleEndian, boolOf, ofBool, ofInt, intOf, longOf, doubleOf, sameBytes}
+use Rattle.scalar.specs.Operator.{alike, Numeric, numericBy, adding, subtracting, comparing, andBy, equalBy}
+use Rattle.scalar.specs.Operator.{notOf, negateOf, andOf, addOf, subtractOf, lessOf, equalOf}
 use Rattle.scalar.specs.NumberLaws.{Sound, sound-bool, sound-int, sound-long, sound-double}
 
 -- "int, long or double"
@@ -104,7 +106,8 @@ not-wrong (value b v) e = pick-no (eqb b bool) _ wrong e
 
 pub and-gives : (x y : Value) → (eqb (basicOf x) bool && eqb (basicOf x) (basicOf y)) ≡ true → Gives bool (andOf x y)
 unfolding andOf
-and-gives = alike-gives andBy (λ b. bool) (λ b. eqb b bool) (λ b v w e. pick-yes (Gives bool) (eqb b bool) _ wrong e (gives-it bool _ (sound-bool (boolOf v && boolOf w))))
+and-gives = alike-gives andBy (λ b. bool) (λ b. eqb b bool)
+    (λ b v w e. pick-yes (Gives bool) (eqb b bool) _ wrong e (gives-it bool _ (sound-bool (boolOf v && boolOf w))))
 
 pub and-wrong : (x y : Value) → (eqb (basicOf x) bool && eqb (basicOf x) (basicOf y)) ≡ false → andOf x y ≡ wrong
 unfolding andOf
@@ -169,7 +172,8 @@ not-is false s e = ap not e
 
 pub equal-gives : (x y : Value) → (not (eqb (basicOf x) void) && eqb (basicOf x) (basicOf y)) ≡ true → Gives bool (equalOf x y)
 unfolding equalOf
-equal-gives = alike-gives equalBy (λ b. bool) (λ b. not (eqb b void)) (λ b v w e. equal-by (eqb b void) (eqb b double) (eq (doubleOf v) (doubleOf w)) (sameBytes v w) (not-is (eqb b void) true e))
+equal-gives = alike-gives equalBy (λ b. bool) (λ b. not (eqb b void))
+    (λ b v w e. equal-by (eqb b void) (eqb b double) (eq (doubleOf v) (doubleOf w)) (sameBytes v w) (not-is (eqb b void) true e))
 
 pub equal-wrong : (x y : Value) → (not (eqb (basicOf x) void) && eqb (basicOf x) (basicOf y)) ≡ false → equalOf x y ≡ wrong
 unfolding equalOf

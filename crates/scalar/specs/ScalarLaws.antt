@@ -1,15 +1,22 @@
--- A value that is read and written back is the same bytes, and a value that is written and read again is the same value.
+-- A value that is read and written back is the same bytes, a value that is written and read again is the same value, and no value of
+-- the code is longer than 16 bytes.
 use Prim.Native.Nat.{ℕ, _+_, _≤_}
 use native.Mathlib.Omega.{arith}
 use mathlib.Core.Path.{_≡_, refl, ap, _∙_}
 use mathlib.Core.List.{List, _++_}
-use lib.ListN.{length, take, drop}
+use lib.ListN.{length, take, drop, length-take}
+use lib.Ieee.{binary64, toBits}
+use mir.Syntax.{w32, w64}
+use Rattle.integer.specs.Wrap.{pattern}
 use lib.Seq.{take-at, drop-at, length-take-le}
 use Rattle.wire.specs.Wire.{part, withPart}
 use Rattle.wire.specs.WireLaws.{through-start, through-whole}
 use Rattle.scalar.specs.declared.Operand.{Operand}
+use Rattle.scalar.specs.declared.Scalar.{Scalar}
+use Rattle.scalar.specs.declared.Scalar.the-variants.{Bool, Int, Double, Long, String, Raw, Void}
+use Rattle.scalar.specs.NumberLaws.{length-littleEndian}
 use Rattle.scalar.specs.Value.{Value, value, basicOf, bytesOf}
-use Rattle.scalar.specs.Scalar.{valueOf}
+use Rattle.scalar.specs.Scalar.{valueBeside, valueOf, beside}
 
 -- What `read` gives of the bytes of a value, written to their own place, leaves the slice as it is.
 pub written-back : (s : List ℕ) (at b n : ℕ) (x : Operand) → at + n ≤ length s → valueOf x ≡ value b (part s at n) → withPart s at (bytesOf (valueOf x)) ≡ s
@@ -21,3 +28,17 @@ pub read-again : (s : List ℕ) (at : ℕ) (v : Value) → at + length (bytesOf 
 read-again s at (value b v) h =
     let l : length (take at s) ≡ at = length-take-le at s (omega arith) in
     ap (value b) (ap (take (length v)) (drop-at (take at s) (v ++ drop (at + length v) s) at l) ∙ take-at v (drop (at + length v) s) (length v) refl)
+
+-- A value of the code has at most 16 bytes.
+pub short-value : (x : Operand) → length (x .bytes) ≡ 16 → length (bytesOf (valueOf x)) ≤ 16
+unfolding valueOf
+short-value x e = by (x .scalar)
+  where
+    by : (k : Scalar) → length (bytesOf (valueBeside k (beside x))) ≤ 16
+    by (Bool b) = omega arith
+    by (Int z) = omega (arith, length-littleEndian 4 (pattern w32 z))
+    by (Double d) = omega (arith, length-littleEndian 8 (toBits binary64 d))
+    by (Long z) = omega (arith, length-littleEndian 8 (pattern w64 z))
+    by String = omega (arith, length-take (x .len) (x .bytes))
+    by Raw = omega (arith, length-take (x .len) (x .bytes))
+    by Void = omega arith

@@ -101,7 +101,15 @@ module _ (s : List ℕ) (at b n : ℕ) (h : at + n ≤ length s) where
 
   pub no-value : 6 < b → Says false
   unfolding isValue
-  no-value e = simp (ne-eqb b 0 (omega arith), ne-eqb b 1 (omega arith), ne-eqb b 2 (omega arith), ne-eqb b 3 (omega arith), ne-eqb b 4 (omega arith), ne-eqb b 5 (omega arith), ne-eqb b 6 (omega arith))
+  no-value e = simp (
+    ne-eqb b 0 (omega arith),
+    ne-eqb b 1 (omega arith),
+    ne-eqb b 2 (omega arith),
+    ne-eqb b 3 (omega arith),
+    ne-eqb b 4 (omega arith),
+    ne-eqb b 5 (omega arith),
+    ne-eqb b 6 (omega arith),
+  )
 
 -- ---- what the value rule tells of the bytes
 
@@ -141,7 +149,14 @@ module _ (b : ℕ) (v : List ℕ) (h : isValue b v ≡ true) where
   pub void-bytes : 6 ≤ b → (b ≡ 6) × (v ≡ [])
   unfolding isValue
   void-bytes e =
-      let k = simp (ne-eqb b 0 (λ q. omega arith), ne-eqb b 1 (λ q. omega arith), ne-eqb b 2 (λ q. omega arith), ne-eqb b 3 (λ q. omega arith), ne-eqb b 4 (λ q. omega arith), ne-eqb b 5 (λ q. omega arith)) at h in
+      let k = simp (
+        ne-eqb b 0 (λ q. omega arith),
+        ne-eqb b 1 (λ q. omega arith),
+        ne-eqb b 2 (λ q. omega arith),
+        ne-eqb b 3 (λ q. omega arith),
+        ne-eqb b 4 (λ q. omega arith),
+        ne-eqb b 5 (λ q. omega arith),
+      ) at h in
       void-by (eqb b 6) refl k
     where
       empty : (u : List ℕ) → length u ≡ 0 → u ≡ []

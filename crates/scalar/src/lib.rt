@@ -4,7 +4,7 @@ ghost use mathlib.Core.Bool.{true, _&&_};
 ghost use mathlib.Core.List.{[]};
 ghost use Prim.Native.Nat.{_+_, _≤_, min};
 ghost use lib.ListN.{length, take, drop};
-ghost use lib.Ieee.{binary64, ofBits, toBits, nanBits};
+ghost use lib.Ieee.{binary64, ofBits, toBits, nanBits, lt, eq};
 ghost use Rattle.scalar.specs.Value.{value, bytesOf, isValue};
 ghost use Rattle.wire.specs.Wire.{part, withPart};
 ghost use Rattle.scalar.specs.Operator.{notOf, negateOf, andOf, addOf, subtractOf, lessOf, equalOf, sameBytes, bit};
@@ -107,6 +107,20 @@ pub fn double_bits(x: f64) -> u64
     } else {
         f64::to_bits(x)
     }
+}
+
+// False where one is a NaN.
+fn double_less(p: f64, q: f64) -> bool
+    ensures { λ r. ⌜ r ≡ lt p q ⌝ }
+{
+    p < q
+}
+
+// IEEE equality: false where one is a NaN, and 0.0 equals -0.0.
+fn double_equal(p: f64, q: f64) -> bool
+    ensures { λ r. ⌜ r ≡ eq p q ⌝ }
+{
+    p == q
 }
 
 // Are the bytes of two slices the same?
@@ -235,7 +249,7 @@ pub fn less(a: Operand, b: Operand) -> Computed
     match paired(x, y) {
         Pair::Ints(p, q) => Computed::Gives(Scalar::Bool(p < q)),
         Pair::Longs(p, q) => Computed::Gives(Scalar::Bool(p < q)),
-        Pair::Doubles(p, q) => Computed::Gives(Scalar::Bool(p < q)),
+        Pair::Doubles(p, q) => Computed::Gives(Scalar::Bool(double_less(p, q))),
         _ => Computed::Wrong,
     }
 }
@@ -266,7 +280,7 @@ pub fn equal(a: Operand, b: Operand) -> Computed
         Pair::Bools(p, q) => Computed::Gives(Scalar::Bool(p == q)),
         Pair::Ints(p, q) => Computed::Gives(Scalar::Bool(p == q)),
         Pair::Longs(p, q) => Computed::Gives(Scalar::Bool(p == q)),
-        Pair::Doubles(p, q) => Computed::Gives(Scalar::Bool(p == q)),
+        Pair::Doubles(p, q) => Computed::Gives(Scalar::Bool(double_equal(p, q))),
         Pair::Strings => Computed::Gives(Scalar::Bool(same_beside(a, b))),
         Pair::Raws => Computed::Gives(Scalar::Bool(same_beside(a, b))),
         _ => Computed::Wrong,

@@ -7,7 +7,8 @@ use mathlib.Core.Logic.{_⊎_, inl, inr, ⊎-elim}
 use mathlib.Core.Path.{_≡_, refl, sym, _∙_, ap}
 use mathlib.Core.List.{List, _++_}
 use lib.ListN.{set, length, take, drop, length-set, length-append, length-take, length-drop, take-append-drop, List·getD-eq-default, List·getD-append}
-use lib.Seq.{getD-set-same, getD-set-other, getD-take, getD-drop, getD-append-add, drop-set-add, drop-set-lt, take-set-le, take-set-lt, drop-drop, length-take-le}
+use lib.Seq.{getD-set-same, getD-set-other, getD-take, getD-drop, getD-append-add}
+use lib.Seq.{drop-set-add, drop-set-lt, take-set-le, take-set-lt, drop-drop, length-take-le}
 use Rattle.wire.specs.Wire.{byteAt, u16At, u32At, u64At, putU16, putU32, putU64, part, withPart}
 
 -- The n bytes at k and the m bytes at `at` have none in common.
@@ -71,6 +72,20 @@ u32-short s at h = omega (arith, u16-past s (at + 2) h)
 pub u64-short : (s : List ℕ) (at : ℕ) → length s ≤ at + 4 → u64At s at ≡ u32At s at
 unfolding u64At
 u64-short s at h = omega (arith, u32-past s (at + 4) h)
+
+-- ---- a number of bytes is below its width's power
+
+pub u16-below : (s : List ℕ) (at : ℕ) → ((k : ℕ) → byteAt s k < 256) → u16At s at < 0x10000
+unfolding u16At
+u16-below s at bytes = omega (arith, bytes at, bytes (at + 1))
+
+pub u32-below : (s : List ℕ) (at : ℕ) → ((k : ℕ) → byteAt s k < 256) → u32At s at < 0x100000000
+unfolding u32At
+u32-below s at bytes = omega (arith, u16-below s at bytes, u16-below s (at + 2) bytes)
+
+pub u64-below : (s : List ℕ) (at : ℕ) → ((k : ℕ) → byteAt s k < 256) → u64At s at < 0x10000000000000000
+unfolding u64At
+u64-below s at bytes = omega (arith, u32-below s at bytes, u32-below s (at + 4) bytes)
 
 -- ---- the length is kept
 
@@ -171,7 +186,8 @@ module _ (s : List ℕ) (at : ℕ) (new : List ℕ) (fits : at + length new ≤ 
   inside : (k : ℕ) → k < length new → byteAt (withPart s at new) (at + k) ≡ byteAt new k
   inside k h =
       let e : at + k ≡ length (take at s) + k = omega (arith, head-length) in
-      ap (byteAt (withPart s at new)) e ∙ getD-append-add (take at s) (new ++ drop (at + length new) s) k 0 ∙ List·getD-append new (drop (at + length new) s) 0 k h
+      ap (byteAt (withPart s at new)) e ∙ getD-append-add (take at s) (new ++ drop (at + length new) s) k 0
+      ∙ List·getD-append new (drop (at + length new) s) 0 k h
 
   before : (k : ℕ) → k < at → byteAt (withPart s at new) k ≡ byteAt s k
   before k h = List·getD-append (take at s) (new ++ drop (at + length new) s) 0 k (omega (arith, head-length)) ∙ getD-take at s k 0 h

@@ -1,11 +1,16 @@
 use Rattle.scalar.proofs.Operating.{equal-bools, equal-ints, equal-longs, equal-doubles, equal-strings, equal-raws, equal-other}
-use mir.Syntax.{w32, w64}
 use mir.Val.{SFits}
-use lib.Dec.{T}
 use lib.Ieee.{binary64, fits}
+use lib.Dec.{T}
+use mir.Syntax.{w32, w64}
 use borrow.Author.Needs.{needs}
 use Rattle.scalar.proofs.equal.Statement.{statement}
 use Rattle.scalar.proofs.equal.Tie as tie
+use Rattle.scalar.proofs.equal.Reads as reads
+use Rattle.scalar.proofs.equal.Lts as lts
+use Rattle.scalar.proofs.double_equal.Reads as double-equal-reads
+use Rattle.scalar.proofs.paired.Reads as paired-reads
+use Rattle.scalar.proofs.same_beside.Reads as same-beside-reads
 
 paired-requires : tie.Need-paired-requires
 paired-requires c κs = search needs
@@ -21,6 +26,9 @@ enum-known-p-3 c = search needs
 
 enum-known-p-4 : tie.Need-enum-known-p-4
 enum-known-p-4 c = search needs
+
+double-equal-requires : tie.Need-double-equal-requires
+double-equal-requires c κs = search needs
 
 enum-told : tie.Need-enum-told
 enum-told c = search needs
@@ -55,11 +63,11 @@ returns-3 c =
 
 returns-4 : tie.Need-returns-4
 returns-4 c =
-    let s = c .before .before .before in
-    let g = c .before .p4 .given in
+    let s = c .before .before .before .before in
+    let g = c .before .before .p4 .given in
     let fp : T (fits binary64 (g .0 .0)) = search needs in
     let fq : T (fits binary64 (g .0 .1 .0)) = search needs in
-    equal-doubles (s .before .args .a) (s .before .args .b) (s .paired .result) (s .paired .ensures) (g .1) fp fq
+    equal-doubles (s .before .args .a) (s .before .args .b) (s .paired .result) (s .paired .ensures) (g .1) fp fq (c .double-equal .ensures)
 
 returns-5 : tie.Need-returns-5
 returns-5 c = let s = c .before .before .before in equal-strings (s .before .args .a) (s .before .args .b) (s .paired .result) (s .paired .ensures) (c .before .enum-told .given .1) (c .same-beside .ensures)
@@ -79,6 +87,7 @@ equal-spec =
     enum-known-p-2
     enum-known-p-3
     enum-known-p-4
+    double-equal-requires
     enum-told
     same-beside-requires
     enum-told-2

@@ -1,14 +1,18 @@
-use lib.Signed.{ltZ}
 use Rattle.scalar.proofs.Operating.{less-ints, less-longs, less-doubles, less-other}
-use mir.Syntax.{w32, w64}
-use mir.Val.{SFits, toZ, ofZ}
-use mir.ValLaws.{toZ-ofZ}
+use lib.Signed.{ltZ}
 use mathlib.Core.Path.{_≡_, refl}
-use lib.Dec.{T}
+use mir.ValLaws.{toZ-ofZ}
+use mir.Val.{SFits, toZ, ofZ}
 use lib.Ieee.{binary64, fits}
+use lib.Dec.{T}
+use mir.Syntax.{w32, w64}
 use borrow.Author.Needs.{needs}
 use Rattle.scalar.proofs.less.Statement.{statement}
 use Rattle.scalar.proofs.less.Tie as tie
+use Rattle.scalar.proofs.less.Reads as reads
+use Rattle.scalar.proofs.less.Lts as lts
+use Rattle.scalar.proofs.double_less.Reads as double-less-reads
+use Rattle.scalar.proofs.paired.Reads as paired-reads
 
 paired-requires : tie.Need-paired-requires
 paired-requires c κs = search needs
@@ -21,6 +25,9 @@ enum-known-p-2 c = search needs
 
 enum-known-p-3 : tie.Need-enum-known-p-3
 enum-known-p-3 c = search needs
+
+double-less-requires : tie.Need-double-less-requires
+double-less-requires c κs = search needs
 
 returns : tie.Need-returns
 returns c =
@@ -42,14 +49,14 @@ returns-2 c =
 
 returns-3 : tie.Need-returns-3
 returns-3 c =
-    let s = c .before .before .before in
-    let g = c .before .p3 .given in
+    let s = c .before .before .before .before in
+    let g = c .before .before .p3 .given in
     let fp : T (fits binary64 (g .0 .0)) = search needs in
     let fq : T (fits binary64 (g .0 .1 .0)) = search needs in
-    less-doubles (s .before .args .a) (s .before .args .b) (s .paired .result) (s .paired .ensures) (g .1) fp fq
+    less-doubles (s .before .args .a) (s .before .args .b) (s .paired .result) (s .paired .ensures) (g .1) fp fq (c .double-less .ensures)
 
 returns-4 : tie.Need-returns-4
-returns-4 c = less-other (c .before .before .args .a) (c .before .before .args .b) (c .before .paired .result) (c .before .paired .ensures) (c .match .keys4)
+returns-4 c = let s = c .before in less-other (s .before .args .a) (s .before .args .b) (s .paired .result) (s .paired .ensures) (c .match .keys4)
 
 pub less-spec : {M : Type 1} → statement M
 less-spec =
@@ -59,6 +66,7 @@ less-spec =
     enum-known-p
     enum-known-p-2
     enum-known-p-3
+    double-less-requires
     returns
     returns-2
     returns-3
