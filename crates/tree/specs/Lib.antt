@@ -1,0 +1,9 @@
+pub mod Encode
+pub mod Decode
+pub mod Ids
+pub mod IdsLaws
+pub mod Part
+pub mod Standing
+pub mod EncodeLaws
+pub mod StandingLaws
+pub mod DecodeLaws
