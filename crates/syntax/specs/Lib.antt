@@ -1,1 +1,2 @@
 pub mod Syntax
+pub mod Rows
