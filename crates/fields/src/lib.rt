@@ -1,0 +1,258 @@
+// Refusal 4 on the rows of E and B, by the table of what each kind's fields are: the lowest place of a broken rule. The use of B
+// rows is judged elsewhere.
+ghost use mathlib.Core.Path.{_≡_};
+ghost use mathlib.Core.Bool.{not, _&&_, _||_};
+ghost use Prim.Native.Nat.{_+_, _<_};
+ghost use Rattle.scalar.specs.Value.{isValue};
+ghost use Rattle.wire.specs.Wire.{part, u16At};
+ghost use Rattle.network.specs.Least.{rule};
+ghost use Rattle.fields.specs.Sorts.{fieldsOf};
+ghost use Rattle.network.specs.Kinds.{fields, expressionFields, behaviourFields};
+ghost use Rattle.network.specs.Rows.{fieldA, fieldB, fieldC, fieldD, subFits, inputFits, constantFits, fieldFits, fieldsRule, basicFits, expressionRow, expressionRows};
+ghost use Rattle.network.specs.Rows.{behaviourHead, branchRule, branchRows, choiceRun, behaviourRow, behaviourRows};
+
+use layout::both;
+use layout::either;
+use layout::least;
+use layout::rule;
+use network::BehaviourKind;
+use network::Broken;
+use network::ExpressionKind;
+use network::FieldSort;
+
+// What the fields a, b, c, d of a row are.
+pub struct Sorts {
+    pub a: FieldSort,
+    pub b: FieldSort,
+    pub c: FieldSort,
+    pub d: FieldSort,
+}
+
+fn sorts_of(a: FieldSort, b: FieldSort, c: FieldSort, d: FieldSort) -> Sorts
+    ensures { λ r. ⌜ fieldsOf r ≡ fields a b c d ⌝ }
+{
+    Sorts { a: a, b: b, c: c, d: d }
+}
+
+fn expression_sorts(k: ExpressionKind) -> Sorts
+    ensures { λ r. ⌜ fieldsOf r ≡ expressionFields k ⌝ }
+{
+    match k {
+        ExpressionKind::Constant => sorts_of(FieldSort::ConstantPart, FieldSort::Free, FieldSort::Unused, FieldSort::Free),
+        ExpressionKind::ValueAt => sorts_of(FieldSort::PathRow, FieldSort::Unused, FieldSort::Unused, FieldSort::Free),
+        ExpressionKind::Presence => sorts_of(FieldSort::PathRow, FieldSort::Unused, FieldSort::Unused, FieldSort::Free),
+        ExpressionKind::Not => sorts_of(FieldSort::EarlierRow, FieldSort::Unused, FieldSort::Unused, FieldSort::Free),
+        ExpressionKind::Negate => sorts_of(FieldSort::EarlierRow, FieldSort::Unused, FieldSort::Unused, FieldSort::Free),
+        ExpressionKind::Add => sorts_of(FieldSort::EarlierRow, FieldSort::EarlierRow, FieldSort::Unused, FieldSort::Free),
+        ExpressionKind::Subtract => sorts_of(FieldSort::EarlierRow, FieldSort::EarlierRow, FieldSort::Unused, FieldSort::Free),
+        ExpressionKind::Less => sorts_of(FieldSort::EarlierRow, FieldSort::EarlierRow, FieldSort::Unused, FieldSort::Free),
+        ExpressionKind::Equal => sorts_of(FieldSort::EarlierRow, FieldSort::EarlierRow, FieldSort::Unused, FieldSort::Free),
+        ExpressionKind::And => sorts_of(FieldSort::EarlierRow, FieldSort::EarlierRow, FieldSort::Unused, FieldSort::Free),
+        ExpressionKind::Unknown => sorts_of(FieldSort::Free, FieldSort::Free, FieldSort::Free, FieldSort::Free),
+    }
+}
+
+pub fn behaviour_sorts(k: BehaviourKind) -> Sorts
+    ensures { λ r. ⌜ fieldsOf r ≡ behaviourFields k ⌝ }
+{
+    match k {
+        BehaviourKind::Nil => sorts_of(FieldSort::Unused, FieldSort::Unused, FieldSort::Unused, FieldSort::Unused),
+        BehaviourKind::OneWay => sorts_of(FieldSort::OperationRow, FieldSort::PathRow, FieldSort::Unused, FieldSort::Unused),
+        BehaviourKind::RequestResponse => sorts_of(FieldSort::OperationRow, FieldSort::PathRow, FieldSort::PathRow, FieldSort::LaterRow),
+        BehaviourKind::Notification => sorts_of(FieldSort::OperationRow, FieldSort::ExpressionRow, FieldSort::Unused, FieldSort::Unused),
+        BehaviourKind::SolicitResponse => sorts_of(FieldSort::OperationRow, FieldSort::ExpressionRow, FieldSort::PathRow, FieldSort::Unused),
+        BehaviourKind::If => sorts_of(FieldSort::ExpressionRow, FieldSort::LaterRow, FieldSort::LaterRow, FieldSort::Unused),
+        BehaviourKind::While => sorts_of(FieldSort::ExpressionRow, FieldSort::LaterRow, FieldSort::Unused, FieldSort::Unused),
+        BehaviourKind::Sequence => sorts_of(FieldSort::LaterRow, FieldSort::LaterRow, FieldSort::Unused, FieldSort::Unused),
+        BehaviourKind::Parallel => sorts_of(FieldSort::LaterRow, FieldSort::LaterRow, FieldSort::Unused, FieldSort::Unused),
+        BehaviourKind::Assign => sorts_of(FieldSort::PathRow, FieldSort::ExpressionRow, FieldSort::Unused, FieldSort::Unused),
+        BehaviourKind::Choice => sorts_of(FieldSort::BranchRun, FieldSort::BranchCount, FieldSort::Unused, FieldSort::Unused),
+        BehaviourKind::Branch => sorts_of(FieldSort::InputRow, FieldSort::LaterRow, FieldSort::Unused, FieldSort::Unused),
+        BehaviourKind::Unknown => sorts_of(FieldSort::Free, FieldSort::Free, FieldSort::Free, FieldSort::Free),
+    }
+}
+
+fn sub_fits(s: &[u8], r: u16, v: u16) -> bool
+    ensures { λ t. ⌜ t ≡ subFits (now (s .entry)) r v ⌝ }
+{
+    both(both(r < v, v < layout::behaviour_count(s)), !rows::is_branch(rows::kind_at(s, v)))
+}
+
+fn input_fits(s: &[u8], r: u16, v: u16) -> bool
+    ensures { λ t. ⌜ t ≡ inputFits (now (s .entry)) r v ⌝ }
+{
+    both(both(r < v, v < layout::behaviour_count(s)), rows::is_input(rows::kind_at(s, v)))
+}
+
+// Are the bytes from `at` on, n of them as far as there are so many, a value of the basic type?
+fn value_at(s: &[u8], at: usize, basic: u8, n: usize) -> bool
+    ensures { λ t. ⌜ t ≡ isValue basic (part (now (s .entry)) at n) ⌝ }
+{
+    let from = layout::smaller(at, s.len());
+    let len = layout::smaller(n, s.len() - from);
+    scalar::value_ok(s, from, basic, len)
+}
+
+fn constant_fits(s: &[u8], basic: u8, v: u16, n: u16) -> bool
+    ensures { λ t. ⌜ t ≡ constantFits (now (s .entry)) basic v n ⌝ }
+{
+    let inside = wire::index(v) + wire::index(n) <= wire::index(layout::data_size(s));
+    both(inside, value_at(s, layout::data_start(s) + wire::index(v), basic, wire::index(n)))
+}
+
+fn field_fits(s: &[u8], r: u16, basic: u8, q: FieldSort, v: u16, w: u16) -> bool
+    ensures { λ t. ⌜ t ≡ fieldFits (now (s .entry)) r basic q v w ⌝ }
+{
+    match q {
+        FieldSort::Free => true,
+        FieldSort::Unused => v == 0,
+        FieldSort::PathRow => v < layout::path_count(s),
+        FieldSort::EarlierRow => v < r,
+        FieldSort::ExpressionRow => v < layout::expression_count(s),
+        FieldSort::OperationRow => v < layout::operation_count(s),
+        FieldSort::LaterRow => sub_fits(s, r, v),
+        FieldSort::InputRow => input_fits(s, r, v),
+        FieldSort::BranchRun => rules::later_run(layout::behaviour_count(s), r, v, w),
+        FieldSort::BranchCount => both(1 <= v, v <= 8),
+        FieldSort::ConstantPart => constant_fits(s, basic, v, w),
+    }
+}
+
+// The rules of fields a, b, c of row r, which are of these sorts and stand from `at` + 2 on.
+fn sorts_rule(s: &[u8], r: u16, basic: u8, qa: FieldSort, qb: FieldSort, qc: FieldSort, at: usize, others: Broken) -> Broken
+    requires { ⌜ at < 1000000 ⌝ }
+    ensures { λ m. ⌜ m ≡ fieldsRule (now (s .entry)) r basic (fields qa qb qc qc) at others ⌝ }
+{
+    let a = wire::u16_at(s, at + 2);
+    let b = wire::u16_at(s, at + 4);
+    let c = wire::u16_at(s, at + 6);
+    rule(field_fits(s, r, basic, qa, a, b), at + 2,
+    rule(field_fits(s, r, basic, qb, b, c), at + 4,
+    rule(field_fits(s, r, basic, qc, c, 0), at + 6, others)))
+}
+
+fn fields_rule(s: &[u8], r: u16, basic: u8, q: Sorts, at: usize, others: Broken) -> Broken
+    requires { ⌜ at < 1000000 ⌝ }
+    ensures { λ m. ⌜ m ≡ fieldsRule (now (s .entry)) r basic (fieldsOf q) at others ⌝ }
+{
+    let qa = q.a;
+    let qb = q.b;
+    let qc = q.c;
+    sorts_rule(s, r, basic, qa, qb, qc, at, others)
+}
+
+fn basic_fits(k: ExpressionKind, basic: u8) -> bool
+    ensures { λ t. ⌜ t ≡ basicFits k basic ⌝ }
+{
+    match k {
+        ExpressionKind::Constant => basic <= 6,
+        ExpressionKind::ValueAt => basic == 0,
+        ExpressionKind::Presence => basic == 0,
+        ExpressionKind::Not => basic == 0,
+        ExpressionKind::Negate => basic == 0,
+        ExpressionKind::Add => basic == 0,
+        ExpressionKind::Subtract => basic == 0,
+        ExpressionKind::Less => basic == 0,
+        ExpressionKind::Equal => basic == 0,
+        ExpressionKind::And => basic == 0,
+        ExpressionKind::Unknown => true,
+    }
+}
+
+fn expression_rule(s: &[u8], r: u16) -> Broken
+    ensures { λ m. ⌜ m ≡ expressionRow (now (s .entry)) r ⌝ }
+{
+    let at = layout::expression_at(s, r);
+    let k = rows::expression_kind_at(s, r);
+    let basic = wire::byte_at(s, at + 1);
+    rule(wire::byte_at(s, at) <= 9, at,
+    rule(basic_fits(k, basic), at + 1,
+    fields_rule(s, r, basic, expression_sorts(k), at, Broken::Nowhere)))
+}
+
+pub fn expression_rows(s: &[u8]) -> Broken
+    ensures { λ m. ⌜ m ≡ expressionRows (now (s .entry)) ⌝ }
+{
+    let n = layout::expression_count(s);
+    let mut m = Broken::Nowhere;
+    let mut i: u16 = 0;
+    while i < n {
+        m = least(m, expression_rule(s, i));
+        i += 1;
+    }
+    m
+}
+
+fn behaviour_head(s: &[u8], at: usize, others: Broken) -> Broken
+    requires { ⌜ at < 1000000 ⌝ }
+    ensures { λ m. ⌜ m ≡ behaviourHead (now (s .entry)) at others ⌝ }
+{
+    rule(wire::byte_at(s, at) <= 11, at,
+    rule(wire::byte_at(s, at + 1) == 0, at + 1, others))
+}
+
+fn branch_rule(s: &[u8], at: usize, j: u16) -> Broken
+    requires { ⌜ at < 1000000 ⌝ }
+    ensures { λ m. ⌜ m ≡ branchRule (now (s .entry)) at j ⌝ }
+{
+    let inside = rules::in_run(wire::u16_at(s, at + 2), wire::u16_at(s, at + 4), j);
+    rule(either(!inside, rows::is_branch(rows::kind_at(s, j))), at + 2, Broken::Nowhere)
+}
+
+fn branch_rows(s: &[u8], at: usize) -> Broken
+    requires { ⌜ at < 1000000 ⌝ }
+    ensures { λ m. ⌜ m ≡ branchRows (now (s .entry)) at ⌝ }
+{
+    let first = wire::u16_at(s, at + 2);
+    let n = wire::u16_at(s, at + 4);
+    let size = layout::behaviour_count(s);
+    let end = layout::clipped(first, n, size);
+    let mut m = Broken::Nowhere;
+    let mut i = layout::clipped(first, 0, size);
+    while i < end {
+        m = least(m, branch_rule(s, at, i));
+        i += 1;
+    }
+    m
+}
+
+fn choice_run(s: &[u8], r: u16) -> Broken
+    ensures { λ m. ⌜ m ≡ choiceRun (now (s .entry)) r ⌝ }
+{
+    let at = layout::behaviour_at(s, r);
+    let k = rows::kind_at(s, r);
+    let choice = rows::is_choice(k);
+    if choice {
+        return branch_rows(s, at);
+    }
+    Broken::Nowhere
+}
+
+fn last_rule(s: &[u8], r: u16, q: Sorts, at: usize, others: Broken) -> Broken
+    requires { ⌜ at < 1000000 ⌝ }
+    ensures { λ m. ⌜ m ≡ rule (fieldFits (now (s .entry)) r 0 (fieldsOf q .d) (fieldD (now (s .entry)) at) 0) (at + 8) others ⌝ }
+{
+    let qd = q.d;
+    rule(field_fits(s, r, 0, qd, wire::u16_at(s, at + 8), 0), at + 8, others)
+}
+
+fn behaviour_rule(s: &[u8], r: u16) -> Broken
+    ensures { λ m. ⌜ m ≡ behaviourRow (now (s .entry)) r ⌝ }
+{
+    let at = layout::behaviour_at(s, r);
+    let q = behaviour_sorts(rows::kind_at(s, r));
+    behaviour_head(s, at, fields_rule(s, r, 0, q, at, last_rule(s, r, q, at, choice_run(s, r))))
+}
+
+pub fn behaviour_rows(s: &[u8]) -> Broken
+    ensures { λ m. ⌜ m ≡ behaviourRows (now (s .entry)) ⌝ }
+{
+    let n = layout::behaviour_count(s);
+    let mut m = Broken::Nowhere;
+    let mut i: u16 = 0;
+    while i < n {
+        m = least(m, behaviour_rule(s, i));
+        i += 1;
+    }
+    m
+}

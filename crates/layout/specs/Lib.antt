@@ -1,0 +1,2 @@
+pub mod LeastFacts
+pub mod Loops

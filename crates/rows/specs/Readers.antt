@@ -1,0 +1,97 @@
+-- Whole rows by value: what a reader of one row gives, over network's field definitions. 01, Network file, the items P to S. A row
+-- out of range reads as what stands there.
+use Prim.Native.Nat.{ℕ, _+_}
+use mathlib.Core.List.{List}
+use lib.Dec.{eqb}
+use Rattle.scalar.specs.Value.{pick}
+use Rattle.wire.specs.Wire.{byteAt, u16At}
+use Rattle.network.specs.declared.ExpressionKind.{ExpressionKind}
+use Rattle.network.specs.declared.BehaviourKind.{BehaviourKind}
+use Rattle.network.specs.Layout.{pathAt, expressionAt, behaviourAt}
+use Rattle.network.specs.Rows.{typeId, cardinality, typeBasic, firstChild, childCount, fieldA, fieldB, fieldC, fieldD, expressionKindAt, kindAt, operationService, operationDirection, operationTwoWay, operationId, operationLocation, requestType, replyType, serviceLocation, starterRow, clientRow, noRow}
+use Rattle.rows.specs.declared.PathIds.{PathIds}
+use Rattle.rows.specs.declared.TypeNode.{TypeNode}
+use Rattle.rows.specs.declared.ExpressionRow.{ExpressionRow}
+use Rattle.rows.specs.declared.BehaviourRow.{BehaviourRow}
+use Rattle.rows.specs.declared.OperationRow.{OperationRow}
+use Rattle.rows.specs.declared.Link.{Link}
+use Rattle.rows.specs.declared.ServiceRow.{ServiceRow}
+
+-- P: "four u16 ids".
+unfoldable pub pathIds : List ℕ → ℕ → PathIds
+pathIds s r = record {
+    a = u16At s (pathAt s r);
+    b = u16At s (pathAt s r + 2);
+    c = u16At s (pathAt s r + 4);
+    d = u16At s (pathAt s r + 6) }
+
+-- T: "id u16, cardinality u8 (.. 1 is [1,1]), basic u8 .., first child u16, child count u16".
+unfoldable pub typeNodeOf : List ℕ → ℕ → TypeNode
+typeNodeOf s r = record {
+    id = typeId s r;
+    mandatory = eqb (cardinality s r) 1;
+    basic = typeBasic s r;
+    first = firstChild s r;
+    count = childCount s r }
+
+-- E: "0 constant (basic; a start in D, b length), 1 path a, 2 is path a present, 3 not, 4 negate, 5 add, 6 subtract, 7 less, 8 equal,
+-- 9 and. Operands a, b are earlier rows."
+unfoldable pub expressionRowAs : ExpressionKind → ℕ → ℕ → ℕ → ExpressionRow
+expressionRowAs ExpressionKind.Constant basic a b = ExpressionRow.Constant basic a b
+expressionRowAs ExpressionKind.ValueAt basic a b = ExpressionRow.ValueAt a
+expressionRowAs ExpressionKind.Presence basic a b = ExpressionRow.Presence a
+expressionRowAs ExpressionKind.Not basic a b = ExpressionRow.Not a
+expressionRowAs ExpressionKind.Negate basic a b = ExpressionRow.Negate a
+expressionRowAs ExpressionKind.Add basic a b = ExpressionRow.Add a b
+expressionRowAs ExpressionKind.Subtract basic a b = ExpressionRow.Subtract a b
+expressionRowAs ExpressionKind.Less basic a b = ExpressionRow.Less a b
+expressionRowAs ExpressionKind.Equal basic a b = ExpressionRow.Equal a b
+expressionRowAs ExpressionKind.And basic a b = ExpressionRow.And a b
+expressionRowAs ExpressionKind.Unknown basic a b = ExpressionRow.Unknown
+
+unfoldable pub expressionRowOf : List ℕ → ℕ → ExpressionRow
+expressionRowOf s r =
+    expressionRowAs (expressionKindAt s r) (byteAt s (expressionAt s r + 1)) (fieldA s (expressionAt s r)) (fieldB s (expressionAt s r))
+
+-- B: "0 nil; 1 one-way (operation a, path b); 2 request-response (operation a, into b, reply path c, body d); 3 notification (operation
+-- a, expression b); 4 solicit-response (a, b, into c); 5 if (expression a, then b, else c); 6 while (a, body b); 7 sequence a, b;
+-- 8 parallel a, b; 9 assign (path a, expression b); 10 choice (first row a, count b ..); 11 branch (input row a .., then b ..)".
+unfoldable pub behaviourRowAs : BehaviourKind → ℕ → ℕ → ℕ → ℕ → BehaviourRow
+behaviourRowAs BehaviourKind.Nil a b c d = BehaviourRow.Nil
+behaviourRowAs BehaviourKind.OneWay a b c d = BehaviourRow.OneWay a b
+behaviourRowAs BehaviourKind.RequestResponse a b c d = BehaviourRow.RequestResponse a b c d
+behaviourRowAs BehaviourKind.Notification a b c d = BehaviourRow.Notification a b
+behaviourRowAs BehaviourKind.SolicitResponse a b c d = BehaviourRow.SolicitResponse a b c
+behaviourRowAs BehaviourKind.If a b c d = BehaviourRow.If a b c
+behaviourRowAs BehaviourKind.While a b c d = BehaviourRow.While a b
+behaviourRowAs BehaviourKind.Sequence a b c d = BehaviourRow.Sequence a b
+behaviourRowAs BehaviourKind.Parallel a b c d = BehaviourRow.Parallel a b
+behaviourRowAs BehaviourKind.Assign a b c d = BehaviourRow.Assign a b
+behaviourRowAs BehaviourKind.Choice a b c d = BehaviourRow.Choice a b
+behaviourRowAs BehaviourKind.Branch a b c d = BehaviourRow.Branch a b
+behaviourRowAs BehaviourKind.Unknown a b c d = BehaviourRow.Unknown
+
+unfoldable pub behaviourRowOf : List ℕ → ℕ → BehaviourRow
+behaviourRowOf s r =
+    behaviourRowAs (kindAt s r) (fieldA s (behaviourAt s r)) (fieldB s (behaviourAt s r)) (fieldC s (behaviourAt s r)) (fieldD s (behaviourAt s r))
+
+-- O: "service row u8, direction u8 (0 in, 1 out), two-way u8 (0, 1), 0, id u16, location u16 .., request type u16, reply type u16".
+unfoldable pub operationRowOf : List ℕ → ℕ → OperationRow
+operationRowOf s r = record {
+    service = operationService s r;
+    input = eqb (operationDirection s r) 0;
+    twoway = eqb (operationTwoWay s r) 1;
+    id = operationId s r;
+    location = operationLocation s r;
+    request = requestType s r;
+    reply = replyType s r }
+
+-- S: "starter row (a choice), client row, 65535 for none".
+unfoldable pub linkOf : ℕ → Link
+linkOf v = pick (eqb v noRow) Link.Nothing (Link.Row v)
+
+unfoldable pub serviceRowOf : List ℕ → ℕ → ServiceRow
+serviceRowOf s r = record {
+    location = serviceLocation s r;
+    starter = linkOf (starterRow s r);
+    client = linkOf (clientRow s r) }
