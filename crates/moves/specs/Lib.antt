@@ -1,0 +1,5 @@
+pub mod Readiness
+pub mod Evaluation
+pub mod Targets
+pub mod Moves
+pub mod Step

@@ -1,0 +1,429 @@
+-- What each move does, on a decoded state. 01, Moves, and refusals 15 to 19. A result is a refusal, or the state after the
+-- move with the bytes written out.
+use mathlib.Core.Bool.{Bool, true, false, _&&_}
+use mathlib.Core.List.{List, [], _∷_, _++_}
+use Prim.Native.Nat.{ℕ, zero, suc, _+_}
+use lib.Dec.{eqb, leb}
+use Rattle.forest.specs.Forest.{Forest, end, Tree, tree, Lookup, absent, present, nodes, levels}
+use Rattle.forest.specs.Path.{Path, read, replaceAt, setPayloadAt}
+use Rattle.scalar.specs.Basic.{bool, void}
+use Rattle.scalar.specs.Value.{Value, value, basicOf, bytesOf, number, pick}
+use Rattle.syntax.specs.Syntax.{MessageType, Expression, Optional, none, some, Service, Network, Operation, Direction, input, output, Behaviour, nil, oneWay, requestResponse, notification, solicitResponse, ifThenElse, whileDo, sequence, parallel, assign, choice, branch, lastBranch, waiting, answering}
+use Rattle.syntax.specs.Rows.{atRow}
+use Rattle.state.specs.Session.{ReplyTo, nobody, outsider, waitingRow, Progress, undone, done, waits, received, taken, Progresses, advance, reopen, Queued, Session, Slot, free, live, State, setSlot, newSession}
+use Rattle.refusal.specs.declared.Refusal.{Refusal}
+use Rattle.refusal.specs.declared.Refusal.the-variants.{MoveNotAllowed, QueueFull, NoMessage, Stuck, MessageMisfit}
+use Rattle.subtyping.specs.Own.{fits}
+use Rattle.typing.specs.Environment.{within}
+use Rattle.typing.specs.Rules.{permits}
+use Rattle.network.specs.Meets.{metInput, inFile, firstOf}
+use Rattle.tree.specs.Encode.{messageDeep, messageMany}
+use Rattle.tree.specs.Decode.{decodeMessage}
+use Rattle.state.specs.Bytes.{messageBytes, u32Bytes}
+use Rattle.moves.specs.Readiness.{isDone, Reached, unreached, reached, offered, reach, ifTaken, ifReceived}
+use Rattle.state.specs.Shape.{behaviourIn, isInput}
+use Rattle.moves.specs.Targets.{Target, noTarget, queueFull, queued, starts, target}
+use Rattle.moves.specs.Evaluation.{evaluate}
+
+pub data Result : Type 0 where
+  refused : Refusal → Result
+  moved : State → List ℕ → Result
+
+-- 15: "The move is not allowed by the list above".
+abbrev pub notAllowed : Result
+notAllowed = refused MoveNotAllowed
+
+-- A test with its refusal, before the rest.
+abbrev pub require : Bool → Refusal → Result → Result
+require true why r = r
+require false why r = refused why
+
+-- 18: "A value read is missing, an operand or condition is of the wrong kind".
+abbrev pub onTree : Optional (Tree Value) → (Tree Value → Result) → Result
+onTree none f = refused Stuck
+onTree (some t) f = f t
+
+abbrev pub onFound : Lookup Value → (Tree Value → Result) → Result
+onFound absent f = refused Stuck
+onFound (present t) f = f t
+
+abbrev pub rootValue : Tree Value → Value
+rootValue (tree v k) = v
+
+-- The condition's value, or 18.
+abbrev pub onBool : Value → (Bool → Result) → Result
+onBool (value b v) f = require (eqb b bool) Stuck (f (eqb (number v) 1))
+
+-- What a session is, if it is live.
+abbrev pub onLive : Slot → (Session → Result) → Result
+onLive free f = notAllowed
+onLive (live S) f = f S
+
+abbrev pub onBehaviour : Optional Behaviour → (Behaviour → Result) → Result
+onBehaviour none f = notAllowed
+onBehaviour (some b) f = f b
+
+abbrev pub onOperation : Optional Operation → (Operation → Result) → Result
+onOperation none f = notAllowed
+onOperation (some o) f = f o
+
+-- A live session with what it runs, or 15.
+abbrev pub inSession : Network → State → ℕ → ℕ → (Behaviour → Session → Result) → Result
+inSession N G q n f = onBehaviour (behaviourIn N q n) (λ B. onLive (G q n) (λ S. f B S))
+
+abbrev pub ifUndone : Progress → Result → Result
+ifUndone undone r = r
+ifUndone done r = notAllowed
+ifUndone waits r = notAllowed
+ifUndone (received to) r = notAllowed
+ifUndone (taken k) r = notAllowed
+
+abbrev pub ifWaiting : Progress → Result → Result
+ifWaiting undone r = notAllowed
+ifWaiting done r = notAllowed
+ifWaiting waits r = r
+ifWaiting (received to) r = notAllowed
+ifWaiting (taken k) r = notAllowed
+
+abbrev pub onReceived : Progress → (ReplyTo → Result) → Result
+onReceived undone f = notAllowed
+onReceived done f = notAllowed
+onReceived waits f = notAllowed
+onReceived (received to) f = f to
+onReceived (taken k) f = notAllowed
+
+-- A while is ready when it is undone, "a while whose body is done is again".
+abbrev pub ifReadyWhile : Progress → Bool → Result → Result
+ifReadyWhile undone bodyDone r = r
+ifReadyWhile done bodyDone r = notAllowed
+ifReadyWhile waits bodyDone r = notAllowed
+ifReadyWhile (received to) bodyDone r = notAllowed
+ifReadyWhile (taken k) bodyDone r = require bodyDone MoveNotAllowed r
+
+-- "Writing makes missing steps void."
+abbrev pub voidValue : Value
+voidValue = value void []
+
+-- The session with another tree and progress; with another progress; with one more message.
+abbrev pub withTree : Session → Forest Value → Progresses → Session
+withTree S F p = record { tree = F; queue = S .queue; progress = p }
+
+abbrev pub withProgress : Session → Progresses → Session
+withProgress S p = record { tree = S .tree; queue = S .queue; progress = p }
+
+abbrev pub withQueue : Session → List Queued → Session
+withQueue S l = record { tree = S .tree; queue = l; progress = S .progress }
+
+-- The state with that session live, its tree within 48 nodes and 6 levels, or 18.
+abbrev pub saveWithin : State → ℕ → ℕ → Session → List ℕ → Result
+saveWithin G q n S out = require (within (S .tree)) Stuck (moved (setSlot G q n (live S)) out)
+
+module _ (G : State) (q n : ℕ) (S : Session) where
+  -- "local: a ready assign, if or while; assign sets one root value and keeps children."
+  abbrev pub assigned : ℕ → Path → Tree Value → Result
+  assigned r x t = saveWithin G q n (withTree S (setPayloadAt voidValue x (rootValue t) (S .tree)) (advance (S .progress) r done)) []
+
+  abbrev pub decided : ℕ → Bool → Result
+  decided r c = moved (setSlot G q n (live (withProgress S (advance (S .progress) r (taken (pick c 0 1)))))) []
+
+  abbrev pub repeated : ℕ → Behaviour → Bool → Result
+  repeated r b c =
+      moved (setSlot G q n (live (withProgress S (pick c (advance (reopen (S .progress) b) r (taken 0)) (advance (S .progress) r done))))) []
+
+  unfoldable pub localAt : Behaviour → Result
+  localAt (nil r) = notAllowed
+  localAt (oneWay r o x) = notAllowed
+  localAt (requestResponse r o x c d) = notAllowed
+  localAt (notification r o e) = notAllowed
+  localAt (solicitResponse r o e x) = notAllowed
+  localAt (ifThenElse r e a b) =
+      ifUndone (S .progress r) (onTree (evaluate (S .tree) e) (λ t. onBool (rootValue t) (decided r)))
+  localAt (whileDo r e b) =
+      ifReadyWhile (S .progress r) (isDone (S .progress) 0 b) (onTree (evaluate (S .tree) e) (λ t. onBool (rootValue t) (repeated r b)))
+  localAt (sequence r a b) = notAllowed
+  localAt (parallel r a b) = notAllowed
+  localAt (assign r x e) = ifUndone (S .progress r) (onTree (evaluate (S .tree) e) (assigned r x))
+  localAt (choice r m) = notAllowed
+  localAt (branch r a b m) = notAllowed
+  localAt (lastBranch r a b) = notAllowed
+  localAt (waiting r o x) = notAllowed
+  localAt (answering r o c d) = notAllowed
+
+  abbrev pub localReached : Reached → Result
+  localReached unreached = notAllowed
+  localReached (reached b) = localAt b
+  localReached (offered c k b) = notAllowed
+
+abbrev pub localMove : Network → State → ℕ → ℕ → ℕ → Result
+localMove N G q n r = inSession N G q n (λ B S. localReached G q n S (reach (S .progress) 0 r B))
+
+-- The oldest message of the O row w, and the queue without it; "the others keep their order".
+pub data Taken : Type 0 where
+  nothing : Taken
+  message : Queued → List Queued → Taken
+
+abbrev pub keeping : Queued → Taken → Taken
+keeping m nothing = nothing
+keeping m (message x l) = message x (m ∷ l)
+
+unfoldable pub oldest : ℕ → List Queued → Taken
+oldest w [] = nothing
+oldest w (m ∷ l) = pick (eqb (m .operation) w) (message m l) (keeping m (oldest w l))
+
+module _ (G : State) (q n : ℕ) (S : Session) where
+  -- "receive: a ready input .. takes the oldest queued message of its operation and replaces the subtree." `settled` is the
+  -- progress with the branch settled, in a choice; `after` the input's progress once received.
+  abbrev pub takes : Path → Progresses → ℕ → (ReplyTo → Progress) → Taken → Result
+  takes x settled r after nothing = notAllowed
+  takes x settled r after (message m l) =
+      saveWithin G q n (withQueue (withTree S (replaceAt voidValue x (m .message) (S .tree)) (advance settled r (after (m .replyTo)))) l) []
+
+  unfoldable pub receiveAt : Progresses → Behaviour → Result
+  receiveAt settled (nil r) = notAllowed
+  receiveAt settled (oneWay r o x) =
+      ifUndone (S .progress r) (require (permits q input false o) MoveNotAllowed (takes x settled r (λ to. done) (oldest (o .row) (S .queue))))
+  receiveAt settled (requestResponse r o x c d) =
+      ifUndone (S .progress r) (require (permits q input true o) MoveNotAllowed (takes x settled r received (oldest (o .row) (S .queue))))
+  receiveAt settled (notification r o e) = notAllowed
+  receiveAt settled (solicitResponse r o e x) = notAllowed
+  receiveAt settled (ifThenElse r e a b) = notAllowed
+  receiveAt settled (whileDo r e b) = notAllowed
+  receiveAt settled (sequence r a b) = notAllowed
+  receiveAt settled (parallel r a b) = notAllowed
+  receiveAt settled (assign r x e) = notAllowed
+  receiveAt settled (choice r m) = notAllowed
+  receiveAt settled (branch r a b m) = notAllowed
+  receiveAt settled (lastBranch r a b) = notAllowed
+  receiveAt settled (waiting r o x) = notAllowed
+  receiveAt settled (answering r o c d) = notAllowed
+
+  abbrev pub receiveReached : Reached → Result
+  receiveReached unreached = notAllowed
+  receiveReached (reached b) = receiveAt (S .progress) b
+  receiveReached (offered c k b) = receiveAt (advance (S .progress) c (taken k)) b
+
+abbrev pub receiveMove : Network → State → ℕ → ℕ → ℕ → Result
+receiveMove N G q n r = inSession N G q n (λ B S. receiveReached G q n S (reach (S .progress) 0 r B))
+
+-- 16: "The target's queue holds four"; 15 where there is no target, or where 6 refuses the starter's input row.
+abbrev pub permitsInput : ℕ → Behaviour → Bool
+permitsInput q (nil r) = false
+permitsInput q (oneWay r o x) = permits q input false o
+permitsInput q (requestResponse r o x c d) = permits q input true o
+permitsInput q (notification r o e) = false
+permitsInput q (solicitResponse r o e x) = false
+permitsInput q (ifThenElse r e a b) = false
+permitsInput q (whileDo r e b) = false
+permitsInput q (sequence r a b) = false
+permitsInput q (parallel r a b) = false
+permitsInput q (assign r x e) = false
+permitsInput q (choice r m) = false
+permitsInput q (branch r a b m) = false
+permitsInput q (lastBranch r a b) = false
+permitsInput q (waiting r o x) = false
+permitsInput q (answering r o c d) = false
+
+abbrev pub allowed : ℕ → Target → Result → Result
+allowed q noTarget r = notAllowed
+allowed q queueFull r = refused QueueFull
+allowed q queued r = r
+allowed q (starts c k a) r = require (permitsInput q a) MoveNotAllowed r
+
+-- A started session: the branch k of its starter is taken, and its input has received the message.
+abbrev pub startedBy : ℕ → ℕ → ℕ → Path → Progress → Tree Value → Session
+startedBy c k r x after m =
+    withTree newSession (replaceAt voidValue x m end) (advance (advance (newSession .progress) c (taken k)) r after)
+
+abbrev pub started : ℕ → ℕ → Behaviour → ReplyTo → Tree Value → Session
+started c k (nil r) to m = newSession
+started c k (oneWay r o x) to m = startedBy c k r x done m
+started c k (requestResponse r o x y d) to m = startedBy c k r x (received to) m
+started c k (notification r o e) to m = newSession
+started c k (solicitResponse r o e x) to m = newSession
+started c k (ifThenElse r e a b) to m = newSession
+started c k (whileDo r e b) to m = newSession
+started c k (sequence r a b) to m = newSession
+started c k (parallel r a b) to m = newSession
+started c k (assign r x e) to m = newSession
+started c k (choice r b) to m = newSession
+started c k (branch r a b d) to m = newSession
+started c k (lastBranch r a b) to m = newSession
+started c k (waiting r o x) to m = newSession
+started c k (answering r o y d) to m = newSession
+
+-- The message at its target, in a state in which the sender has gone on: "queued at a live one, or starting a free 1 to 3".
+abbrev pub deliver : State → Operation → ℕ → Target → ReplyTo → Tree Value → Result
+deliver G o n noTarget to m = notAllowed
+deliver G o n queueFull to m = refused QueueFull
+deliver G o n queued to m =
+    onLive (G (o .service) n)
+    (λ S. moved (setSlot G (o .service) n (live (withQueue S (S .queue ++ (record { operation = o .row; message = m; replyTo = to } ∷ []))))) [])
+deliver G o n (starts c k a) to m = saveWithin G (o .service) n (started c k a to m) []
+
+-- "at most 16 nodes, 4 levels": one of each is the root.
+abbrev pub isMessageTree : Tree Value → Bool
+isMessageTree (tree v k) = leb (levels k) messageDeep && leb (nodes k) messageMany
+
+-- 19: "A message doesn't fit its input's request type, a reply its waiting row's reply type, or either, outbound, the sender's."
+-- A tree that is no message fits none.
+abbrev pub mustFit : Tree Value → MessageType → Result → Result
+mustFit m t r = require (isMessageTree m && fits m t) MessageMisfit r
+
+module _ (N : Network) (G : State) (q n : ℕ) (S : Session) (to : ℕ) where
+  -- The sender with its row r gone on.
+  abbrev pub goneOn : ℕ → Progress → State
+  goneOn r after = setSlot G q n (live (withProgress S (advance (S .progress) r after)))
+
+  -- Inside: to the input it meets.
+  abbrev pub sendInside : ℕ → Expression → Progress → ReplyTo → Operation → Result
+  sendInside r e after back i =
+      allowed (i .service) (target N G i to)
+      (onTree (evaluate (S .tree) e) (λ m. mustFit m (i .request) (deliver (goneOn r after) i to (target N G i to) back m)))
+
+  -- "To a location outside (target 0) the message alone goes to the start of the out buffer."
+  abbrev pub sendOutside : ℕ → Operation → Expression → Progress → Result
+  sendOutside r o e after =
+      require (eqb to 0) MoveNotAllowed (onTree (evaluate (S .tree) e) (λ m. mustFit m (o .request) (moved (goneOn r after) (messageBytes m))))
+
+  abbrev pub sendBy : ℕ → Operation → Expression → Progress → ReplyTo → Result
+  sendBy r o e after back =
+      pick (inFile N (o .location)) (onOperation (metInput N o) (sendInside r e after back)) (sendOutside r o e after)
+
+  unfoldable pub sendAt : Behaviour → Result
+  sendAt (nil r) = notAllowed
+  sendAt (oneWay r o x) = notAllowed
+  sendAt (requestResponse r o x c d) = notAllowed
+  sendAt (notification r o e) = ifUndone (S .progress r) (require (permits q output false o) MoveNotAllowed (sendBy r o e done nobody))
+  sendAt (solicitResponse r o e x) =
+      ifUndone (S .progress r) (require (permits q output true o) MoveNotAllowed (sendBy r o e waits (waitingRow q n r)))
+  sendAt (ifThenElse r e a b) = notAllowed
+  sendAt (whileDo r e b) = notAllowed
+  sendAt (sequence r a b) = notAllowed
+  sendAt (parallel r a b) = notAllowed
+  sendAt (assign r x e) = notAllowed
+  sendAt (choice r m) = notAllowed
+  sendAt (branch r a b m) = notAllowed
+  sendAt (lastBranch r a b) = notAllowed
+  sendAt (waiting r o x) = notAllowed
+  sendAt (answering r o c d) = notAllowed
+
+  abbrev pub sendReached : Reached → Result
+  sendReached unreached = notAllowed
+  sendReached (reached b) = sendAt b
+  sendReached (offered c k b) = notAllowed
+
+abbrev pub sendMove : Network → State → ℕ → ℕ → ℕ → ℕ → Result
+sendMove N G q n r to = inSession N G q n (λ B S. sendReached N G q n S to (reach (S .progress) 0 r B))
+
+-- A row that waits for its reply: where the reply goes, and its operation.
+abbrev pub onWaitingRow : ℕ → Session → Optional Behaviour → (Operation → Path → Result) → Result
+onWaitingRow q S none f = notAllowed
+onWaitingRow q S (some (nil r)) f = notAllowed
+onWaitingRow q S (some (oneWay r o x)) f = notAllowed
+onWaitingRow q S (some (requestResponse r o x c d)) f = notAllowed
+onWaitingRow q S (some (notification r o e)) f = notAllowed
+onWaitingRow q S (some (solicitResponse r o e x)) f = ifWaiting (S .progress r) (require (permits q output true o) MoveNotAllowed (f o x))
+onWaitingRow q S (some (ifThenElse r e a b)) f = notAllowed
+onWaitingRow q S (some (whileDo r e b)) f = notAllowed
+onWaitingRow q S (some (sequence r a b)) f = notAllowed
+onWaitingRow q S (some (parallel r a b)) f = notAllowed
+onWaitingRow q S (some (assign r x e)) f = notAllowed
+onWaitingRow q S (some (choice r m)) f = notAllowed
+onWaitingRow q S (some (branch r a b m)) f = notAllowed
+onWaitingRow q S (some (lastBranch r a b)) f = notAllowed
+onWaitingRow q S (some (waiting r o x)) f = notAllowed
+onWaitingRow q S (some (answering r o c d)) f = notAllowed
+
+-- The waiting row r takes its reply: the subtree at its path is replaced, and the row is done.
+abbrev pub takeReply : State → ℕ → ℕ → ℕ → Path → Tree Value → Result
+takeReply G q n r x m =
+    onLive (G q n) (λ S. saveWithin G q n (withTree S (replaceAt voidValue x m (S .tree)) (advance (S .progress) r done)) [])
+
+module _ (N : Network) (G : State) (q n : ℕ) (S : Session) where
+  abbrev pub answered : ℕ → State
+  answered r = setSlot G q n (live (withProgress S (advance (S .progress) r done)))
+
+  -- "reply: a request-response whose body is done answers its waiting row; for an outsider, the u32 reply number and then the
+  -- message go to the start of the out buffer."
+  abbrev pub replyTo : ℕ → Operation → Path → ReplyTo → Result
+  replyTo r o c nobody = notAllowed
+  replyTo r o c (outsider k) =
+      onFound (read c (S .tree)) (λ m. mustFit m (o .reply) (moved (answered r) (u32Bytes k ++ messageBytes m)))
+  replyTo r o c (waitingRow q2 n2 r2) =
+      inSession N G q2 n2
+      (λ B2 S2. onWaitingRow q2 S2 (atRow r2 B2)
+      (λ o2 x2. onFound (read c (S .tree)) (λ m. mustFit m (o2 .reply) (takeReply (answered r) q2 n2 r2 x2 m))))
+
+  abbrev pub replyAt : Optional Behaviour → Result
+  replyAt none = notAllowed
+  replyAt (some (nil r)) = notAllowed
+  replyAt (some (oneWay r o x)) = notAllowed
+  replyAt (some (requestResponse r o x c d)) =
+      onReceived (S .progress r) (λ to. require (isDone (S .progress) 0 d) MoveNotAllowed (require (permits q input true o) MoveNotAllowed (replyTo r o c to)))
+  replyAt (some (notification r o e)) = notAllowed
+  replyAt (some (solicitResponse r o e x)) = notAllowed
+  replyAt (some (ifThenElse r e a b)) = notAllowed
+  replyAt (some (whileDo r e b)) = notAllowed
+  replyAt (some (sequence r a b)) = notAllowed
+  replyAt (some (parallel r a b)) = notAllowed
+  replyAt (some (assign r x e)) = notAllowed
+  replyAt (some (choice r m)) = notAllowed
+  replyAt (some (branch r a b m)) = notAllowed
+  replyAt (some (lastBranch r a b)) = notAllowed
+  replyAt (some (waiting r o x)) = notAllowed
+  replyAt (some (answering r o c d)) = notAllowed
+
+abbrev pub replyMove : Network → State → ℕ → ℕ → ℕ → Result
+replyMove N G q n r = inSession N G q n (λ B S. replyAt N G q n S (atRow r B))
+
+-- 17: "Outside bytes are no message."
+abbrev pub onMessage : Lookup Value → (Tree Value → Result) → Result
+onMessage absent f = refused NoMessage
+onMessage (present m) f = f m
+
+-- The input of the service q with that id; ids of inputs are unique in a service.
+abbrev pub isInputNamed : ℕ → ℕ → Operation → Bool
+isInputNamed q id o = eqb (o .service) q && (isInput (o .direction) && eqb (o .id) id)
+
+abbrev pub inputNamed : Network → ℕ → ℕ → Optional Operation
+inputNamed N q id = firstOf (isInputNamed q id) (N .operations)
+
+-- "outer message (service, operation id, target session, u32 reply number, ignored if one-way, bytes), sent likewise"
+abbrev pub outerMessage : Network → State → ℕ → ℕ → ℕ → ℕ → List ℕ → Result
+outerMessage N G q id n number bytes =
+    onOperation (inputNamed N q id)
+    (λ i. allowed q (target N G i n)
+    (onMessage (decodeMessage bytes)
+    (λ m. mustFit m (i .request) (deliver G i n (target N G i n) (pick (i .twoWay) (outsider number) nobody) m))))
+
+-- "outer reply (bytes for a row waiting on an outside location)"
+abbrev pub outerReply : Network → State → ℕ → ℕ → ℕ → List ℕ → Result
+outerReply N G q n r bytes =
+    inSession N G q n
+    (λ B S. onWaitingRow q S (atRow r B)
+    (λ o x. pick (inFile N (o .location)) notAllowed
+    (onMessage (decodeMessage bytes) (λ m. mustFit m (o .reply) (takeReply G q n r x m)))))
+
+-- "close: a done session becomes free; its queue is dropped"
+abbrev pub closeMove : Network → State → ℕ → ℕ → Result
+closeMove N G q n = inSession N G q n (λ B S. require (isDone (S .progress) 0 B) MoveNotAllowed (moved (setSlot G q n free) []))
+
+-- "A move names service, session and behaviour row".
+pub data Move : Type 0 where
+  local : ℕ → ℕ → ℕ → Move
+  receive : ℕ → ℕ → ℕ → Move
+  send : ℕ → ℕ → ℕ → ℕ → Move
+  reply : ℕ → ℕ → ℕ → Move
+  outside : ℕ → ℕ → ℕ → ℕ → Move
+  outsideReply : ℕ → ℕ → ℕ → Move
+  close : ℕ → ℕ → Move
+
+-- A move on a state, with the bytes that come from outside.
+unfoldable pub move : Network → State → Move → List ℕ → Result
+move N G (local q n r) bytes = localMove N G q n r
+move N G (receive q n r) bytes = receiveMove N G q n r
+move N G (send q n r to) bytes = sendMove N G q n r to
+move N G (reply q n r) bytes = replyMove N G q n r
+move N G (outside q id n number) bytes = outerMessage N G q id n number bytes
+move N G (outsideReply q n r) bytes = outerReply N G q n r bytes
+move N G (close q n) bytes = closeMove N G q n

@@ -1,0 +1,287 @@
+-- Delivering a message that fits keeps the invariant: queued at a live session, or starting a free one.
+use mathlib.Core.Path.{_≡_, refl, sym, ap, subst, _∙_}
+use Prim.Native.Nat.{ℕ, zero, suc, _≤_, _<_, _+_, max}
+use mathlib.Core.Bool.{Bool, true, false}
+use mathlib.Core.List.{List, [], _∷_, _++_}
+use native.Mathlib.Omega.{arith}
+use lib.Dec.{T, eqb, ltb, leb, eqb→eq, ltb→lt, leb→le}
+use lib.ListN.{length}
+use Rattle.forest.specs.Forest.{Tree, tree, end, RisingTree}
+use Rattle.forest.specs.Path.{Path}
+use Rattle.scalar.specs.Value.{Value, pick}
+use Rattle.syntax.specs.Syntax.{Types, MessageType, Optional, none, some, Service, Network, Operation, input, Behaviour, nil, oneWay, requestResponse}
+use Rattle.syntax.specs.Syntax.{notification, solicitResponse, ifThenElse, whileDo, sequence, parallel, assign, choice, branch, lastBranch, waiting}
+use Rattle.syntax.specs.Syntax.{answering}
+use Rattle.syntax.specs.Rows.{rowOf, hasRow}
+use Rattle.network.specs.Shapes.{alone}
+use Rattle.network.specs.Meets.{firstOf}
+use Rattle.subtyping.specs.Own.{Fits}
+use Rattle.subtyping.specs.OwnLaws.{tree-within}
+use Rattle.typing.specs.EnvironmentLaws.{sums, maxima}
+use Rattle.typing.specs.Rules.{Derives}
+use Rattle.tree.specs.Encode.{WellFormed, messageDeep, messageMany}
+use Rattle.state.specs.Session.{ReplyTo, Progresses, undone, done, received, taken, advance, Queued, Session, Slot, free, live, State, setSlot}
+use Rattle.state.specs.Shape.{serviceAt, clientOf, starterOf, behaviourIn, operationAt, suitsOperation, branches}
+use Rattle.moves.specs.Targets.{Target, noTarget, queueFull, queued, starts, isInputOf, startFrom, targetOf, onBehaviour, target}
+use Rattle.moves.specs.Moves.{Result, moved, withQueue, saveWithin, permitsInput, allowed, startedBy, started, deliver}
+use Rattle.soundness.specs.GoodTrees.{GoodTree}
+use Rattle.soundness.specs.Parts.{branchAt, Once, Reaches, atSelf, atFirst, atBranch}
+use Rattle.soundness.specs.RowLaws.{in-first, branch-rows}
+use Rattle.soundness.specs.Accepted.{OfFile, MadeOf, SmallType, Accepted, DerivedStarter}
+use Rattle.soundness.specs.MadeLaws.{made-at, reaches-atRow, row-own, some-inj}
+use Rattle.soundness.specs.Invariant.{Destination, Answers, QueuedSound, AllQueued, SessionSound, Sound}
+use Rattle.soundness.specs.SessionLaws.{advance-same, advance-below, once-of, made-of, oneWay-sound, request-sound, queue-sound}
+use Rattle.soundness.specs.StartLaws.{StartedBy, FoundStart, startFrom-found, start-sound}
+use Rattle.soundness.specs.ResultLaws.{Keeps, goes-keeps, keeps-15, allowed-16, by-require, by-live, sound-set, live-inj}
+use Rattle.soundness.specs.LocalLaws.{permits-two, save-goes, suits-destination}
+
+-- What fits a type of the file is a message.
+pub message-formed : (m : Tree Value) (t : MessageType) → GoodTree m → RisingTree t → SmallType t → Fits m t → WellFormed messageDeep messageMany m
+message-formed (tree v k) (tree a l) g rt st f =
+    let few = tree-within (_+_) sums k l (g .1 .0) rt (f .children) in
+    let low = tree-within max maxima k l (g .1 .0) rt (f .children) in
+    record { root = g .0; sound = g .1 .1; rising = g .1 .0; shallow = let z = st .0 in omega arith; few = let z = st .1 in omega arith }
+
+-- The operation found is one of the list, and passes the test.
+pub first-there : (test : Operation → Bool) (l : List Operation) (i : Operation) → firstOf test l ≡ some i → (w : ℕ) × (operationAt l w ≡ some i) × T (test i)
+unfolding firstOf operationAt
+first-there test [] i e = absurd (none-some e)
+  where
+    none-some : {i : Operation} → none ≡ some i → ⊥
+    none-some h = let z : _≡_ {A = ℕ} 0 1 = cc in omega arith
+first-there test (o ∷ l) i e = go (test o) refl e (first-there test l i)
+  where
+    go : (b : Bool) → test o ≡ b → pick b (some o) (firstOf test l) ≡ some i → (firstOf test l ≡ some i → (w : ℕ) × (operationAt l w ≡ some i) × T (test i))
+        → (w : ℕ) × (operationAt (o ∷ l) w ≡ some i) × T (test i)
+    go true t h ih = (0, h, subst (λ (z : Operation). T (test z)) (some-inj h) (subst T (sym t) tt))
+    go false t h ih = let u = ih h in (suc (u .0), u .1, u .2)
+
+-- A service of the file and a session 0 to 3.
+service-below : (l : List Service) (q : ℕ) (s : Service) → serviceAt l q ≡ some s → q < length l
+unfolding serviceAt
+service-below [] q s e = absurd (none-some e)
+  where
+    none-some : {s : Service} → none ≡ some s → ⊥
+    none-some h = let z : _≡_ {A = ℕ} 0 1 = cc in omega arith
+service-below (x ∷ l) zero s e = omega arith
+service-below (x ∷ l) (suc q) s e = let z = service-below l q s e in omega arith
+
+no-behaviour : {B : Behaviour} → none ≡ some B → ⊥
+no-behaviour h = let z : _≡_ {A = ℕ} 0 1 = cc in omega arith
+
+pub behaviour-place : (N : Network) (q n : ℕ) (B : Behaviour) → behaviourIn N q n ≡ some B → (q < length (N .services)) × (n ≤ 3)
+behaviour-place N q n B e = go (eqb n 0) refl (leb n 3) refl (serviceAt (N .services) q) refl e
+  where
+    go : (a : Bool) → eqb n 0 ≡ a → (b : Bool) → leb n 3 ≡ b → (s : Optional Service) → serviceAt (N .services) q ≡ s
+        → pick a (clientOf s) (pick b (starterOf s) none) ≡ some B → (q < length (N .services)) × (n ≤ 3)
+    go true ea b eb none es h = absurd (no-behaviour h)
+    go true ea b eb (some s) es h =
+        let z = eqb→eq n 0 (subst T (sym ea) tt) in (service-below (N .services) q s es, omega arith)
+    go false ea true eb none es h = absurd (no-behaviour h)
+    go false ea true eb (some s) es h = (service-below (N .services) q s es, leb→le n 3 (subst T (sym eb) tt))
+    go false ea false eb s es h = absurd (no-behaviour h)
+
+-- What a target says.
+pub record Starting (N : Network) (q n w c k : ℕ) (a : Behaviour) : Type 0 where
+  pub before : ℕ
+  pub number : n ≡ suc before
+  pub options : Behaviour
+  pub runs : behaviourIn N q n ≡ some (choice c options)
+  pub found : StartedBy w c k a 0 options
+  pub derived : DerivedStarter q (choice c options)
+
+abbrev pub TargetInfo : Network → State → Operation → ℕ → Target → Type 0
+TargetInfo N G i n noTarget = Unit {0}
+TargetInfo N G i n queueFull = Unit {0}
+TargetInfo N G i n queued = (S : Session) → G (i .service) n ≡ live S → length (S .queue) < 4
+TargetInfo N G i n (starts c k a) = Starting N (i .service) n (i .row) c k a
+
+module _ (N : Network) (rows : ℕ) (acc : Accepted N rows) where
+  queue-target : (P : Target → Type 0) (b : Bool) → (T b → P queued) → P queueFull → P (pick b queued queueFull)
+  queue-target P true f g = f tt
+  queue-target P false f g = g
+
+  start-target : (P : Target → Type 0) (b : Bool) (t : Target) → P noTarget → P t → P (pick b noTarget t)
+  start-target P true t f g = f
+  start-target P false t f g = g
+
+  pub target-info : (G : State) (i : Operation) (n : ℕ) → TargetInfo N G i n (target N G i n)
+  unfolding startFrom Once
+  target-info G i n = go n refl (behaviourIn N (i .service) n) refl (G (i .service) n) refl
+    where
+      w : ℕ
+      w = i .row
+
+      start : (n2 : ℕ) (B : Behaviour) → n ≡ suc n2 → behaviourIn N (i .service) n ≡ some B → DerivedStarter (i .service) B
+          → TargetInfo N G i n (startFrom w 0 0 B)
+      start n2 B en eb d =
+          let c = d .row in
+          let m = d .options in
+          let eb2 : behaviourIn N (i .service) n ≡ some (choice c m) = eb ∙ ap some (d .isChoice) in
+          let on = once-of N rows acc (i .service) n (choice c m) eb2 in
+          subst (λ (z : Behaviour). TargetInfo N G i n (startFrom w 0 0 z)) (sym (d .isChoice))
+          (go2 (startFrom w c 0 m) (startFrom-found w c m 0 (on .1)) eb2 (subst (DerivedStarter (i .service)) (d .isChoice) d))
+        where
+          go2 : {c : ℕ} {m : Behaviour} (t : Target) → FoundStart w c 0 m t → behaviourIn N (i .service) n ≡ some (choice c m)
+              → DerivedStarter (i .service) (choice c m) → TargetInfo N G i n t
+          go2 noTarget f e d = tt
+          go2 queueFull f e d = absurd f
+          go2 queued f e d = absurd f
+          go2 {c} {m} (starts c2 k a) f e d =
+              subst (λ (z : ℕ). Starting N (i .service) n w z k a) (f .0)
+              (record { before = n2; number = en; options = m; runs = e; found = f .1; derived = d })
+
+      go : (n1 : ℕ) → n ≡ n1 → (b : Optional Behaviour) → behaviourIn N (i .service) n ≡ b → (x : Slot) → G (i .service) n ≡ x
+          → TargetInfo N G i n (onBehaviour b (λ B. targetOf w n B x))
+      go n1 en none eb x ex = tt
+      go n1 en (some B) eb (live S) ex =
+          queue-target (TargetInfo N G i n) (ltb (length (S .queue)) 4)
+          (λ t S2 e2. subst (λ (z : Session). length (z .queue) < 4) (live-inj (sym ex ∙ e2)) (ltb→lt (length (S .queue)) 4 t)) tt
+      go zero en (some B) eb free ex = subst (λ (z : ℕ). TargetInfo N G i n (pick (eqb z 0) noTarget (startFrom w 0 0 B))) (sym en) tt
+      go (suc n2) en (some B) eb free ex =
+          start-target (TargetInfo N G i n) (eqb n 0) (startFrom w 0 0 B) tt
+          (start n2 B en eb (acc .starters (i .service) n2 B (ap (behaviourIn N (i .service)) (sym en) ∙ eb)))
+
+  -- A message of the input i that may arrive, with where its reply goes.
+  pub record Arriving (i : Operation) (m : Tree Value) (back : ReplyTo) : Type 0 where
+    pub ofFile : OfFile N i
+    pub suit : T (suitsOperation N rows (i .service) back (some i))
+    pub good : GoodTree m
+    pub fit : Fits m (i .request)
+    pub destination : Destination N i back
+
+  queued-sound : (i : Operation) (m : Tree Value) (back : ReplyTo) → Arriving i m back
+      → QueuedSound N rows (i .service) (record { operation = i .row; message = m; replyTo = back })
+  queued-sound i m back a =
+      let f = acc .operations (i .row) i (a .ofFile) in
+      record {
+        operation = i;
+        there = a .ofFile;
+        suit = a .suit;
+        good = message-formed m (i .request) (a .good) (f .rising .0) (f .smallRequest) (a .fit);
+        fit = a .fit;
+        destination = a .destination;
+      }
+
+  -- A session that a message starts, with its branch taken and its input not yet received.
+  abbrev begun : ℕ → ℕ → Progresses
+  begun c k = advance (λ i. undone) c (taken k)
+
+  choice-same : {c c2 : ℕ} {m m2 : Behaviour} → choice c m ≡ choice c2 m2 → m ≡ m2
+  choice-same e = cc
+
+  begins : (q n c k : ℕ) (m : Behaviour) → behaviourIn N q (suc n) ≡ some (choice c m) → T (ltb k (branches m)) → DerivedStarter q (choice c m)
+      → SessionSound N rows q (suc n) (record { tree = end; queue = []; progress = begun c k })
+  begins q n c k m e small d =
+      start-sound N rows acc q n c k m e small
+      (λ j. subst (λ (z : Behaviour). (Δ : Types) × Derives q (branchAt j z) end Δ) (sym (choice-same (d .isChoice))) (d .branches j))
+
+  input-way : (c k l : ℕ) (m a b : Behaviour) → branchAt k m ≡ sequence l a b → Reaches (begun c k) a (choice c m)
+  input-way c k l m a b e = atBranch k (advance-same (λ i. undone) c (taken k)) (subst (λ (z : Behaviour). Reaches (begun c k) a z) (sym e) (atFirst atSelf))
+
+  input-undone : (c k l : ℕ) (m a b : Behaviour) → Once alone (choice c m) → branchAt k m ≡ sequence l a b → begun c k (rowOf a) ≡ undone
+  unfolding hasRow Once
+  input-undone c k l m a b on e =
+      sym (advance-below (λ i. undone) c (taken k) m (on .0) (rowOf a)
+      (branch-rows m k (rowOf a) (subst (λ (z : Behaviour). T (hasRow (rowOf a) z)) (sym e) (in-first (rowOf a) l a b (row-own a)))))
+
+  module _ (q n c k : ℕ) (m : Behaviour) (runs : behaviourIn N q (suc n) ≡ some (choice c m))
+      (hs : SessionSound N rows q (suc n) (record { tree = end; queue = []; progress = begun c k }))
+      (l : ℕ) (b : Behaviour) (i : Operation) (x : Tree Value) (back : ReplyTo) (arr : Arriving i x back) where
+    here-what : choice c m ≡ hs .what
+    here-what = some-inj (sym runs ∙ hs .runs)
+
+    same-operation : (o : Operation) → OfFile N o → T (eqb (o .row) (i .row)) → i ≡ o
+    same-operation o f t = some-inj (sym (arr .ofFile) ∙ (ap (operationAt (N .operations)) (sym (eqb→eq (o .row) (i .row) t)) ∙ f))
+
+    start-one : (r : ℕ) (o : Operation) (y : Path) → branchAt k m ≡ sequence l (oneWay r o y) b → T (eqb (o .row) (i .row))
+        → SessionSound N rows q (suc n) (startedBy c k r y done x)
+    unfolding MadeOf rowOf AllQueued
+    start-one r o y e t =
+        let on = once-of N rows acc q (suc n) (choice c m) runs in
+        let way = input-way c k l m (oneWay r o y) b e in
+        let made = made-at N rows way (made-of N rows acc q (suc n) (choice c m) runs) in
+        oneWay-sound N rows acc q (suc n) (record { tree = end; queue = []; progress = begun c k }) hs r o y x
+        (subst (λ (z : Behaviour). Reaches (begun c k) (oneWay r o y) z) here-what way) (input-undone c k l m (oneWay r o y) b on e) (arr .good)
+        (subst (λ (z : Operation). Fits x (z .request)) (same-operation o (made .1) t) (arr .fit)) [] (omega arith) tt
+
+    request-same : {r r2 : ℕ} {o o2 : Operation} {x x2 c c2 : Path} {d d2 : Behaviour} → requestResponse r o x c d ≡ requestResponse r2 o2 x2 c2 d2 → o ≡ o2
+    request-same e = cc
+
+    start-two : (r : ℕ) (o : Operation) (y z : Path) (d : Behaviour) → branchAt k m ≡ sequence l (requestResponse r o y z d) b → T (eqb (o .row) (i .row))
+        → o .twoWay ≡ true → SessionSound N rows q (suc n) (startedBy c k r y (received back) x)
+    unfolding MadeOf rowOf AllQueued
+    start-two r o y z d e t tw =
+        let X = requestResponse r o y z d in
+        let on = once-of N rows acc q (suc n) (choice c m) runs in
+        let way = input-way c k l m X b e in
+        let way2 = subst (λ (w : Behaviour). Reaches (begun c k) X w) here-what way in
+        let made = made-at N rows way (made-of N rows acc q (suc n) (choice c m) runs) in
+        let eo = same-operation o (made .1) t in
+        let ans : Answers N (hs .what) r back = λ r2 o2 x2 c2 d2 h.
+        let same = some-inj (sym (reaches-atRow (begun c k) X (hs .what) refl (subst (Once alone) here-what on) way2) ∙ h) in
+        subst (λ (w : Operation). Destination N w back) (eo ∙ request-same same) (arr .destination) in
+        request-sound N rows acc q (suc n) (record { tree = end; queue = []; progress = begun c k }) hs r o y z d x back way2
+        (input-undone c k l m X b on e) (arr .good) (subst (λ (w : Operation). Fits x (w .request)) eo (arr .fit))
+        (suits-destination N rows (i .service) back i (arr .suit) (ap (λ (w : Operation). w .twoWay) eo ∙ tw)) ans [] (omega arith) tt
+
+    start-input : (a : Behaviour) → branchAt k m ≡ sequence l a b → T (isInputOf (i .row) a) → T (permitsInput q a)
+        → SessionSound N rows q (suc n) (started c k a back x)
+    start-input (nil r) e t u = absurd t
+    start-input (oneWay r o y) e t u = start-one r o y e t
+    start-input (requestResponse r o y z d) e t u = start-two r o y z d e t (permits-two q input o u)
+    start-input (notification r o f) e t u = absurd t
+    start-input (solicitResponse r o f y) e t u = absurd t
+    start-input (ifThenElse r f y z) e t u = absurd t
+    start-input (whileDo r f y) e t u = absurd t
+    start-input (sequence r y z) e t u = absurd t
+    start-input (parallel r y z) e t u = absurd t
+    start-input (assign r y f) e t u = absurd t
+    start-input (choice r y) e t u = absurd t
+    start-input (branch r y z w) e t u = absurd t
+    start-input (lastBranch r y z) e t u = absurd t
+    start-input (waiting r o y) e t u = absurd t
+    start-input (answering r o y d) e t u = absurd t
+
+  -- Which targets let a message pass.
+  abbrev pub Admits : ℕ → Target → Type 0
+  Admits q noTarget = ⊥
+  Admits q queueFull = ⊥
+  Admits q queued = Unit {0}
+  Admits q (starts c k a) = T (permitsInput q a)
+
+  pub allowed-keeps : (strict : Bool) (q : ℕ) (t : Target) (R : Result) → (Admits q t → Keeps N rows strict R) → Keeps N rows strict (allowed q t R)
+  allowed-keeps strict q noTarget R f = keeps-15 N rows strict
+  allowed-keeps strict q queueFull R f = allowed-16 strict
+  allowed-keeps strict q queued R f = f tt
+  allowed-keeps strict q (starts c k a) R f = by-require N rows strict (permitsInput q a) R f
+
+  started-sound : (i : Operation) (n : ℕ) (c k : ℕ) (a : Behaviour) (x : Tree Value) (back : ReplyTo) → Arriving i x back
+      → Starting N (i .service) n (i .row) c k a
+      → T (permitsInput (i .service) a) → SessionSound N rows (i .service) n (started c k a back x)
+  started-sound i n c k a x back arr s u =
+      let q = i .service in
+      let m = s .options in
+      let f = s .found in
+      let ahead : f .ahead ≡ k = sym-zero (f .ahead) (f .number) in
+      let small : T (ltb k (branches m)) = subst (λ (z : ℕ). T (ltb z (branches m))) ahead (f .inside) in
+      let br : branchAt k m ≡ sequence (f .label) a (f .after) = subst (λ (z : ℕ). branchAt z m ≡ sequence (f .label) a (f .after)) ahead (f .isBranch) in
+      let runs : behaviourIn N q (suc (s .before)) ≡ some (choice c m) = subst (λ (z : ℕ). behaviourIn N q z ≡ some (choice c m)) (s .number) (s .runs) in
+      subst (λ (z : ℕ). SessionSound N rows q z (started c k a back x)) (sym (s .number))
+      (start-input q (s .before) c k m runs (begins q (s .before) c k m runs small (s .derived)) (f .label) (f .after) i x back arr a br (f .named) u)
+    where
+      sym-zero : (j : ℕ) → k ≡ 0 + j → j ≡ k
+      sym-zero j e = omega arith
+
+  pub deliver-keeps : (strict : Bool) (G : State) → Sound N rows G → (i : Operation) (n : ℕ) (x : Tree Value) (back : ReplyTo) → Arriving i x back
+      → (t : Target) → TargetInfo N G i n t → Admits (i .service) t → Keeps N rows strict (deliver G i n t back x)
+  deliver-keeps strict G hG i n x back arr noTarget f a = absurd a
+  deliver-keeps strict G hG i n x back arr queueFull f a = absurd a
+  deliver-keeps strict G hG i n x back arr queued f a =
+      let msg : Queued = record { operation = i .row; message = x; replyTo = back } in
+      by-live N rows strict (G (i .service) n) (λ S. moved (setSlot G (i .service) n (live (withQueue S (S .queue ++ (msg ∷ []))))) [])
+      (λ S e. sound-set N rows G (i .service) n (live (withQueue S (S .queue ++ (msg ∷ [])))) hG
+      (queue-sound N rows acc (i .service) n S (hG (i .service) n S e) msg (queued-sound i x back arr) (f S e)))
+  deliver-keeps strict G hG i n x back arr (starts c k a) f ad =
+      goes-keeps N rows strict (saveWithin G (i .service) n (started c k a back x) [])
+      (save-goes N rows acc G (i .service) n (started c k a back x) [] hG (started-sound i n c k a x back arr f ad))

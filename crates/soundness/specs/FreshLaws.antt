@@ -1,0 +1,53 @@
+-- Fresh state of an accepted file has its shape and satisfies the invariant. 01, Moves: "Fresh state: written for accepted files; clients
+-- live in session 0, all else free."
+use mathlib.Core.Path.{_≡_, refl, sym, subst}
+use Prim.Native.Nat.{ℕ}
+use mathlib.Core.Bool.{false}
+use mathlib.Core.List.{List}
+use native.Mathlib.Omega.{arith}
+use native.Mathlib.Decide.{ℕ-discrete}
+use lib.Dec.{eqb}
+use borrow.Author.Tests.{ne-eqb}
+use Rattle.syntax.specs.Syntax.{Optional, none, some, Network, Behaviour}
+use Rattle.network.specs.Layout.{behaviourCount}
+use Rattle.network.specs.Decode.{networkOf}
+use Rattle.typing.specs.Result.{passed}
+use Rattle.typing.specs.NetworkRules.{Environments}
+use Rattle.checker.specs.FileChecker.{checkFile}
+use Rattle.tree.specs.Encode.{Octets}
+use Rattle.state.specs.Session.{Session, free, live}
+use Rattle.state.specs.Shape.{HasShape, serviceAt, clientOf, freshSlot, freshState}
+use Rattle.state.specs.ShapeLaws.{fresh-shape}
+use Rattle.soundness.specs.Accepted.{Accepted}
+use Rattle.soundness.specs.AcceptedLaws.{accepted}
+use Rattle.soundness.specs.Invariant.{SessionSound, Sound}
+use Rattle.soundness.specs.StartLaws.{client-sound}
+
+not-live : {S : Session} → free ≡ live S → ⊥
+not-live e = let z : _≡_ {A = ℕ} 0 1 = cc in omega arith
+
+live-inj : {R S : Session} → live R ≡ live S → R ≡ S
+live-inj e = cc
+
+module _ (N : Network) (rows : ℕ) (acc : Accepted N rows) where
+  -- The client of the service q, if it has one.
+  client-slot : (q : ℕ) (S : Session) (c : Optional Behaviour) → clientOf (serviceAt (N .services) q) ≡ c → freshSlot c ≡ live S → SessionSound N rows q 0 S
+  client-slot q S none e h = absurd (not-live h)
+  client-slot q S (some B) e h = subst (SessionSound N rows q 0) (live-inj h) (client-sound N rows acc q B e)
+
+  slot-sound : (q n : ℕ) (S : Session) → Dec (n ≡ 0) → freshState N q n ≡ live S → SessionSound N rows q n S
+  slot-sound q n S (yes z) h =
+      subst (λ (m : ℕ). SessionSound N rows q m S) (sym z)
+      (client-slot q S (clientOf (serviceAt (N .services) q)) refl (rw z at h))
+  slot-sound q n S (no z) h = let f : eqb n 0 ≡ false = ne-eqb n 0 z in absurd (not-live (rw f at h))
+
+  -- Every session of fresh state is sound.
+  pub fresh-sound : Sound N rows (freshState N)
+  fresh-sound q n S h = slot-sound q n S (ℕ-discrete n 0) h
+
+-- Of every accepted file: fresh state has the file's shape, and the invariant of property 3 holds there.
+pub fresh-of-file : (s : List ℕ) (Es : List Environments) → Octets s → checkFile s ≡ passed Es
+    → HasShape (networkOf s) (behaviourCount s) (freshState (networkOf s)) × Sound (networkOf s) (behaviourCount s) (freshState (networkOf s))
+fresh-of-file s Es b e =
+    let a = accepted s Es b e in
+    (fresh-shape (networkOf s) (behaviourCount s) (a .fewServices), fresh-sound (networkOf s) (behaviourCount s) a)

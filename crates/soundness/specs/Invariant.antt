@@ -1,0 +1,68 @@
+-- The invariant of property 3: "well typed" and what is needed besides to keep it. A session's tree and what is left of its behaviour are
+-- typed; parts that are not taken are not begun; rows have the progress of their kind; every row that waits or was received is reached;
+-- queued messages fit, and a reply that goes to a waiting row is of a type that row takes.
+use mathlib.Core.Path.{_≡_}
+use mathlib.Core.List.{List, [], _∷_}
+use Prim.Native.Nat.{ℕ, _≤_}
+use lib.Dec.{T}
+use lib.ListN.{length}
+use Rattle.forest.specs.Path.{Path}
+use Rattle.syntax.specs.Syntax.{Types, Expression, some, Network, Operation, Behaviour, requestResponse, solicitResponse}
+use Rattle.syntax.specs.Rows.{atRow}
+use Rattle.subtyping.specs.Subtype.{Subtype}
+use Rattle.subtyping.specs.Own.{Fits}
+use Rattle.typing.specs.Environment.{within}
+use Rattle.tree.specs.Encode.{WellFormed, messageDeep, messageMany}
+use Rattle.state.specs.Session.{ReplyTo, nobody, outsider, waitingRow, undone, received, Queued, Session, live, State}
+use Rattle.state.specs.Shape.{behaviourIn, operationAt, suitsOperation, suits}
+use Rattle.moves.specs.Readiness.{rest}
+use Rattle.soundness.specs.GoodTrees.{Good}
+use Rattle.soundness.specs.Parts.{NotIn, Clean}
+use Rattle.soundness.specs.ReachLaws.{AllOpen}
+use Rattle.soundness.specs.LeafLaws.{Well}
+
+-- Replies of the operation o may go there: a waiting row's own reply type is above o's.
+abbrev pub Destination : Network → Operation → ReplyTo → Type 0
+Destination N o nobody = Unit {0}
+Destination N o (outsider k) = Unit {0}
+Destination N o (waitingRow q n r) =
+    (B : Behaviour) → behaviourIn N q n ≡ some B → (r2 : ℕ) (o2 : Operation) (e : Expression) (x : Path) → atRow r B ≡ some (solicitResponse r2 o2 e x)
+    → Subtype (o .reply) (o2 .reply)
+
+-- The row i of B, a received request-response, may answer there.
+abbrev pub Answers : Network → Behaviour → ℕ → ReplyTo → Type 0
+Answers N B i to =
+    (r : ℕ) (o : Operation) (x c : Path) (d : Behaviour) → atRow i B ≡ some (requestResponse r o x c d) → Destination N o to
+
+-- A queued message of the service q.
+pub record QueuedSound (N : Network) (rows q : ℕ) (m : Queued) : Type 0 where
+  pub operation : Operation
+  pub there : operationAt (N .operations) (m .operation) ≡ some operation
+  pub suit : T (suitsOperation N rows q (m .replyTo) (some operation))
+  pub good : WellFormed messageDeep messageMany (m .message)
+  pub fit : Fits (m .message) (operation .request)
+  pub destination : Destination N operation (m .replyTo)
+
+unfoldable pub AllQueued : Network → ℕ → ℕ → List Queued → Type 0
+AllQueued N rows q [] = Unit {0}
+AllQueued N rows q (m ∷ l) = QueuedSound N rows q m × AllQueued N rows q l
+
+-- A live session n of the service q.
+pub record SessionSound (N : Network) (rows q n : ℕ) (S : Session) : Type 0 where
+  pub what : Behaviour
+  pub runs : behaviourIn N q n ≡ some what
+  pub last : Types
+  pub limit : T (within last)
+  pub clean : Clean (S .progress) what
+  pub suit : T (suits N rows (S .progress) what)
+  pub quiet : (r : ℕ) → NotIn r what → S .progress r ≡ undone
+  pub opened : AllOpen (S .progress) what
+  pub replies : (i : ℕ) (to : ReplyTo) → S .progress i ≡ received to → Answers N what i to
+  pub good : Good (S .tree)
+  pub well : Well q (S .tree) (rest (S .progress) 0 what) last
+  pub few : length (S .queue) ≤ 4
+  pub queued : AllQueued N rows q (S .queue)
+
+-- Every live session of the state.
+abbrev pub Sound : Network → ℕ → State → Type 0
+Sound N rows G = (q n : ℕ) (S : Session) → G q n ≡ live S → SessionSound N rows q n S

@@ -1,0 +1,160 @@
+-- What a move does at its row, and that it keeps a session well typed: its tree's own type ≤ some environment, from which what is left
+-- is derived.
+use mathlib.Core.Path.{_≡_, refl, sym, subst, _∙_}
+use Prim.Native.Nat.{ℕ}
+use mathlib.Core.Bool.{_||_}
+use lib.Dec.{T, eqb→eq}
+use Rattle.forest.specs.Forest.{Forest, Tree, Lookup, present, Rising}
+use Rattle.forest.specs.Path.{Path, read, replaceAt, setPayloadAt}
+use Rattle.scalar.specs.Basic.{bool}
+use Rattle.scalar.specs.Value.{Value, basicOf}
+use Rattle.syntax.specs.Syntax.{Types, MessageType, some, Expression, Operation, Behaviour, nil, oneWay, requestResponse, notification}
+use Rattle.syntax.specs.Syntax.{solicitResponse, ifThenElse, whileDo, sequence, assign, choice, waiting, answering}
+use Rattle.subtyping.specs.Subtype.{rootBasic, Subtypes}
+use Rattle.subtyping.specs.SubtypeLaws.{subtype-sound, subtype-trans}
+use Rattle.subtyping.specs.Own.{ownTypes, Fits}
+use Rattle.typing.specs.Result.{yields}
+use Rattle.typing.specs.Environment.{assignTo}
+use Rattle.typing.specs.EnvironmentLaws.{receive-ok, assign-ok, read-ok, place-rising}
+use Rattle.typing.specs.Occurs.{isRoot, occursIn, occurs}
+use Rattle.typing.specs.OccursLaws.{or-l, or-r}
+use Rattle.typing.specs.Rules.{WellSorted}
+use Rattle.typing.specs.Typed.{Typed, TypedCondition, TypedSend, TypedReply}
+use Rattle.typing.specs.TypedLaws.{typed-rising}
+use Rattle.moves.specs.Evaluation.{evaluate}
+use Rattle.moves.specs.Moves.{rootValue, voidValue}
+use Rattle.soundness.specs.GoodTrees.{Good, GoodTree, GoodLookup, GoodExpression}
+use Rattle.soundness.specs.GoodTreesLaws.{read-good}
+use Rattle.soundness.specs.EvaluationLaws.{progress, basic-of}
+use Rattle.soundness.specs.Parts.{branchAt}
+use Rattle.soundness.specs.MadeLaws.{branch-typed, branch-occurs, branch-sorted, some-inj}
+use Rattle.soundness.specs.ContextLaws.{finished, finished-same, Active, Fewer, or-case, hole}
+
+-- The tree before, the row, the tree after, what is left of the row.
+pub data Leaf (F : Forest Value) : Behaviour → Forest Value → Behaviour → Type 0 where
+  assigns : {r : ℕ} {x : Path} {e : Expression} (y : Tree Value) → GoodExpression e → evaluate F e ≡ some y
+      → Leaf F (assign r x e) (setPayloadAt voidValue x (rootValue y) F) (nil r)
+  takesThen : {r : ℕ} {e : Expression} {a b : Behaviour} → Leaf F (ifThenElse r e a b) F a
+  takesElse : {r : ℕ} {e : Expression} {a b : Behaviour} → Leaf F (ifThenElse r e a b) F b
+  enters : {r : ℕ} {e : Expression} {b : Behaviour} → Leaf F (whileDo r e b) F (sequence r b (whileDo r e b))
+  leaves : {r : ℕ} {e : Expression} {b : Behaviour} → Leaf F (whileDo r e b) F (nil r)
+  reenters : {r : ℕ} {e : Expression} {b d : Behaviour} → T (finished d) → Leaf F (sequence r d (whileDo r e b)) F (sequence r b (whileDo r e b))
+  ends : {r : ℕ} {e : Expression} {b d : Behaviour} → T (finished d) → Leaf F (sequence r d (whileDo r e b)) F (nil r)
+  receivesOne : {r : ℕ} {o : Operation} {x : Path} (m : Tree Value) → Fits m (o .request) → Leaf F (oneWay r o x) (replaceAt voidValue x m F) (nil r)
+  receivesTwo : {r : ℕ} {o : Operation} {x c : Path} {d : Behaviour} (m : Tree Value) → Fits m (o .request)
+      → Leaf F (requestResponse r o x c d) (replaceAt voidValue x m F) (answering r o c d)
+  getsReply : {r : ℕ} {o : Operation} {x : Path} (m : Tree Value) → Fits m (o .reply) → Leaf F (waiting r o x) (replaceAt voidValue x m F) (nil r)
+  notifies : {r : ℕ} {o : Operation} {e : Expression} → Leaf F (notification r o e) F (nil r)
+  asks : {r : ℕ} {o : Operation} {e : Expression} {x : Path} → Leaf F (solicitResponse r o e x) F (waiting r o x)
+  answers : {r : ℕ} {o : Operation} {c : Path} {d : Behaviour} → T (finished d) → Leaf F (answering r o c d) F (nil r)
+  selects : {r : ℕ} {m : Behaviour} (k : ℕ) → Leaf F (choice r m) F (branchAt k m)
+
+pub leaf-occurs : {F F2 : Forest Value} {L L2 : Behaviour} → Leaf F L F2 L2 → Fewer L2 L
+unfolding occurs
+leaf-occurs (assigns y g e) i t = absurd t
+leaf-occurs (takesThen {e} {a} {b}) i t = or-r (occursIn i e) (occurs i a || occurs i b) (or-l (occurs i a) (occurs i b) t)
+leaf-occurs (takesElse {e} {a} {b}) i t = or-r (occursIn i e) (occurs i a || occurs i b) (or-r (occurs i a) (occurs i b) t)
+leaf-occurs (enters {e} {b}) i t = or-case (occurs i b) (occursIn i e || occurs i b) (or-r (occursIn i e) (occurs i b)) (λ s. s) t
+leaf-occurs leaves i t = absurd t
+leaf-occurs (reenters {e} {b} {d} q) i t =
+    or-r (occurs i d) (occursIn i e || occurs i b) (or-case (occurs i b) (occursIn i e || occurs i b) (or-r (occursIn i e) (occurs i b)) (λ s. s) t)
+leaf-occurs (ends q) i t = absurd t
+leaf-occurs (receivesOne m h) i t = absurd t
+leaf-occurs (receivesTwo {x} {c} {d} m h) i t = or-r (isRoot i x) (isRoot i c || occurs i d) t
+leaf-occurs (getsReply m h) i t = absurd t
+leaf-occurs notifies i t = absurd t
+leaf-occurs (asks {e} {x}) i t = or-r (occursIn i e) (isRoot i x) t
+leaf-occurs (answers h) i t = absurd t
+leaf-occurs (selects {m} k) i t = branch-occurs m k i t
+
+pub leaf-sorted : {F F2 : Forest Value} {L L2 : Behaviour} → Leaf F L F2 L2 → WellSorted L → WellSorted L2
+unfolding WellSorted
+leaf-sorted (assigns y g e) w = tt
+leaf-sorted takesThen w = w .0
+leaf-sorted takesElse w = w .1
+leaf-sorted enters w = (w, w)
+leaf-sorted leaves w = tt
+leaf-sorted (reenters q) w = (w .1, w .1)
+leaf-sorted (ends q) w = tt
+leaf-sorted (receivesOne m h) w = tt
+leaf-sorted (receivesTwo m h) w = w
+leaf-sorted (getsReply m h) w = tt
+leaf-sorted notifies w = tt
+leaf-sorted asks w = w
+leaf-sorted (answers h) w = tt
+leaf-sorted (selects {m} k) w = branch-sorted m k w
+
+present-good : (l : Lookup Value) (y : Tree Value) → GoodLookup l → l ≡ present y → GoodTree y
+present-good l y g e = subst GoodLookup e g
+
+module _ (q : ℕ) where
+  -- A tree, what is left, and the environment that it leads to: the session is well typed.
+  pub record Well (F : Forest Value) (R : Behaviour) (last : Types) : Type 0 where
+    pub env : Types
+    pub rising : Rising env
+    pub fit : Subtypes (ownTypes F) env
+    pub typed : Typed q R env last
+
+module _ (q : ℕ) where
+  pub leaf-well : {F F2 : Forest Value} {L L2 : Behaviour} → Leaf F L F2 L2 → Good F → WellSorted L → (Γ Δ : Types) → Rising Γ → Subtypes (ownTypes F) Γ
+      → Typed q L Γ Δ → Well q F2 L2 Δ
+  unfolding Typed WellSorted
+  leaf-well {F} (assigns {r} {x} {e} y ge eq) g ws Γ Δ w s h =
+      let u = progress F Γ g s e ge (h .0) (h .1) in
+      let yy : u .what ≡ y = some-inj (sym (u .there) ∙ eq) in
+      let kk : basicOf (rootValue y) ≡ rootBasic (h .0) =
+      subst (λ (z : Tree Value). basicOf (rootValue z) ≡ rootBasic (h .0)) yy (basic-of (u .what) (h .0) (u .typed)) in
+      let pl : assignTo x (basicOf (rootValue y)) Γ ≡ yields Δ = subst (λ (z : ℕ). assignTo x z Γ ≡ yields Δ) (sym kk) (h .2) in
+      record { env = Δ; rising = typed-rising q (assign r x e) Γ Δ tt w h; fit = assign-ok voidValue refl x (rootValue y) F Γ Δ s pl; typed = refl }
+  leaf-well takesThen g ws Γ Δ w s h = record { env = Γ; rising = w; fit = s; typed = h .1 }
+  leaf-well takesElse g ws Γ Δ w s h = record { env = Γ; rising = w; fit = s; typed = h .2 }
+  leaf-well enters g ws Γ Δ w s h = record { env = Γ; rising = w; fit = s; typed = (Γ, h .1, h) }
+  leaf-well leaves g ws Γ Δ w s h = record { env = Γ; rising = w; fit = s; typed = h .2 }
+  leaf-well (reenters {r} {e} {b} {d} f) g ws Γ Δ w s h =
+      let same = finished-same q d Γ (h .0) f (h .1) in
+      let k : Typed q (whileDo r e b) Γ Δ = subst (λ (z : Types). Typed q (whileDo r e b) z Δ) (sym same) (h .2) in
+      record { env = Γ; rising = w; fit = s; typed = (Γ, k .1, k) }
+  leaf-well (ends {b} {d} f) g ws Γ Δ w s h = record { env = Γ; rising = w; fit = s; typed = finished-same q d Γ (h .0) f (h .1) ∙ h .2 .2 }
+  leaf-well {F} (receivesOne {r} {o} {x} m f) g ws Γ Δ w s h =
+      record { env = Δ; rising = typed-rising q (oneWay r o x) Γ Δ ws w h; fit = receive-ok voidValue refl x m (o .request) F Γ Δ f s (h .1); typed = refl }
+  leaf-well {F} (receivesTwo {r} {o} {x} {c} {d} m f) g ws Γ Δ w s h =
+      record {
+        env = h .1;
+        rising = place-rising x (o .request) Γ (h .1) (ws .0 .0) w (h .2);
+        fit = receive-ok voidValue refl x m (o .request) F Γ (h .1) f s (h .2);
+        typed = (h .0, h .3, h .4);
+      }
+  leaf-well {F} (getsReply {r} {o} {x} m f) g ws Γ Δ w s h =
+      record { env = Δ; rising = typed-rising q (waiting r o x) Γ Δ ws w h; fit = receive-ok voidValue refl x m (o .reply) F Γ Δ f s (h .1); typed = refl }
+  leaf-well notifies g ws Γ Δ w s h = record { env = Γ; rising = w; fit = s; typed = h .2 }
+  leaf-well asks g ws Γ Δ w s h = record { env = Γ; rising = w; fit = s; typed = (h .0, h .2) }
+  leaf-well (answers {d} f) g ws Γ Δ w s h = record { env = Γ; rising = w; fit = s; typed = finished-same q d Γ Δ f (h .1) }
+  leaf-well (selects {m} k) g ws Γ Δ w s h = record { env = Γ; rising = w; fit = s; typed = branch-typed q m k Γ Δ h }
+
+  -- One step of a session, parallel and while included.
+  pub reduction : {F F2 : Forest Value} {L L2 R R2 : Behaviour} {last : Types} → Leaf F L F2 L2 → Active L L2 R R2 → Good F → WellSorted L → WellSorted R
+      → Well q F R last → Well q F2 R2 last
+  reduction {last} p a g wl wr h =
+      let u = hole q (leaf-occurs p) (leaf-sorted p wl) a wr (h .env) last (h .rising) (h .typed) in
+      let v = leaf-well p g wl (h .env) (u .mid) (h .rising) (h .fit) (u .part) in
+      record { env = v .env; rising = v .rising; fit = v .fit; typed = u .again (v .env) (v .rising) (v .typed) }
+
+  -- A condition gives a bool.
+  pub condition-gives : (F : Forest Value) (Γ : Types) (e : Expression) → Good F → GoodExpression e → Subtypes (ownTypes F) Γ → TypedCondition Γ e
+      → (y : Tree Value) × (evaluate F e ≡ some y) × (basicOf (rootValue y) ≡ bool) × GoodTree y
+  condition-gives F Γ e g ge s c =
+      let u = progress F Γ g s e ge (c .0) (c .1) in
+      (u .what, u .there, basic-of (u .what) (c .0) (u .typed) ∙ eqb→eq (rootBasic (c .0)) bool (c .2), u .good)
+
+  -- What is sent is there, and fits.
+  pub send-gives : (F : Forest Value) (Γ : Types) (e : Expression) (t : MessageType) → Good F → GoodExpression e → Subtypes (ownTypes F) Γ → TypedSend Γ e t
+      → (y : Tree Value) × (evaluate F e ≡ some y) × Fits y t × GoodTree y
+  send-gives F Γ e t g ge s c =
+      let u = progress F Γ g s e ge (c .0) (c .1) in (u .what, u .there, subtype-trans (u .typed) (subtype-sound (c .0) t (c .2)), u .good)
+
+  -- What is answered is there, and fits.
+  pub reply-gives : (F : Forest Value) (Γ : Types) (c : Path) (t : MessageType) → Good F → Subtypes (ownTypes F) Γ → TypedReply c Γ t
+      → (y : Tree Value) × (read c F ≡ present y) × Fits y t × GoodTree y
+  reply-gives F Γ c t g s r =
+      let u = read-ok c F Γ (r .0) s (r .1) in
+      (u .0, u .1, subtype-trans (u .2) (subtype-sound (r .0) t (r .2)), present-good (read c F) (u .0) (read-good c F g) (u .1))

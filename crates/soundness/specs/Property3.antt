@@ -1,0 +1,162 @@
+-- Property 3. 01: "For any accepted file, from its fresh state, after any list of moves (refused ones included): every live session is well
+-- typed, no next move gives 18, no send or reply gives 19, and a ready assign, if or while gives 0 (or 1 for its out buffer)."
+-- Moves, in 01: "*From fresh* is a state after a list as in property 3; the list may be empty, and each move in it has any numbers, outside
+-- bytes and out buffer. Property 3 is a single claim about the list".
+use mathlib.Core.Path.{_≡_}
+use mathlib.Core.Bool.{Bool, true, false, _&&_, _||_}
+use mathlib.Core.List.{List, [], _∷_}
+use Prim.Native.Nat.{ℕ, _<_}
+use lib.Dec.{T, leb}
+use lib.ListN.{length}
+use Rattle.scalar.specs.Value.{pick}
+use Rattle.syntax.specs.Syntax.{Types, some, Network, Operation, Behaviour, nil, oneWay, requestResponse, notification, solicitResponse, ifThenElse}
+use Rattle.syntax.specs.Syntax.{whileDo, sequence, parallel, assign, choice, branch, lastBranch, waiting, answering}
+use Rattle.subtyping.specs.Subtype.{Subtypes}
+use Rattle.subtyping.specs.Own.{ownTypes, Fits}
+use Rattle.typing.specs.Environment.{within}
+use Rattle.typing.specs.Rules.{Derives}
+use Rattle.tree.specs.Encode.{Octets}
+use Rattle.refusal.specs.Refusal.{number}
+use Rattle.typing.specs.Result.{passed}
+use Rattle.typing.specs.NetworkRules.{Environments}
+use Rattle.checker.specs.FileChecker.{checkFile}
+use Rattle.network.specs.Layout.{behaviourCount}
+use Rattle.network.specs.Decode.{networkOf}
+use Rattle.state.specs.Session.{Progress, Progresses, undone, done, waits, received, taken, Queued, Session, live, State}
+use Rattle.state.specs.Bytes.{stateBytes}
+use Rattle.state.specs.Shape.{isUndone, behaviourIn, operationAt, decodeState, freshState}
+use Rattle.moves.specs.Readiness.{isDone, reached, reach, rest}
+use Rattle.moves.specs.Moves.{Move, local, receive, send, reply, outside, outsideReply, close}
+use Rattle.moves.specs.Step.{step}
+
+-- "each queued message fits its operation's request type"
+pub record FitsOperation (N : Network) (m : Queued) : Type 0 where
+  pub operation : Operation
+  pub there : operationAt (N .operations) (m .operation) ≡ some operation
+  pub fit : Fits (m .message) (operation .request)
+
+unfoldable pub QueueFits : Network → List Queued → Type 0
+QueueFits N [] = Unit {0}
+QueueFits N (m ∷ l) = FitsOperation N m × QueueFits N l
+
+-- 01's *well typed*: "for some Γ its tree's own type is ≤ Γ, its rest is derived from Γ, and each queued message fits its operation's
+-- request type", for a session of the service q that runs B. Γ is within the limits, as every Γ is. (Of a live session 1 to 3 that has
+-- no branch of its starter taken, which no move from fresh makes, this asks that the starter keeps the rule of a choice.)
+pub record WellTyped (N : Network) (q : ℕ) (B : Behaviour) (S : Session) : Type 0 where
+  pub env : Types
+  pub limit : T (within env)
+  pub fit : Subtypes (ownTypes (S .tree)) env
+  pub last : Types
+  pub derived : Derives q (rest (S .progress) 0 B) env last
+  pub queue : QueueFits N (S .queue)
+
+-- A live session runs its service's client or starter, and is well typed.
+pub record LiveWellTyped (N : Network) (q n : ℕ) (S : Session) : Type 0 where
+  pub what : Behaviour
+  pub runs : behaviourIn N q n ≡ some what
+  pub wellTyped : WellTyped N q what S
+
+abbrev pub isTaken : Progress → Bool
+isTaken undone = false
+isTaken done = false
+isTaken waits = false
+isTaken (received to) = false
+isTaken (taken k) = true
+
+-- A reached assign, if or while that can move: "A row that .. has a part chosen isn't ready; a while whose body is done is again."
+abbrev pub isReadyLocal : Progresses → Behaviour → Bool
+isReadyLocal p (nil r) = false
+isReadyLocal p (oneWay r o x) = false
+isReadyLocal p (requestResponse r o x c d) = false
+isReadyLocal p (notification r o e) = false
+isReadyLocal p (solicitResponse r o e x) = false
+isReadyLocal p (ifThenElse r e a b) = isUndone (p r)
+isReadyLocal p (whileDo r e b) = isUndone (p r) || (isTaken (p r) && isDone p 0 b)
+isReadyLocal p (sequence r a b) = false
+isReadyLocal p (parallel r a b) = false
+isReadyLocal p (assign r x e) = isUndone (p r)
+isReadyLocal p (choice r m) = false
+isReadyLocal p (branch r a b m) = false
+isReadyLocal p (lastBranch r a b) = false
+isReadyLocal p (waiting r o x) = false
+isReadyLocal p (answering r o c d) = false
+
+-- The row r of the session n of the service q is a ready assign, if or while.
+pub record Ready (N : Network) (G : State) (q n r : ℕ) : Type 0 where
+  pub session : Session
+  pub alive : G q n ≡ live session
+  pub what : Behaviour
+  pub runs : behaviourIn N q n ≡ some what
+  pub row : Behaviour
+  pub there : reach (session .progress) 0 r what ≡ reached row
+  pub ready : T (isReadyLocal (session .progress) row)
+
+-- A move with its outside bytes and its out buffer.
+pub record Turn : Type 0 where
+  pub move : Move
+  pub bytes : List ℕ
+  pub out : List ℕ
+
+-- "u32 reply number"
+abbrev pub NumberFits : Move → Type 0
+NumberFits (local q n r) = Unit {0}
+NumberFits (receive q n r) = Unit {0}
+NumberFits (send q n r to) = Unit {0}
+NumberFits (reply q n r) = Unit {0}
+NumberFits (outside q id n k) = k < 0x100000000
+NumberFits (outsideReply q n r) = Unit {0}
+NumberFits (close q n) = Unit {0}
+
+-- Outside bytes are bytes, and a reply number is a u32; otherwise "any numbers, outside bytes and out buffer".
+pub record Given (t : Turn) : Type 0 where
+  pub octets : Octets (t .bytes)
+  pub replyNumber : NumberFits (t .move)
+
+unfoldable pub AllGiven : List Turn → Type 0
+AllGiven [] = Unit {0}
+AllGiven (t ∷ l) = Given t × AllGiven l
+
+-- The state's bytes after a list of moves on the file, and the number of the next move.
+unfoldable pub after : List ℕ → List ℕ → List Turn → List ℕ
+after file s [] = s
+after file s (t ∷ l) = after file (step file s (t .out) (t .move) (t .bytes) .state) l
+
+abbrev pub numberOfNext : List ℕ → List ℕ → Turn → ℕ
+numberOfNext file s t = number (step file s (t .out) (t .move) (t .bytes) .outcome)
+
+-- Fresh: "clients live in session 0, all else free".
+abbrev pub freshBytes : List ℕ → List ℕ
+freshBytes file = stateBytes (freshState (networkOf file))
+
+abbrev pub sendsOrReplies : Move → Bool
+sendsOrReplies (local q n r) = false
+sendsOrReplies (receive q n r) = false
+sendsOrReplies (send q n r to) = true
+sendsOrReplies (reply q n r) = true
+sendsOrReplies (outside q id n k) = false
+sendsOrReplies (outsideReply q n r) = false
+sendsOrReplies (close q n) = false
+
+-- What holds of the state's bytes s.
+pub record Holds (file s : List ℕ) : Type 0 where
+  pub state : State
+  pub stands : decodeState (networkOf file) (behaviourCount file) s ≡ some state
+  -- "every live session is well typed"
+  pub wellTyped : (q n : ℕ) (S : Session) → state q n ≡ live S → LiveWellTyped (networkOf file) q n S
+  -- "no next move gives 18"
+  pub never18 : (t : Turn) → Given t → numberOfNext file s t ≡ 18 → ⊥
+  -- "no send or reply gives 19"
+  pub never19 : (t : Turn) → Given t → T (sendsOrReplies (t .move)) → numberOfNext file s t ≡ 19 → ⊥
+  -- "a ready assign, if or while gives 0, or 1 for its out buffer"
+  pub readyMoves : (q n r : ℕ) (bytes out : List ℕ) → Ready (networkOf file) state q n r
+      → numberOfNext file s (record { move = local q n r; bytes = bytes; out = out }) ≡ pick (leb 512 (length out)) 0 1
+
+-- An accepted file: bytes that the checker, which tries 2 to 13, passes.
+pub record AcceptedFile (file : List ℕ) : Type 0 where
+  pub octets : Octets file
+  pub environments : List Environments
+  pub passes : checkFile file ≡ passed environments
+
+-- Property 3, as the single claim about the list of moves l.
+abbrev pub Property3 : List ℕ → List Turn → Type 0
+Property3 file l = Holds file (after file (freshBytes file) l)

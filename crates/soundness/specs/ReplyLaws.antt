@@ -1,0 +1,204 @@
+-- Replies, also from outside, keep the invariant; no reply gives 18 or 19.
+use mathlib.Core.Path.{_≡_, refl, sym, ap, subst, _∙_}
+use Prim.Native.Nat.{ℕ}
+use mathlib.Core.Bool.{Bool, true, false}
+use mathlib.Core.List.{List, [], _++_}
+use native.Mathlib.Omega.{arith}
+use lib.Dec.{T, eqb, eqb→eq}
+use Rattle.forest.specs.Forest.{Tree, tree, present}
+use Rattle.forest.specs.Path.{Path, read, replaceAt}
+use Rattle.scalar.specs.Value.{Value, pick}
+use Rattle.syntax.specs.Syntax.{Optional, none, some, Network, Operation, input, output, Expression, Behaviour, nil, oneWay, requestResponse}
+use Rattle.syntax.specs.Syntax.{notification, solicitResponse, ifThenElse, whileDo, sequence, parallel, assign, choice, branch, lastBranch, waiting}
+use Rattle.syntax.specs.Syntax.{answering}
+use Rattle.syntax.specs.Rows.{rowOf, atRow}
+use Rattle.network.specs.Meets.{inFile}
+use Rattle.refusal.specs.declared.Refusal.the-variants.{MoveNotAllowed}
+use Rattle.subtyping.specs.SubtypeLaws.{subtype-sound, subtype-trans}
+use Rattle.subtyping.specs.Own.{ownType, Fits}
+use Rattle.typing.specs.Rules.{permits}
+use Rattle.tree.specs.Encode.{Octets}
+use Rattle.tree.specs.Decode.{decodeMessage}
+use Rattle.state.specs.Session.{ReplyTo, nobody, outsider, waitingRow, Progress, Progresses, done, waits, received, advance, Session, live, State}
+use Rattle.state.specs.Bytes.{messageBytes, u32Bytes}
+use Rattle.state.specs.Shape.{behaviourIn}
+use Rattle.moves.specs.Readiness.{isDone}
+use Rattle.moves.specs.Moves.{Result, moved, notAllowed, require, onFound, onMessage, voidValue, withTree, withProgress, saveWithin, mustFit}
+use Rattle.moves.specs.Moves.{onWaitingRow, takeReply, answered, replyTo, replyAt, replyMove, outerReply}
+use Rattle.soundness.specs.GoodTrees.{GoodTree}
+use Rattle.soundness.specs.Parts.{Reaches}
+use Rattle.soundness.specs.ReachLaws.{isOpen, Opens, asking, serving}
+use Rattle.soundness.specs.Accepted.{OfFile, MadeOf, Accepted}
+use Rattle.soundness.specs.MadeLaws.{made-at, isSequence, reaches-atRow, atRow-row, some-inj}
+use Rattle.soundness.specs.Invariant.{SessionSound, Sound}
+use Rattle.soundness.specs.SessionLaws.{once-of, made-of, advance-other, answer-sound, waiting-sound}
+use Rattle.soundness.specs.ResultLaws.{Keeps, goes-keeps, keeps-15, by-require, by-received, by-waiting, by-session, by-live, by-message}
+use Rattle.soundness.specs.ResultLaws.{live-inj, by-pick, keeps-found, keeps-fit, outside-fit, sound-set}
+use Rattle.soundness.specs.LocalLaws.{save-goes}
+use Rattle.soundness.specs.SendLaws.{set-elim, decoded-good}
+
+waits-received : {to : ReplyTo} → waits ≡ received to → ⊥
+waits-received h = let z : _≡_ {A = ℕ} 0 1 = cc in omega arith
+
+opens-row : {i : ℕ} {W : Behaviour} → Opens i W → rowOf W ≡ i
+unfolding rowOf
+opens-row asking = refl
+opens-row serving = refl
+
+opens-plain : {i : ℕ} {W : Behaviour} → Opens i W → isSequence W ≡ false
+opens-plain asking = refl
+opens-plain serving = refl
+
+module _ (N : Network) (rows : ℕ) (acc : Accepted N rows) where
+  -- An open row that is found wherever it stands is reached.
+  open-reached : (q n : ℕ) (S : Session) (h : SessionSound N rows q n S) (r : ℕ) (X : Behaviour) → atRow r (h .what) ≡ some X → T (isOpen (S .progress r))
+      → Reaches (S .progress) X (h .what)
+  open-reached q n S h r X e t =
+      let k = h .opened r (atRow-row r (h .what) X e .1) t in
+      let on = once-of N rows acc q n (h .what) (h .runs) in
+      let at : atRow r (h .what) ≡ some (k .what) =
+      subst (λ (z : ℕ). atRow z (h .what) ≡ some (k .what)) (opens-row (k .kind))
+      (reaches-atRow (S .progress) (k .what) (h .what) (opens-plain (k .kind)) on (k .way)) in
+      subst (λ (z : Behaviour). Reaches (S .progress) z (h .what)) (some-inj (sym at ∙ e)) (k .way)
+
+  -- A waiting row takes its reply.
+  take-keeps : (strict : Bool) (G : State) → Sound N rows G → (q n r : ℕ) (B : Behaviour) → behaviourIn N q n ≡ some B
+      → (o : Operation) (e : Expression) (x : Path)
+      → atRow r B ≡ some (solicitResponse r o e x) → (m : Tree Value) → GoodTree m → Fits m (o .reply)
+      → ((S : Session) → G q n ≡ live S → S .progress r ≡ waits)
+      → Keeps N rows strict (takeReply G q n r x m)
+  take-keeps strict G hG q n r B eB o e x at m gm f w =
+      by-live N rows strict (G q n) (λ S. saveWithin G q n (withTree S (replaceAt voidValue x m (S .tree)) (advance (S .progress) r done)) [])
+      (λ S eS.
+      let h = hG q n S eS in
+      let at2 : atRow r (h .what) ≡ some (solicitResponse r o e x) = ap (atRow r) (some-inj (sym (h .runs) ∙ eB)) ∙ at in
+      let ew = w S eS in
+      let way = open-reached q n S h r (solicitResponse r o e x) at2 (subst (λ (s : Progress). T (isOpen s)) (sym ew) tt) in
+      goes-keeps N rows strict (saveWithin G q n (withTree S (replaceAt voidValue x m (S .tree)) (advance (S .progress) r done)) [])
+      (save-goes N rows acc G q n (withTree S (replaceAt voidValue x m (S .tree)) (advance (S .progress) r done)) [] hG
+      (waiting-sound N rows acc q n S h r o e x m way ew gm f)))
+
+  -- The row that waits, found wherever it stands.
+  by-waiting-row : (strict : Bool) (q : ℕ) (S : Session) (r : ℕ) (B : Behaviour) (k : Operation → Path → Result)
+      → ((o : Operation) (e : Expression) (x : Path) → atRow r B ≡ some (solicitResponse r o e x) → S .progress r ≡ waits
+      → T (permits q output true o) → Keeps N rows strict (k o x))
+      → Keeps N rows strict (onWaitingRow q S (atRow r B) k)
+  unfolding rowOf
+  by-waiting-row strict q S r B k f = go (atRow r B) refl
+    where
+      go : (l : Optional Behaviour) → atRow r B ≡ l → Keeps N rows strict (onWaitingRow q S l k)
+      go none e = keeps-15 N rows strict
+      go (some (nil r2)) e = keeps-15 N rows strict
+      go (some (oneWay r2 o x)) e = keeps-15 N rows strict
+      go (some (requestResponse r2 o x c d)) e = keeps-15 N rows strict
+      go (some (notification r2 o g)) e = keeps-15 N rows strict
+      go (some (solicitResponse r2 o g x)) e =
+          let er : r2 ≡ r = atRow-row r B (solicitResponse r2 o g x) e .0 in
+          by-waiting N rows strict (S .progress r2) (require (permits q output true o) MoveNotAllowed (k o x))
+          (λ t. by-require N rows strict (permits q output true o) (k o x)
+          (λ pm. f o g x (subst (λ (z : ℕ). atRow r B ≡ some (solicitResponse z o g x)) er e) (subst (λ (z : ℕ). S .progress z ≡ waits) er t) pm))
+      go (some (ifThenElse r2 g x y)) e = keeps-15 N rows strict
+      go (some (whileDo r2 g b)) e = keeps-15 N rows strict
+      go (some (sequence r2 x y)) e = keeps-15 N rows strict
+      go (some (parallel r2 x y)) e = keeps-15 N rows strict
+      go (some (assign r2 x g)) e = keeps-15 N rows strict
+      go (some (choice r2 m)) e = keeps-15 N rows strict
+      go (some (branch r2 x y m)) e = keeps-15 N rows strict
+      go (some (lastBranch r2 x y)) e = keeps-15 N rows strict
+      go (some (waiting r2 o x)) e = keeps-15 N rows strict
+      go (some (answering r2 o c d)) e = keeps-15 N rows strict
+
+  module _ (G : State) (hG : Sound N rows G) (q n : ℕ) (S : Session) (eS : G q n ≡ live S) (h : SessionSound N rows q n S) where
+    abbrev p : Progresses
+    p = S .progress
+
+    answer : (r : ℕ) (o : Operation) (x c : Path) (d : Behaviour) (to : ReplyTo) → atRow r (h .what) ≡ some (requestResponse r o x c d) → p r ≡ received to
+        → T (isDone p 0 d) → Keeps N rows true (replyTo N G q n S r o c to)
+    unfolding MadeOf
+    answer r o x c d to at t dn =
+        let way = open-reached q n S h r (requestResponse r o x c d) at (subst (λ (s : Progress). T (isOpen s)) (sym t) tt) in
+        go to t (answer-sound N rows acc q n S h r o x c d to way t dn) (made-at N rows way (made-of N rows acc q n (h .what) (h .runs)) .1)
+      where
+        G2 : State
+        G2 = answered N G q n S r
+
+        go : (to : ReplyTo) → p r ≡ received to
+            → (y : Tree Value) × (read c (S .tree) ≡ present y) × Fits y (o .reply) × GoodTree y × SessionSound N rows q n (withProgress S (advance p r done))
+            → OfFile N o → Keeps N rows true (replyTo N G q n S r o c to)
+        go nobody t u fo = keeps-15 N rows true
+        go (outsider k) t u fo =
+            let K : Tree Value → Result = λ m. mustFit m (o .reply) (moved G2 (u32Bytes k ++ messageBytes m)) in
+            let f = acc .operations (o .row) o fo in
+            keeps-found N rows true (read c (S .tree)) (u .0) K (u .1)
+            (keeps-fit N rows true (u .0) (o .reply) (moved G2 (u32Bytes k ++ messageBytes (u .0))) (u .3) (f .rising .1) (f .smallReply) (u .2)
+            (sound-set N rows G q n (live (withProgress S (advance p r done))) hG (u .4)))
+        go (waitingRow q2 n2 r2) t u fo =
+            let h2 = sound-set N rows G q n (live (withProgress S (advance p r done))) hG (u .4) in
+            let K : Behaviour → Session → Result = λ B2 S2. onWaitingRow q2 S2 (atRow r2 B2)
+            (λ o2 x2. onFound (read c (S .tree)) (λ m. mustFit m (o2 .reply) (takeReply G2 q2 n2 r2 x2 m))) in
+            by-session N rows true G q2 n2 K
+            (λ B2 S2 eB eS2. by-waiting-row true q2 S2 r2 B2 (λ o2 x2. onFound (read c (S .tree)) (λ m. mustFit m (o2 .reply) (takeReply G2 q2 n2 r2 x2 m)))
+            (λ o2 e2 x2 at2 ew pm.
+            let h3 = hG q2 n2 S2 eS2 in
+            let at3 : atRow r2 (h3 .what) ≡ some (solicitResponse r2 o2 e2 x2) = ap (atRow r2) (some-inj (sym (h3 .runs) ∙ eB)) ∙ at2 in
+            let way2 = open-reached q2 n2 S2 h3 r2 (solicitResponse r2 o2 e2 x2) at3 (subst (λ (s : Progress). T (isOpen s)) (sym ew) tt) in
+            let f2 = acc .operations (o2 .row) o2 (made-at N rows way2 (made-of N rows acc q2 n2 (h3 .what) (h3 .runs)) .1) in
+            let fit2 : Fits (u .0) (o2 .reply) = subtype-trans (u .2) (h .replies r (waitingRow q2 n2 r2) t r o x c d at B2 eB r2 o2 e2 x2 at2) in
+            keeps-found N rows true (read c (S .tree)) (u .0) (λ m. mustFit m (o2 .reply) (takeReply G2 q2 n2 r2 x2 m)) (u .1)
+            (keeps-fit N rows true (u .0) (o2 .reply) (takeReply G2 q2 n2 r2 x2 (u .0)) (u .3) (f2 .rising .1) (f2 .smallReply) fit2
+            (take-keeps true G2 h2 q2 n2 r2 B2 eB o2 e2 x2 at2 (u .0) (u .3) fit2
+            (λ S3 e3. set-elim G q n (live (withProgress S (advance p r done))) q2 n2 (live S3)
+            (λ a b c3.
+            let sameS : S2 ≡ S = live-inj (sym eS2 ∙ (subst (λ (z : ℕ). G z n2 ≡ live S) (sym a) (subst (λ (z : ℕ). G q z ≡ live S) (sym b) eS))) in
+            let ew2 : p r2 ≡ waits = subst (λ (z : Session). z .progress r2 ≡ waits) sameS ew in
+            let other : T (eqb r2 r) → ⊥ = λ z. waits-received (sym ew2 ∙ (ap p (eqb→eq r2 r z) ∙ t)) in
+            subst (λ (z : Session). z .progress r2 ≡ waits) (live-inj c3) (sym (advance-other p r done r2 other) ∙ ew2))
+            (λ g. subst (λ (z : Session). z .progress r2 ≡ waits) (live-inj (sym eS2 ∙ g)) ew) e3)))))
+
+    reply-at : (r : ℕ) (l : Optional Behaviour) → atRow r (h .what) ≡ l → Keeps N rows true (replyAt N G q n S l)
+    unfolding rowOf
+    reply-at r none e = keeps-15 N rows true
+    reply-at r (some (nil r2)) e = keeps-15 N rows true
+    reply-at r (some (oneWay r2 o x)) e = keeps-15 N rows true
+    reply-at r (some (requestResponse r2 o x c d)) e =
+        let er : r2 ≡ r = atRow-row r (h .what) (requestResponse r2 o x c d) e .0 in
+        let at : atRow r2 (h .what) ≡ some (requestResponse r2 o x c d) = ap (λ (z : ℕ). atRow z (h .what)) er ∙ e in
+        by-received N rows true (p r2) (λ to. require (isDone p 0 d) MoveNotAllowed
+        (require (permits q input true o) MoveNotAllowed (replyTo N G q n S r2 o c to)))
+        (λ to t. by-require N rows true (isDone p 0 d) (require (permits q input true o) MoveNotAllowed (replyTo N G q n S r2 o c to))
+        (λ dn. by-require N rows true (permits q input true o) (replyTo N G q n S r2 o c to) (λ pm. answer r2 o x c d to at t dn)))
+    reply-at r (some (notification r2 o g)) e = keeps-15 N rows true
+    reply-at r (some (solicitResponse r2 o g x)) e = keeps-15 N rows true
+    reply-at r (some (ifThenElse r2 g x y)) e = keeps-15 N rows true
+    reply-at r (some (whileDo r2 g b)) e = keeps-15 N rows true
+    reply-at r (some (sequence r2 x y)) e = keeps-15 N rows true
+    reply-at r (some (parallel r2 x y)) e = keeps-15 N rows true
+    reply-at r (some (assign r2 x g)) e = keeps-15 N rows true
+    reply-at r (some (choice r2 m)) e = keeps-15 N rows true
+    reply-at r (some (branch r2 x y m)) e = keeps-15 N rows true
+    reply-at r (some (lastBranch r2 x y)) e = keeps-15 N rows true
+    reply-at r (some (waiting r2 o x)) e = keeps-15 N rows true
+    reply-at r (some (answering r2 o c d)) e = keeps-15 N rows true
+
+  pub reply-move : (G : State) → Sound N rows G → (q n r : ℕ) → Keeps N rows true (replyMove N G q n r)
+  reply-move G hG q n r =
+      by-session N rows true G q n (λ B S. replyAt N G q n S (atRow r B))
+      (λ B S e eS.
+      let h = hG q n S eS in
+      subst (λ (z : Behaviour). Keeps N rows true (replyAt N G q n S (atRow r z))) (some-inj (sym (h .runs) ∙ e))
+      (reply-at G hG q n S eS h r (atRow r (h .what)) refl))
+
+  -- A reply from outside, of bytes.
+  pub outside-reply-move : (G : State) → Sound N rows G → (q n r : ℕ) (bytes : List ℕ) → Octets bytes → Keeps N rows false (outerReply N G q n r bytes)
+  outside-reply-move G hG q n r bytes oct =
+      let K : Operation → Path → Result = λ o x. pick (inFile N (o .location)) notAllowed
+      (onMessage (decodeMessage bytes) (λ m. mustFit m (o .reply) (takeReply G q n r x m))) in
+      by-session N rows false G q n (λ B S. onWaitingRow q S (atRow r B) K)
+      (λ B S eB eS. by-waiting-row false q S r B K
+      (λ o e x at ew pm.
+      let D : Tree Value → Result = λ m. mustFit m (o .reply) (takeReply G q n r x m) in
+      by-pick N rows false (inFile N (o .location)) notAllowed (onMessage (decodeMessage bytes) D) (λ t. keeps-15 N rows false)
+      (λ t. by-message N rows false (decodeMessage bytes) D
+      (λ m em. outside-fit N rows m (o .reply) (takeReply G q n r x m)
+      (λ f. take-keeps false G hG q n r B eB o e x at m (decoded-good N rows acc bytes m oct em) (subtype-sound (ownType m) (o .reply) f)
+      (λ S2 e2. subst (λ (z : Session). z .progress r ≡ waits) (live-inj (sym eS ∙ e2)) ew))))))

@@ -1,0 +1,241 @@
+-- Sends and outside messages keep the invariant; no send gives 18 or 19.
+use mathlib.Core.Path.{_≡_, refl, sym, ap, subst, _∙_}
+use Prim.Native.Nat.{ℕ, _<_}
+use mathlib.Core.Bool.{Bool, true, false, _&&_}
+use mathlib.Core.List.{List}
+use lib.Dec.{T, eqb, leb, ltb, eqb→eq, eqb-refl, le→leb, lt→ltb}
+use lib.ListN.{length}
+use Rattle.forest.specs.Compare.{and-l, and-r, and-i, of-T, not-T-false}
+use Rattle.forest.specs.Forest.{Tree, tree, present}
+use Rattle.forest.specs.Path.{Path}
+use Rattle.scalar.specs.Value.{Value, pick}
+use Rattle.syntax.specs.Syntax.{some, Network, Operation, Direction, input, output, Expression, Behaviour, nil, oneWay, requestResponse, notification}
+use Rattle.syntax.specs.Syntax.{solicitResponse, ifThenElse, whileDo, sequence, parallel, assign, choice, branch, lastBranch, waiting, answering}
+use Rattle.syntax.specs.Rows.{rowOf, atRow}
+use Rattle.network.specs.Meets.{entry, locationOf, inFile, isInputOperation, sameKind, metInput, meets}
+use Rattle.refusal.specs.declared.Refusal.the-variants.{MoveNotAllowed}
+use Rattle.subtyping.specs.Subtype.{Subtype}
+use Rattle.subtyping.specs.SubtypeLaws.{subtype-sound, subtype-trans}
+use Rattle.subtyping.specs.Own.{ownType, Fits}
+use Rattle.typing.specs.Rules.{permits}
+use Rattle.typing.specs.TypedLaws.{by-bool}
+use Rattle.tree.specs.Encode.{Octets, messageDeep, messageMany}
+use Rattle.tree.specs.Decode.{decodeMessage}
+use Rattle.tree.specs.DecodeLaws.{decode-sound}
+use Rattle.state.specs.Session.{ReplyTo, nobody, outsider, waitingRow, Progress, Progresses, done, waits, advance, Session, Slot, live, State}
+use Rattle.state.specs.Session.{setSlot}
+use Rattle.state.specs.Bytes.{messageBytes}
+use Rattle.state.specs.Shape.{operationAt, isInput, isNobody, isDestination, suitsOperation}
+use Rattle.moves.specs.Readiness.{Reached, unreached, reached, offered, reach}
+use Rattle.moves.specs.Evaluation.{evaluate}
+use Rattle.moves.specs.Targets.{Target, noTarget, queueFull, queued, starts, target}
+use Rattle.moves.specs.Moves.{Result, moved, require, onTree, onOperation, onMessage, withProgress, mustFit, deliver, allowed, goneOn, sendInside}
+use Rattle.moves.specs.Moves.{sendOutside, sendBy, sendAt, sendReached, sendMove, isInputNamed, inputNamed, outerMessage}
+use Rattle.soundness.specs.GoodTrees.{GoodTree}
+use Rattle.soundness.specs.Parts.{Reaches}
+use Rattle.soundness.specs.ReachLaws.{Found, found-alone}
+use Rattle.soundness.specs.Accepted.{OfFile, MadeOf, Accepted, Agree}
+use Rattle.soundness.specs.MadeLaws.{made-at, reaches-atRow, some-inj}
+use Rattle.soundness.specs.Invariant.{Destination, SessionSound, Sound}
+use Rattle.soundness.specs.SessionLaws.{once-of, made-of, notification-sound, solicit-sound}
+use Rattle.soundness.specs.ResultLaws.{Keeps, keeps-15, by-require, by-undone, by-session, by-operation, by-message, by-pick, keeps-tree}
+use Rattle.soundness.specs.ResultLaws.{live-inj, keeps-fit, outside-fit, sound-set}
+use Rattle.soundness.specs.LocalLaws.{permits-one, permits-two, permits-output, message-good}
+use Rattle.soundness.specs.DeliverLaws.{TargetInfo, target-info, Admits, allowed-keeps, deliver-keeps, first-there, behaviour-place}
+
+solicit-same : {r r2 : ℕ} {o o2 : Operation} {e e2 : Expression} {x x2 : Path} → solicitResponse r o e x ≡ solicitResponse r2 o2 e2 x2 → o ≡ o2
+solicit-same h = cc
+
+is-input : (d : Direction) → T (isInputOperation d) → T (isInput d)
+is-input input t = t
+is-input output t = t
+
+same-bool : (a b : Bool) → T (sameKind a b) → a ≡ b
+same-bool true true t = refl
+same-bool true false t = absurd t
+same-bool false true t = absurd t
+same-bool false false t = refl
+
+-- A slot of a state with one slot changed.
+pub set-elim : {X : Type 0} (G : State) (q n : ℕ) (x : Slot) (i j : ℕ) (y : Slot) → (i ≡ q → j ≡ n → x ≡ y → X) → (G i j ≡ y → X)
+    → setSlot G q n x i j ≡ y → X
+set-elim G q n x i j y f g e =
+    by-bool (eqb i q)
+    (λ t. let e1 : pick (eqb j n) x (G i j) ≡ y = sym (ap (λ (b : Bool). pick b (pick (eqb j n) x (G i j)) (G i j)) (of-T (eqb i q) t)) ∙ e in
+    by-bool (eqb j n)
+    (λ u. f (eqb→eq i q t) (eqb→eq j n u) (sym (ap (λ (b : Bool). pick b x (G i j)) (of-T (eqb j n) u)) ∙ e1))
+    (λ u. g (sym (ap (λ (b : Bool). pick b x (G i j)) (not-T-false (eqb j n) u)) ∙ e1)))
+    (λ t. g (sym (ap (λ (b : Bool). pick b (pick (eqb j n) x (G i j)) (G i j)) (not-T-false (eqb i q) t)) ∙ e))
+
+module _ (N : Network) (rows : ℕ) (acc : Accepted N rows) where
+  -- An operation found among the file's.
+  pub of-file : (w : ℕ) (i : Operation) → operationAt (N .operations) w ≡ some i → OfFile N i
+  of-file w i e = ap (operationAt (N .operations)) (acc .operations w i e .row) ∙ e
+
+  -- The input that an output meets.
+  pub record Met (o i : Operation) : Type 0 where
+    pub ofFile : OfFile N i
+    pub isIn : T (isInput (i .direction))
+    pub alike : i .twoWay ≡ o .twoWay
+
+  met : (o i : Operation) → metInput N o ≡ some i → Met o i
+  unfolding metInput meets
+  met o i e =
+      let u = first-there (meets N o) (N .operations) i e in
+      let L = eqb (locationOf (entry (i .service) (N .services))) (o .location) in
+      let A = isInputOperation (i .direction) && L in
+      let B = eqb (i .id) (o .id) && sameKind (i .twoWay) (o .twoWay) in
+      record {
+        ofFile = of-file (u .0) i (u .1);
+        isIn = is-input (i .direction) (and-l (isInputOperation (i .direction)) L (and-l A B (u .2)));
+        alike = same-bool (i .twoWay) (o .twoWay) (and-r (eqb (i .id) (o .id)) (sameKind (i .twoWay) (o .twoWay)) (and-r A B (u .2)));
+      }
+
+  pub suit-of : (i : Operation) (back : ReplyTo) → T (isInput (i .direction)) → T (pick (i .twoWay) (isDestination N rows back) (isNobody back))
+      → T (suitsOperation N rows (i .service) back (some i))
+  suit-of i back t u =
+      and-i (eqb (i .service) (i .service)) (isInput (i .direction) && pick (i .twoWay) (isDestination N rows back) (isNobody back)) (eqb-refl (i .service))
+      (and-i (isInput (i .direction)) (pick (i .twoWay) (isDestination N rows back) (isNobody back)) t u)
+
+  -- The target as the state is after the sender has gone on.
+  gone-info : (G : State) (q n : ℕ) (S : Session) (p2 : Progresses) → G q n ≡ live S → (i : Operation) (k : ℕ) (t : Target) → TargetInfo N G i k t
+      → TargetInfo N (setSlot G q n (live (withProgress S p2))) i k t
+  gone-info G q n S p2 e i k noTarget f = tt
+  gone-info G q n S p2 e i k queueFull f = tt
+  gone-info G q n S p2 e i k queued f = λ S2 e2.
+      set-elim G q n (live (withProgress S p2)) (i .service) k (live S2)
+      (λ a b c. subst (λ (z : Session). length (z .queue) < 4) (live-inj c)
+      (f S (subst (λ (z : ℕ). G z k ≡ live S) (sym a) (subst (λ (z : ℕ). G q z ≡ live S) (sym b) e))))
+      (λ g. f S2 g) e2
+  gone-info G q n S p2 e i k (starts c j a) f = f
+
+  module _ (G : State) (hG : Sound N rows G) (q n : ℕ) (S : Session) (eS : G q n ≡ live S) (h : SessionSound N rows q n S) (to : ℕ) where
+    abbrev p : Progresses
+    p = S .progress
+
+    send-by : (r : ℕ) (o : Operation) (e : Expression) (after : Progress) (back : ReplyTo) → OfFile N o → o .direction ≡ output
+        → (y : Tree Value) → evaluate (S .tree) e ≡ some y → Fits y (o .request) → GoodTree y → SessionSound N rows q n (withProgress S (advance p r after))
+        → ((i : Operation) → Met o i → Agree o i → Destination N i back × T (pick (i .twoWay) (isDestination N rows back) (isNobody back)))
+        → Keeps N rows true (sendBy N G q n S to r o e after back)
+    send-by r o e after back fo dir y ev fit gy hs dest =
+        let G2 = goneOn N G q n S to r after in
+        let h2 = sound-set N rows G q n (live (withProgress S (advance p r after))) hG hs in
+        let fo2 = acc .operations (o .row) o fo in
+        by-pick N rows true (inFile N (o .location)) (onOperation (metInput N o) (sendInside N G q n S to r e after back))
+        (sendOutside N G q n S to r o e after)
+        (λ inside. by-operation N rows true (metInput N o) (sendInside N G q n S to r e after back)
+        (λ i ei.
+        let m = met o i ei in
+        let ag = acc .outputs (o .row) o i fo dir inside ei in
+        let fi = acc .operations (i .row) i (m .ofFile) in
+        let fit2 : Fits y (i .request) = subtype-trans fit (ag .requests) in
+        let d = dest i m ag in
+        let t = target N G i to in
+        let K : Tree Value → Result = λ x. mustFit x (i .request) (deliver G2 i to t back x) in
+        allowed-keeps N rows acc true (i .service) t (onTree (evaluate (S .tree) e) K)
+        (λ ad. keeps-tree N rows true (evaluate (S .tree) e) y K ev
+        (keeps-fit N rows true y (i .request) (deliver G2 i to t back y) gy (fi .rising .0) (fi .smallRequest) fit2
+        (deliver-keeps N rows acc true G2 h2 i to y back
+        (record { ofFile = m .ofFile; suit = suit-of i back (m .isIn) (d .1); good = gy; fit = fit2; destination = d .0 })
+        t (gone-info G q n S (advance p r after) eS i to t (target-info N rows acc G i to)) ad)))))
+        (λ outside.
+        let K : Tree Value → Result = λ x. mustFit x (o .request) (moved G2 (messageBytes x)) in
+        by-require N rows true (eqb to 0) (onTree (evaluate (S .tree) e) K)
+        (λ t. keeps-tree N rows true (evaluate (S .tree) e) y K ev
+        (keeps-fit N rows true y (o .request) (moved G2 (messageBytes y)) gy (fo2 .rising .0) (fo2 .smallRequest) fit h2)))
+
+    send-at : (X : Behaviour) → Reaches p X (h .what) → Keeps N rows true (sendAt N G q n S to X)
+    unfolding sendAt MadeOf rowOf
+    send-at (nil r) a = keeps-15 N rows true
+    send-at (oneWay r o x) a = keeps-15 N rows true
+    send-at (requestResponse r o x c d) a = keeps-15 N rows true
+    send-at (notification r o e) a =
+        let made = made-at N rows a (made-of N rows acc q n (h .what) (h .runs)) in
+        by-undone N rows true (p r) (require (permits q output false o) MoveNotAllowed (sendBy N G q n S to r o e done nobody))
+        (λ t. by-require N rows true (permits q output false o) (sendBy N G q n S to r o e done nobody)
+        (λ k. let u = notification-sound N rows acc q n S h r o e a t in
+        send-by r o e done nobody (made .1) (permits-output q false o k) (u .0) (u .1) (u .2) (u .3) (u .4)
+        (λ i m ag. (tt, subst (λ (b : Bool). T (pick b (isDestination N rows nobody) (isNobody nobody))) (sym (m .alike ∙ permits-one q output o k)) tt))))
+    send-at (solicitResponse r o e x) a =
+        let X = solicitResponse r o e x in
+        let mB = made-of N rows acc q n (h .what) (h .runs) in
+        let made = made-at N rows a mB in
+        let on = once-of N rows acc q n (h .what) (h .runs) in
+        let at = reaches-atRow p X (h .what) refl on a in
+        let place = behaviour-place N q n (h .what) (h .runs) in
+        let R = sendBy N G q n S to r o e waits (waitingRow q n r) in
+        by-undone N rows true (p r) (require (permits q output true o) MoveNotAllowed R)
+        (λ t. by-require N rows true (permits q output true o) R
+        (λ k. let u = solicit-sound N rows acc q n S h r o e x a t in
+        send-by r o e waits (waitingRow q n r) (made .1) (permits-output q true o k) (u .0) (u .1) (u .2) (u .3) (u .4)
+        (λ i m ag. (
+          (λ B eB r2 o2 e2 x2 e3.
+              let sameB : h .what ≡ B = some-inj (sym (h .runs) ∙ eB) in
+              let same : X ≡ solicitResponse r2 o2 e2 x2 = some-inj (sym at ∙ (ap (atRow r) sameB ∙ e3)) in
+              subst (λ (z : Operation). Subtype (i .reply) (z .reply)) (solicit-same same) (ag .replies (permits-two q output o k))),
+          subst (λ (b : Bool). T (pick b (isDestination N rows (waitingRow q n r)) (isNobody (waitingRow q n r)))) (sym (m .alike ∙ permits-two q output o k))
+              (and-i (ltb q (length (N .services))) (leb n 3 && ltb r rows) (lt→ltb q (length (N .services)) (place .0))
+              (and-i (leb n 3) (ltb r rows) (le→leb n 3 (place .1)) (lt→ltb r rows (made .0)))),
+        ))))
+    send-at (ifThenElse r e x y) a = keeps-15 N rows true
+    send-at (whileDo r e b) a = keeps-15 N rows true
+    send-at (sequence r x y) a = keeps-15 N rows true
+    send-at (parallel r x y) a = keeps-15 N rows true
+    send-at (assign r x e) a = keeps-15 N rows true
+    send-at (choice r m) a = keeps-15 N rows true
+    send-at (branch r x y m) a = keeps-15 N rows true
+    send-at (lastBranch r x y) a = keeps-15 N rows true
+    send-at (waiting r o x) a = keeps-15 N rows true
+    send-at (answering r o c d) a = keeps-15 N rows true
+
+    send-reached : (i : ℕ) (l : Reached) → Found p i (h .what) l → Keeps N rows true (sendReached N G q n S to l)
+    send-reached i unreached f = keeps-15 N rows true
+    send-reached i (reached X) f = send-at X (f .0)
+    send-reached i (offered c k b) f = keeps-15 N rows true
+
+  pub send-move : (G : State) → Sound N rows G → (q n r to : ℕ) → Keeps N rows true (sendMove N G q n r to)
+  send-move G hG q n r to =
+      by-session N rows true G q n (λ B S. sendReached N G q n S to (reach (S .progress) 0 r B))
+      (λ B S e eS.
+      let h = hG q n S eS in
+      let on = once-of N rows acc q n (h .what) (h .runs) in
+      subst (λ (z : Behaviour). Keeps N rows true (sendReached N G q n S to (reach (S .progress) 0 r z))) (some-inj (sym (h .runs) ∙ e))
+      (send-reached G hG q n S eS h to r (reach (S .progress) 0 r (h .what)) (found-alone (S .progress) r (h .what) on)))
+
+  -- A message from outside, of bytes, with a u32 reply number.
+  pub decoded-good : (bytes : List ℕ) (m : Tree Value) → Octets bytes → decodeMessage bytes ≡ present m → GoodTree m
+  decoded-good bytes m oct e = message-good m (decode-sound messageDeep messageMany bytes m oct e .good)
+
+  outside-pick : (b : Bool) (k : ℕ) → k < 0x100000000 → T (pick b (isDestination N rows (pick b (outsider k) nobody)) (isNobody (pick b (outsider k) nobody)))
+  outside-pick true k small = lt→ltb k 0x100000000 small
+  outside-pick false k small = tt
+
+  outside-destination : (i : Operation) (b : Bool) (k : ℕ) → Destination N i (pick b (outsider k) nobody)
+  outside-destination i true k = tt
+  outside-destination i false k = tt
+
+  pub outside-move : (G : State) → Sound N rows G → (q id n number : ℕ) (bytes : List ℕ) → number < 0x100000000 → Octets bytes
+      → Keeps N rows false (outerMessage N G q id n number bytes)
+  outside-move G hG q id n number bytes small oct =
+      let K : Operation → Result = λ i. allowed q (target N G i n) (onMessage (decodeMessage bytes)
+      (λ m. mustFit m (i .request) (deliver G i n (target N G i n) (pick (i .twoWay) (outsider number) nobody) m))) in
+      by-operation N rows false (inputNamed N q id) K
+      (λ i ei.
+      let u = first-there (isInputNamed q id) (N .operations) i ei in
+      let svc = eqb→eq (i .service) q (and-l (eqb (i .service) q) (isInput (i .direction) && eqb (i .id) id) (u .2)) in
+      let isIn = and-l (isInput (i .direction)) (eqb (i .id) id) (and-r (eqb (i .service) q) (isInput (i .direction) && eqb (i .id) id) (u .2)) in
+      let t = target N G i n in
+      let back = pick (i .twoWay) (outsider number) nobody in
+      let D : Tree Value → Result = λ m. mustFit m (i .request) (deliver G i n t back m) in
+      allowed-keeps N rows acc false q t (onMessage (decodeMessage bytes) D)
+      (λ ad. by-message N rows false (decodeMessage bytes) D
+      (λ m em. outside-fit N rows m (i .request) (deliver G i n t back m)
+      (λ f. deliver-keeps N rows acc false G hG i n m back
+      (record {
+        ofFile = of-file (u .0) i (u .1);
+        suit = suit-of i back isIn (outside-pick (i .twoWay) number small);
+        good = decoded-good bytes m oct em;
+        fit = subtype-sound (ownType m) (i .request) f;
+        destination = outside-destination i (i .twoWay) number;
+      })
+      t (target-info N rows acc G i n) (subst (λ (z : ℕ). Admits N rows acc z t) (sym svc) ad)))))

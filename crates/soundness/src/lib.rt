@@ -1,0 +1,1 @@
+// Property 3: type soundness of the moves, over the definitions alone.

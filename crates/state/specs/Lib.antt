@@ -1,0 +1,16 @@
+pub mod Session
+pub mod Bytes
+pub mod PartLaws
+pub mod SizeLaws
+pub mod ReadLaws
+pub mod ShapeLaws
+pub mod ChangeLaws
+pub mod RowShape
+pub mod RowLaws
+pub mod KeepLaws
+pub mod FreshLaws
+pub mod Form
+pub mod FormLaws
+pub mod OctetLaws
+pub mod Example
+pub mod Shape

@@ -1,0 +1,285 @@
+-- The byte form is made of bytes: in a file within 01's limits every element is below 256 (`state-octets`).
+use mathlib.Core.Path.{_≡_, refl}
+use mathlib.Core.List.{List, [], _∷_, _++_}
+use mathlib.Core.Bool.{Bool, true, false, _&&_, _||_}
+use Prim.Native.Nat.{ℕ, zero, suc, _+_, _-_, _/_, _%_, _≤_, _<_}
+use native.Mathlib.Omega.{arith}
+use native.Mathlib.Decide.{decLt}
+use lib.ListN.{length, getD, List·getD-append}
+use lib.Seq.{getD-append-add}
+use lib.Dec.{eqb, leb, ltb}
+use borrow.Author.Tests.{ne-eqb, eqb-true, ltb-true, leb-true}
+use Rattle.forest.specs.Forest.{Forest, Tree, tree, nodes}
+use Rattle.scalar.specs.Value.{Value, value, pick, isValue}
+use Rattle.syntax.specs.Syntax.{Optional, none, some, Network, Operation, Behaviour, nil, oneWay, requestResponse, notification, solicitResponse, ifThenElse, whileDo, sequence, parallel, assign, choice, branch, lastBranch, waiting, answering}
+use Rattle.syntax.specs.Rows.{rowOf, hasRow}
+use Rattle.tree.specs.Encode.{count, encode, rooted, empty, Octets, Proper, WellFormed, messageDeep, messageMany, treeDeep, treeMany}
+use Rattle.tree.specs.EncodeLaws.{and-left, and-right, count-nodes, encode-octets}
+use Rattle.state.specs.Session.{ReplyTo, nobody, outsider, waitingRow, Progress, undone, done, waits, received, taken, Progresses, Queued, Session, Slot, free, live, State}
+use Rattle.state.specs.Bytes.{zeros, joined, padded, u16Bytes, replyKind, replyBytes, messageBytes, entryBytes, queueBytes, progressBytes, rowsBytes, treeBytes, slotBytes, slotAt, stateBytes}
+use Rattle.state.specs.Shape.{isDestination, isNobody, isInput, isUndone, undoneOrDone, undoneDoneOrWaits, undoneDoneOrReceived, undoneOrTaken, undoneDoneOrBody, branches, suits, quietElsewhere, suitsOperation, suitsQueue, operationAt, behaviourIn, suitsBehaviour, suitsSlot, AllMessages, WellMade, MadeSlot, HasShape}
+use Rattle.state.specs.PartLaws.{byte-zeros}
+use Rattle.state.specs.SizeLaws.{value-size, message-size, session-tree-size}
+use Rattle.state.specs.RowShape.{suitsRow, PartOf}
+use Rattle.state.specs.RowLaws.{suits-row, row-part, quiet-each}
+
+-- ---- lists of bytes
+
+octets-nil : Octets []
+octets-nil = record { small = λ k. omega arith }
+
+octets-cons : {a : ℕ} {l : List ℕ} → a < 256 → Octets l → Octets (a ∷ l)
+octets-cons {a} {l} h o = record { small = by }
+  where
+    by : (k : ℕ) → getD (a ∷ l) k 0 < 256
+    by zero = h
+    by (suc k) = o .small k
+
+octets-append : (a b : List ℕ) → Octets a → Octets b → Octets (a ++ b)
+octets-append a b p q = record { small = λ k. by k (decLt k (length a)) }
+  where
+    by : (k : ℕ) → Dec (k < length a) → getD (a ++ b) k 0 < 256
+    by k (yes l) = rw (List·getD-append a b 0 k l) (p .small k)
+    by k (no l) =
+        let e : k ≡ length a + (k - length a) = omega arith in
+        rw e (rw (getD-append-add a b (k - length a) 0) (q .small (k - length a)))
+
+octets-zeros : (n : ℕ) → Octets (zeros n)
+octets-zeros n = record { small = λ k. omega (arith, byte-zeros n k) }
+
+octets-joined : (f : ℕ → List ℕ) (k n : ℕ) → ((i : ℕ) → i < k + n → Octets (f i)) → Octets (joined f k n)
+unfolding joined
+octets-joined f k zero h = octets-nil
+octets-joined f k (suc n) h =
+    octets-append (f k) (joined f (suc k) n) (h k (omega arith)) (octets-joined f (suc k) n (λ i l. h i (omega arith)))
+
+octets-u16 : (v : ℕ) → v < 65536 → Octets (u16Bytes v)
+octets-u16 v h = octets-cons (omega arith) (octets-cons (omega arith) octets-nil)
+
+-- ---- trees
+
+value-basic : (b : ℕ) (v : List ℕ) → isValue b v ≡ true → b < 256
+unfolding isValue
+value-basic b v h = by (decLt b 7)
+  where
+    by : Dec (b < 7) → b < 256
+    by (yes l) = omega arith
+    by (no l) =
+        let f : false ≡ true = simp (
+          ne-eqb b 0 (λ e. omega arith),
+          ne-eqb b 1 (λ e. omega arith),
+          ne-eqb b 2 (λ e. omega arith),
+          ne-eqb b 3 (λ e. omega arith),
+          ne-eqb b 4 (λ e. omega arith),
+          ne-eqb b 5 (λ e. omega arith),
+          ne-eqb b 6 (λ e. omega arith),
+        ) at h in
+        absurd (let z : _≡_ {A = ℕ} 0 1 = cc in omega arith)
+
+node-octets : (i b : ℕ) (v : List ℕ) (ks : Forest Value) (t : List ℕ) → i < 65536 → Proper (value b v) → nodes ks < 256 → Octets t
+    → Octets (i % 256 ∷ i / 256 ∷ b ∷ count ks ∷ length v ∷ (v ++ t))
+node-octets i b v ks t h p n o =
+    octets-cons (omega arith) (octets-cons (omega arith) (octets-cons (value-basic b v (p .valid))
+    (octets-cons (omega (arith, count-nodes ks)) (octets-cons (omega (arith, value-size v b (p .valid))) (octets-append v t (p .bytes) o)))))
+
+tree-octets : (deep many : ℕ) (t : Tree Value) → many < 256 → WellFormed deep many t → Octets (encode (rooted t))
+unfolding encode
+tree-octets deep many (tree (value b v) ks) n w =
+    let k : nodes ks < 256 = omega (arith, w .few) in
+    node-octets 0 b v ks (encode ks ++ []) (omega arith) (w .root) k (octets-append (encode ks) [] (encode-octets ks (w .sound) k) octets-nil)
+
+-- 01: "At most 256 rows in P, T, E, B; 64 in O; 1 to 4 in S"; "choice (first row a, count b of 1 to 8)".
+pub record WithinLimits (N : Network) (rows : ℕ) : Type 0 where
+  pub services : length (N .services) ≤ 4
+  pub operations : length (N .operations) ≤ 64
+  pub behaviours : rows ≤ 256
+  pub choices : (q n : ℕ) (B : Behaviour) → behaviourIn N q n ≡ some B → (r : ℕ) (m : Behaviour) → PartOf (choice r m) B → branches m ≤ 8
+
+module _ {N : Network} {rows : ℕ} (w : WithinLimits N rows) where
+  -- ---- where replies go
+
+  destination-octets : (to : ReplyTo) → isDestination N rows to ≡ true → Octets (replyBytes to)
+  destination-octets nobody h = octets-zeros 4
+  destination-octets (outsider k) h =
+      let l : k < 4294967296 = ltb-true k 4294967296 h in
+      octets-cons (omega arith) (octets-cons (omega arith) (octets-cons (omega arith) (octets-cons (omega arith) octets-nil)))
+  destination-octets (waitingRow q n r) h =
+      let a = ltb-true q (length (N .services)) (and-left (ltb q (length (N .services))) (leb n 3 && ltb r rows) h) in
+      let h′ = and-right (ltb q (length (N .services))) (leb n 3 && ltb r rows) h in
+      let b = leb-true n 3 (and-left (leb n 3) (ltb r rows) h′) in
+      let c = ltb-true r rows (and-right (leb n 3) (ltb r rows) h′) in
+      octets-cons (omega (arith, w .services)) (octets-cons (omega arith) (octets-u16 r (omega (arith, w .behaviours))))
+
+  kind-octet : (to : ReplyTo) → replyKind to < 256
+  kind-octet nobody = omega arith
+  kind-octet (outsider k) = omega arith
+  kind-octet (waitingRow q n r) = omega arith
+
+  -- ---- the queue
+
+  operation-row : (l : List Operation) (k : ℕ) (o : Operation) → operationAt l k ≡ some o → k < length l
+  unfolding operationAt
+  operation-row [] k o e = absurd (let z : _≡_ {A = ℕ} 0 1 = cc in omega arith)
+  operation-row (a ∷ l) zero o e = omega arith
+  operation-row (a ∷ l) (suc k) o e = omega (arith, operation-row l k o e)
+
+  reply-octets : (twoWay : Bool) (to : ReplyTo) → pick twoWay (isDestination N rows to) (isNobody to) ≡ true → Octets (replyBytes to)
+  reply-octets true to h = destination-octets to h
+  reply-octets false nobody h = octets-zeros 4
+  reply-octets false (outsider k) h = absurd (let z : _≡_ {A = ℕ} 0 1 = cc in omega arith)
+  reply-octets false (waitingRow q n r) h = absurd (let z : _≡_ {A = ℕ} 0 1 = cc in omega arith)
+
+  entry-octets : (q : ℕ) (m : Queued) → WellFormed messageDeep messageMany (m .message)
+      → suitsOperation N rows q (m .replyTo) (operationAt (N .operations) (m .operation)) ≡ true → Octets (entryBytes m)
+  unfolding entryBytes
+  entry-octets q m f h = by (operationAt (N .operations) (m .operation)) refl h
+    where
+      by : (x : Optional Operation) → operationAt (N .operations) (m .operation) ≡ x → suitsOperation N rows q (m .replyTo) x ≡ true → Octets (entryBytes m)
+      by none e h = absurd (let z : _≡_ {A = ℕ} 0 1 = cc in omega arith)
+      by (some o) e h =
+          let l = messageBytes (m .message) in
+          let t = pick (o .twoWay) (isDestination N rows (m .replyTo)) (isNobody (m .replyTo)) in
+          let r = and-right (isInput (o .direction)) t (and-right (eqb (o .service) q) (isInput (o .direction) && t) h) in
+          let k = operation-row (N .operations) (m .operation) o e in
+          octets-cons (omega (arith, w .operations)) (octets-cons (kind-octet (m .replyTo))
+          (octets-append (u16Bytes (length l)) _ (octets-u16 (length l) (omega (arith, message-size (m .message) f)))
+          (octets-append (replyBytes (m .replyTo)) (padded 336 l) (reply-octets (o .twoWay) (m .replyTo) r)
+          (octets-append l (zeros (336 - length l)) (tree-octets messageDeep messageMany (m .message) (omega arith) f) (octets-zeros (336 - length l))))))
+
+  queue-octets : (q n : ℕ) (l : List Queued) → AllMessages l → suitsQueue N rows q l ≡ true → Octets (queueBytes n l)
+  unfolding queueBytes AllMessages suitsQueue
+  queue-octets q zero l f h = octets-nil
+  queue-octets q (suc n) [] f h = octets-append (zeros 344) (queueBytes n []) (octets-zeros 344) (queue-octets q n [] f h)
+  queue-octets q (suc n) (m ∷ l) f h =
+      let a = suitsOperation N rows q (m .replyTo) (operationAt (N .operations) (m .operation)) in
+      octets-append (entryBytes m) (queueBytes n l) (entry-octets q m (f .0) (and-left a (suitsQueue N rows q l) h))
+      (queue-octets q n l (f .1) (and-right a (suitsQueue N rows q l) h))
+
+  -- ---- progress
+
+  -- A part that a row can have, and a destination.
+  abbrev Small : Progress → Type 0
+  Small undone = Unit {0}
+  Small done = Unit {0}
+  Small waits = Unit {0}
+  Small (received to) = isDestination N rows to ≡ true
+  Small (taken k) = k < 256
+
+  undone-small : (x : Progress) → isUndone x ≡ true → Small x
+  undone-small undone h = tt
+  undone-small done h = tt
+  undone-small waits h = tt
+  undone-small (received to) h = absurd (let z : _≡_ {A = ℕ} 0 1 = cc in omega arith)
+  undone-small (taken k) h = absurd (let z : _≡_ {A = ℕ} 0 1 = cc in omega arith)
+
+  done-small : (x : Progress) → undoneOrDone x ≡ true → Small x
+  done-small undone h = tt
+  done-small done h = tt
+  done-small waits h = tt
+  done-small (received to) h = absurd (let z : _≡_ {A = ℕ} 0 1 = cc in omega arith)
+  done-small (taken k) h = absurd (let z : _≡_ {A = ℕ} 0 1 = cc in omega arith)
+
+  waits-small : (x : Progress) → undoneDoneOrWaits x ≡ true → Small x
+  waits-small undone h = tt
+  waits-small done h = tt
+  waits-small waits h = tt
+  waits-small (received to) h = absurd (let z : _≡_ {A = ℕ} 0 1 = cc in omega arith)
+  waits-small (taken k) h = absurd (let z : _≡_ {A = ℕ} 0 1 = cc in omega arith)
+
+  received-small : (x : Progress) → undoneDoneOrReceived N rows x ≡ true → Small x
+  received-small undone h = tt
+  received-small done h = tt
+  received-small waits h = tt
+  received-small (received to) h = h
+  received-small (taken k) h = absurd (let z : _≡_ {A = ℕ} 0 1 = cc in omega arith)
+
+  taken-small : (n : ℕ) (x : Progress) → n ≤ 256 → undoneOrTaken n x ≡ true → Small x
+  taken-small n undone l h = tt
+  taken-small n done l h = tt
+  taken-small n waits l h = tt
+  taken-small n (received to) l h = absurd (let z : _≡_ {A = ℕ} 0 1 = cc in omega arith)
+  taken-small n (taken k) l h = omega (arith, ltb-true k n h)
+
+  body-small : (x : Progress) → undoneDoneOrBody x ≡ true → Small x
+  body-small undone h = tt
+  body-small done h = tt
+  body-small waits h = tt
+  body-small (received to) h = absurd (let z : _≡_ {A = ℕ} 0 1 = cc in omega arith)
+  body-small (taken k) h = omega (arith, eqb-true k 0 h)
+
+  row-small : (x : Progress) (b : Behaviour) → ((r : ℕ) (m : Behaviour) → b ≡ choice r m → branches m ≤ 8) → suitsRow N rows x b ≡ true → Small x
+  unfolding suitsRow
+  row-small x (nil r) k h = undone-small x h
+  row-small x (oneWay r o y) k h = done-small x h
+  row-small x (requestResponse r o y c d) k h = received-small x h
+  row-small x (notification r o e) k h = done-small x h
+  row-small x (solicitResponse r o e y) k h = waits-small x h
+  row-small x (ifThenElse r e a z) k h = taken-small 2 x (omega arith) h
+  row-small x (whileDo r e z) k h = body-small x h
+  row-small x (sequence r a z) k h = undone-small x h
+  row-small x (parallel r a z) k h = undone-small x h
+  row-small x (assign r y e) k h = done-small x h
+  row-small x (choice r m) k h = taken-small (branches m) x (omega (arith, k r m refl)) h
+  row-small x (branch r a z m) k h = undone-small x h
+  row-small x (lastBranch r a z) k h = undone-small x h
+  row-small x (waiting r o y) k h = undone-small x h
+  row-small x (answering r o c d) k h = undone-small x h
+
+  progress-octets : (x : Progress) → Small x → Octets (progressBytes x)
+  unfolding progressBytes
+  progress-octets undone h = octets-zeros 6
+  progress-octets done h = octets-cons (omega arith) (octets-zeros 5)
+  progress-octets waits h = octets-cons (omega arith) (octets-zeros 5)
+  progress-octets (taken k) h = octets-cons (omega arith) (octets-cons h (octets-zeros 4))
+  progress-octets (received nobody) h = octets-cons (omega arith) (octets-cons (omega arith) (octets-zeros 4))
+  progress-octets (received (outsider k)) h = octets-cons (omega arith) (octets-cons (omega arith) (destination-octets (outsider k) h))
+  progress-octets (received (waitingRow q n r)) h = octets-cons (omega arith) (octets-cons (omega arith) (destination-octets (waitingRow q n r) h))
+
+  rows-octets : (p : Progresses) (B : Behaviour) → ((r : ℕ) (m : Behaviour) → PartOf (choice r m) B → branches m ≤ 8)
+      → suits N rows p B ≡ true → quietElsewhere 256 p B ≡ true → Octets (rowsBytes p)
+  rows-octets p B c h q =
+      octets-joined (λ r. progressBytes (p r)) 0 256 (λ r l. progress-octets (p r) (by r (hasRow r B) refl (quiet-each p B 256 q r (omega arith))))
+    where
+      by : (r : ℕ) (t : Bool) → hasRow r B ≡ t → (t || isUndone (p r)) ≡ true → Small (p r)
+      by r true e u =
+          let f = row-part r B e in
+          rw (f .2) at (row-small (p (rowOf (f .0))) (f .0) (λ i m g. c i m (rw g at (f .1))) (suits-row N rows p B (f .0) h (f .1)))
+      by r false e u = undone-small (p r) u
+
+  -- ---- slots and states
+
+  live-octets : (q n : ℕ) (S : Session) (B : Behaviour) → behaviourIn N q n ≡ some B → WellMade S → suitsBehaviour N rows q S (some B) ≡ true
+      → Octets (slotBytes (live S))
+  unfolding slotBytes
+  live-octets q n S B e f h =
+      let t = treeBytes (S .tree) in
+      let s = suitsQueue N rows q (S .queue) in
+      let u = suits N rows (S .progress) B in
+      let v = quietElsewhere 256 (S .progress) B in
+      let h′ = and-right s (u && v) h in
+      octets-append (1 ∷ 0 ∷ u16Bytes (length t)) _
+      (octets-cons (omega arith) (octets-cons (omega arith) (octets-u16 (length t) (omega (arith, session-tree-size (S .tree) (f .bounded))))))
+      (octets-append (zeros 12) _ (octets-zeros 12)
+      (octets-append (padded 1024 t) _
+      (octets-append t (zeros (1024 - length t)) (tree-octets treeDeep treeMany (tree empty (S .tree)) (omega arith) (f .bounded))
+      (octets-zeros (1024 - length t)))
+      (octets-append (queueBytes 4 (S .queue)) _ (queue-octets q 4 (S .queue) (f .messages) (and-left s (u && v) h))
+      (octets-append (rowsBytes (S .progress)) (zeros 144)
+      (rows-octets (S .progress) B (w .choices q n B e) (and-left u v h′) (and-right u v h′)) (octets-zeros 144)))))
+
+  slot-octets : (q n : ℕ) (x : Slot) → MadeSlot x → suitsSlot N rows q n x ≡ true → Octets (slotBytes x)
+  unfolding slotBytes
+  slot-octets q n free f h = octets-zeros 4096
+  slot-octets q n (live S) f h = by (behaviourIn N q n) refl h
+    where
+      by : (x : Optional Behaviour) → behaviourIn N q n ≡ x → suitsBehaviour N rows q S x ≡ true → Octets (slotBytes (live S))
+      by none e h = absurd (let z : _≡_ {A = ℕ} 0 1 = cc in omega arith)
+      by (some B) e h = live-octets q n S B e f h
+
+  pub state-octets : {G : State} → HasShape N rows G → Octets (stateBytes G)
+  unfolding stateBytes
+  state-octets {G} h = octets-joined (λ k. slotBytes (slotAt G k)) 0 16 (λ k l. slot k (omega arith))
+    where
+      slot : (k : ℕ) → k < 16 → Octets (slotBytes (slotAt G k))
+      slot k l = slot-octets (k / 4) (k % 4) (slotAt G k) (h .made (k / 4) (k % 4) (omega arith) (omega arith))
+          (h .suited (k / 4) (k % 4) (omega arith) (omega arith))

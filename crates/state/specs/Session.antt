@@ -1,0 +1,64 @@
+-- Sessions and states. 01, Moves: "Per service and session a state is free, or holds a tree, a queue of up to four messages,
+-- the progress of rows and where replies go".
+use mathlib.Core.List.{List, []}
+use Prim.Native.Nat.{ℕ}
+use lib.Dec.{eqb}
+use Rattle.forest.specs.Forest.{Forest, end, Tree}
+use Rattle.scalar.specs.Value.{Value, pick}
+use Rattle.syntax.specs.Syntax.{Behaviour}
+use Rattle.syntax.specs.Rows.{hasRow}
+
+-- Where the reply to a message goes: nowhere, if its operation is one-way; to an outsider, under the reply number it gave; or
+-- to a waiting row, by its service, session and B row.
+pub data ReplyTo : Type 0 where
+  nobody : ReplyTo
+  outsider : ℕ → ReplyTo
+  waitingRow : ℕ → ℕ → ℕ → ReplyTo
+
+-- The progress of a row. A request-response that was received holds where its reply goes. `taken` is a chosen part: of an if
+-- 0 for then and 1 for else, of a while 0 for its body, of a choice the branch, counted from 0.
+pub data Progress : Type 0 where
+  undone done waits : Progress
+  received : ReplyTo → Progress
+  taken : ℕ → Progress
+
+-- The progress of every row.
+abbrev pub Progresses : Type 0
+Progresses = ℕ → Progress
+
+-- The same with the row r at s.
+abbrev pub advance : Progresses → ℕ → Progress → Progresses
+advance p r s = λ i. pick (eqb i r) s (p i)
+
+-- The same with every row of the behaviour undone.
+abbrev pub reopen : Progresses → Behaviour → Progresses
+reopen p b = λ i. pick (hasRow i b) undone (p i)
+
+-- A queued message: the O row of its operation, the message, and where its reply goes.
+pub record Queued : Type 0 where
+  pub operation : ℕ
+  pub message : Tree Value
+  pub replyTo : ReplyTo
+
+-- A live session: 01's "A session that isn't free is *live*". The tree is written without its void root; the queue has the
+-- oldest message first.
+pub record Session : Type 0 where
+  pub tree : Forest Value
+  pub queue : List Queued
+  pub progress : Progresses
+
+pub data Slot : Type 0 where
+  free : Slot
+  live : Session → Slot
+
+-- A slot for each service and session.
+abbrev pub State : Type 0
+State = ℕ → ℕ → Slot
+
+-- The state with the slot of the service q and the session n changed.
+abbrev pub setSlot : State → ℕ → ℕ → Slot → State
+setSlot G q n x = λ i j. pick (eqb i q) (pick (eqb j n) x (G i j)) (G i j)
+
+-- A session in which nothing was done: an empty tree and queue, every row undone.
+abbrev pub newSession : Session
+newSession = record { tree = end; queue = []; progress = λ i. undone }

@@ -1,0 +1,297 @@
+-- Which bytes stand for a state: `decode-state-complete` and `decode-state-sound`; hence "each, ill typed too, has one byte form"
+-- (`state-bytes-injective`, `stands-unique`), and 14, "The state bytes stand for no state of this file's shape", is `decodeState` giving
+-- none (`refused-14`, `none-stands`). Fresh states have the shape.
+use mathlib.Core.Path.{_≡_, refl, sym, ap, subst, _∙_}
+use mathlib.Core.List.{List, [], _∷_}
+use mathlib.Core.Bool.{Bool, true, false, _&&_, _||_}
+use mathlib.Core.Logic.{_⊎_, inl, inr}
+use Prim.Native.Nat.{ℕ, zero, suc, _+_, _*_, _≤_, _<_}
+use native.Mathlib.Omega.{arith}
+use native.Mathlib.Decide.{decLt, ℕ-discrete}
+use lib.ListN.{length}
+use lib.Dec.{eqb, ltb}
+use borrow.Author.Tests.{eq-eqb, ne-eqb, eqb-true, lt-ltb, le-ltb}
+use Rattle.forest.specs.Forest.{end, tree, Lookup, absent, present, childrenOf, Rising, measure}
+use Rattle.scalar.specs.Value.{Value, pick, isValue}
+use Rattle.syntax.specs.Syntax.{Optional, none, some, Network, Service, Behaviour, nil, oneWay, requestResponse, notification, solicitResponse, ifThenElse, whileDo, sequence, parallel, assign, choice, branch, lastBranch, waiting, answering}
+use Rattle.wire.specs.Wire.{byteAt, u16At, part}
+use Rattle.tree.specs.Encode.{empty, Octets, Proper, Sound, WellFormed, messageDeep, messageMany, treeDeep, treeMany}
+use Rattle.tree.specs.Decode.{decode, decodeMessage}
+use Rattle.tree.specs.EncodeLaws.{and-left, and-right, octets-part}
+use Rattle.tree.specs.DecodeLaws.{decode-sound}
+use Rattle.state.specs.Session.{undone, free, live, State, newSession}
+use Rattle.state.specs.Bytes.{stateBytes, treeOr, readEntry, readQueue, readSession, readSlot, readState}
+use Rattle.state.specs.Shape.{suitsSlot, suitsSlots, suitsServices, AllMessages, WellMade, MadeSlot, HasShape, Stands, sameBytes, decodeState, serviceAt, clientOf, suitsBehaviour, suitsQueue, suits, quietElsewhere, freshSlot, freshState}
+use Rattle.state.specs.SizeLaws.{state-length}
+use Rattle.state.specs.ReadLaws.{read-state}
+
+-- ---- what is read is well made
+
+-- The root of a session's tree, and a root alone.
+empty-proper : Proper empty
+unfolding isValue
+empty-proper = record { valid = refl; bytes = record { small = λ k. omega arith } }
+
+pub end-well-formed : (deep many : ℕ) → WellFormed deep many (tree empty end)
+unfolding Sound Rising measure
+end-well-formed deep many = record { root = empty-proper; sound = tt; rising = tt; shallow = omega arith; few = omega arith }
+
+message-made : (s : List ℕ) → Octets s → (x : Lookup Value) → decodeMessage s ≡ x → WellFormed messageDeep messageMany (treeOr x)
+message-made s o absent e = end-well-formed messageDeep messageMany
+message-made s o (present t) e = decode-sound messageDeep messageMany s t o e .good
+
+tree-made : (s : List ℕ) → Octets s → (x : Lookup Value) → decode treeDeep treeMany s ≡ x → WellFormed treeDeep treeMany (tree empty (childrenOf x))
+tree-made s o absent e = end-well-formed treeDeep treeMany
+tree-made s o (present (tree a ks)) e =
+    let w = decode-sound treeDeep treeMany s (tree a ks) o e .good in
+    record { root = empty-proper; sound = w .sound; rising = w .rising; shallow = w .shallow; few = w .few }
+
+-- Whatever the bytes.
+module _ (s : List ℕ) (o : Octets s) where
+  queue-length : (n at : ℕ) → length (readQueue s n at) ≤ n
+  unfolding readQueue
+  queue-length zero at = omega arith
+  queue-length (suc n) at = by (eqb (byteAt s at) 0) (queue-length n (at + 344))
+    where
+      by : (b : Bool) → length (readQueue s n (at + 344)) ≤ n → length (pick b [] (readEntry s at ∷ readQueue s n (at + 344))) ≤ suc n
+      by true h = omega arith
+      by false h = omega arith
+
+  pub entry-made : (at : ℕ) → WellFormed messageDeep messageMany (readEntry s at .message)
+  unfolding readEntry
+  entry-made at =
+      let l = part s (at + 8) (u16At s (at + 2)) in
+      message-made l (octets-part s (at + 8) (u16At s (at + 2)) o) (decodeMessage l) refl
+
+  queue-made : (n at : ℕ) → AllMessages (readQueue s n at)
+  unfolding readQueue AllMessages
+  queue-made zero at = tt
+  queue-made (suc n) at = by (eqb (byteAt s at) 0) (queue-made n (at + 344))
+    where
+      by : (b : Bool) → AllMessages (readQueue s n (at + 344)) → AllMessages (pick b [] (readEntry s at ∷ readQueue s n (at + 344)))
+      by true h = tt
+      by false h = (entry-made at, h)
+
+  pub session-made : (at : ℕ) → WellMade (readSession s at)
+  unfolding readSession
+  session-made at =
+      let l = part s (at + 16) (u16At s (at + 2)) in
+      record {
+        bounded = tree-made l (octets-part s (at + 16) (u16At s (at + 2)) o) (decode treeDeep treeMany l) refl;
+        upToFour = queue-length 4 (at + 1040);
+        messages = queue-made 4 (at + 1040);
+        noRowsPast = λ r h. rw (le-ltb r 256 h);
+      }
+
+  pub slot-made : (at : ℕ) → MadeSlot (readSlot s at)
+  unfolding readSlot
+  slot-made at = by (eqb (byteAt s at) 0)
+    where
+      by : (b : Bool) → MadeSlot (pick b free (live (readSession s at)))
+      by true = tt
+      by false = session-made at
+
+-- ---- the test and the shape
+
+pub both-ways : (a b : Bool) → (a ≡ true → b ≡ true) → (b ≡ true → a ≡ true) → a ≡ b
+both-ways true b f g = sym (f refl)
+both-ways false true f g = g refl
+both-ways false false f g = refl
+
+pub below-next : (P : ℕ → Type 0) (k n : ℕ) → n < suc k → P k → (n < k → P n) → P n
+below-next P k n l a b = by (ℕ-discrete n k)
+  where
+    by : Dec (n ≡ k) → P n
+    by (yes e) = rw e a
+    by (no e) = b (omega arith)
+
+module _ (N : Network) (rows : ℕ) (G : State) where
+  slots-suit : (q k : ℕ) → suitsSlots N rows G q k ≡ true → (n : ℕ) → n < k → suitsSlot N rows q n (G q n) ≡ true
+  unfolding suitsSlots
+  slots-suit q zero e n l = absurd (omega arith)
+  slots-suit q (suc k) e n l =
+      let a = suitsSlot N rows q k (G q k) in
+      below-next (λ n. suitsSlot N rows q n (G q n) ≡ true) k n l (and-left a (suitsSlots N rows G q k) e)
+      (slots-suit q k (and-right a (suitsSlots N rows G q k) e) n)
+
+  pub services-suit : (k : ℕ) → suitsServices N rows G k ≡ true → (q n : ℕ) → q < k → n < 4 → suitsSlot N rows q n (G q n) ≡ true
+  unfolding suitsServices
+  services-suit zero e q n i j = absurd (omega arith)
+  services-suit (suc k) e q n i j =
+      let a = suitsSlots N rows G k 4 in
+      below-next (λ q. suitsSlot N rows q n (G q n) ≡ true) k q i (slots-suit k 4 (and-left a (suitsServices N rows G k) e) n j)
+      (λ l. services-suit k (and-right a (suitsServices N rows G k) e) q n l j)
+
+  suit-slots : (q k : ℕ) → ((n : ℕ) → n < k → suitsSlot N rows q n (G q n) ≡ true) → suitsSlots N rows G q k ≡ true
+  unfolding suitsSlots
+  suit-slots q zero h = refl
+  suit-slots q (suc k) h = rw (h k (omega arith), suit-slots q k (λ n l. h n (omega arith)))
+
+  pub suit-services : (k : ℕ) → ((q n : ℕ) → q < k → n < 4 → suitsSlot N rows q n (G q n) ≡ true) → suitsServices N rows G k ≡ true
+  unfolding suitsServices
+  suit-services zero h = refl
+  suit-services (suc k) h =
+      rw (suit-slots k 4 (λ n l. h k n (omega arith) l), suit-services k (λ q n l. h q n (omega arith)))
+
+-- ---- equal bytes
+
+pub same-true : (s : List ℕ) → sameBytes s s ≡ true
+unfolding sameBytes
+same-true [] = refl
+same-true (a ∷ s) = rw (eq-eqb a a refl, same-true s)
+
+pub same-equal : (s t : List ℕ) → sameBytes s t ≡ true → s ≡ t
+unfolding sameBytes
+same-equal [] [] e = refl
+same-equal [] (b ∷ t) e = absurd (let z : _≡_ {A = ℕ} 0 1 = cc in omega arith)
+same-equal (a ∷ s) [] e = absurd (let z : _≡_ {A = ℕ} 0 1 = cc in omega arith)
+same-equal (a ∷ s) (b ∷ t) e =
+    let p = eqb-true a b (and-left (eqb a b) (sameBytes s t) e) in
+    let q = same-equal s t (and-right (eqb a b) (sameBytes s t) e) in
+    cc
+
+-- ---- decoding
+
+-- Bytes that stand for a state decode to it.
+pub decode-state-complete : {N : Network} {rows : ℕ} {s : List ℕ} {G : State} → Stands N rows s G → decodeState N rows s ≡ some G
+unfolding decodeState
+decode-state-complete {N} {rows} {s} {G} h =
+    let r : readState s ≡ G = ap readState (h .bytes) ∙ read-state (h .shape) in
+    let a : suitsServices N rows G 4 ≡ true = suit-services N rows G 4 (h .shape .suited) in
+    let b : sameBytes (stateBytes G) s ≡ true = rw (h .bytes) (same-true (stateBytes G)) in
+    rw (r, a, b)
+
+read-shape : (N : Network) (rows : ℕ) (s : List ℕ) → Octets s → suitsServices N rows (readState s) 4 ≡ true → HasShape N rows (readState s)
+unfolding readState
+read-shape N rows s o e = record {
+  made = λ q n i j. rw (lt-ltb q 4 i, lt-ltb n 4 j) (slot-made s o (4096 * (4 * q + n)));
+  suited = services-suit N rows (readState s) 4 e;
+  elsewhere = outside;
+}
+  where
+    inside : (q n : ℕ) → Dec (q < 4) → 4 ≤ n → pick (ltb q 4 && ltb n 4) (readSlot s (4096 * (4 * q + n))) free ≡ free
+    inside q n (yes i) j = rw (lt-ltb q 4 i, le-ltb n 4 j)
+    inside q n (no i) j = rw (le-ltb q 4 (omega arith))
+
+    outside : (q n : ℕ) → (4 ≤ q) ⊎ (4 ≤ n) → pick (ltb q 4 && ltb n 4) (readSlot s (4096 * (4 * q + n))) free ≡ free
+    outside q n (inl i) = rw (le-ltb q 4 i)
+    outside q n (inr j) = inside q n (decLt q 4) j
+
+picked : (b : Bool) (F G : State) → pick b (some F) none ≡ some G → (b ≡ true) × (F ≡ G)
+picked true F G e = (refl, cc)
+picked false F G e = (cc, cc)
+
+-- Bytes that decode to a state stand for it.
+pub decode-state-sound : {N : Network} {rows : ℕ} {s : List ℕ} {G : State} → Octets s → decodeState N rows s ≡ some G → Stands N rows s G
+unfolding decodeState
+decode-state-sound {N} {rows} {s} {G} o e =
+    let R = readState s in
+    let p = picked (suitsServices N rows R 4 && sameBytes (stateBytes R) s) R G e in
+    let a = and-left (suitsServices N rows R 4) (sameBytes (stateBytes R) s) (p .0) in
+    let b = and-right (suitsServices N rows R 4) (sameBytes (stateBytes R) s) (p .0) in
+    subst (Stands N rows s) (p .1) (record { shape = read-shape N rows s o a; bytes = sym (same-equal (stateBytes R) s b) })
+
+-- ---- one byte form
+
+-- Two states of the shape with equal bytes are equal.
+pub state-bytes-injective : {N : Network} {rows : ℕ} {G H : State} → HasShape N rows G → HasShape N rows H → stateBytes G ≡ stateBytes H → G ≡ H
+state-bytes-injective g h e = sym (read-state g) ∙ ap readState e ∙ read-state h
+
+-- Bytes stand for one state at most.
+pub stands-unique : {N : Network} {rows : ℕ} {s : List ℕ} {G H : State} → Stands N rows s G → Stands N rows s H → G ≡ H
+stands-unique g h = state-bytes-injective (g .shape) (h .shape) (sym (g .bytes) ∙ h .bytes)
+
+-- 14: where decoding gives none, the bytes stand for no state of this file's shape.
+pub none-stands : {N : Network} {rows : ℕ} {s : List ℕ} → decodeState N rows s ≡ none → (G : State) → Stands N rows s G → ⊥
+none-stands e G h = let d = decode-state-complete h in let z : _≡_ {A = ℕ} 0 1 = cc in omega arith
+
+-- And only there.
+pub refused-14 : {N : Network} {rows : ℕ} {s : List ℕ} → Octets s → ((G : State) → Stands N rows s G → ⊥) → decodeState N rows s ≡ none
+refused-14 {N} {rows} {s} o h = by (decodeState N rows s) refl
+  where
+    by : (d : Optional State) → decodeState N rows s ≡ d → d ≡ none
+    by none e = refl
+    by (some G) e = absurd (h G (decode-state-sound o e))
+
+-- Bytes that stand for a state are 65,536.
+pub stands-length : {N : Network} {rows : ℕ} {s : List ℕ} {G : State} → Stands N rows s G → length s ≡ 65536
+stands-length h = ap length (h .bytes) ∙ state-length (h .shape)
+
+-- ---- fresh
+
+or-true : (b : Bool) → (b || true) ≡ true
+or-true true = refl
+or-true false = refl
+
+undone-quiet : (n : ℕ) (B : Behaviour) → quietElsewhere n (λ i. undone) B ≡ true
+unfolding quietElsewhere
+undone-quiet zero B = refl
+undone-quiet (suc n) B = rw (or-true, undone-quiet n B)
+
+undone-suits : (N : Network) (rows : ℕ) (B : Behaviour) → suits N rows (λ i. undone) B ≡ true
+unfolding suits
+undone-suits N rows (nil r) = refl
+undone-suits N rows (oneWay r o x) = refl
+undone-suits N rows (requestResponse r o x c d) = undone-suits N rows d
+undone-suits N rows (notification r o e) = refl
+undone-suits N rows (solicitResponse r o e x) = refl
+undone-suits N rows (ifThenElse r e a b) = rw (undone-suits N rows a, undone-suits N rows b)
+undone-suits N rows (whileDo r e b) = undone-suits N rows b
+undone-suits N rows (sequence r a b) = rw (undone-suits N rows a, undone-suits N rows b)
+undone-suits N rows (parallel r a b) = rw (undone-suits N rows a, undone-suits N rows b)
+undone-suits N rows (assign r x e) = refl
+undone-suits N rows (choice r m) = undone-suits N rows m
+undone-suits N rows (branch r a b m) = rw (undone-suits N rows a, undone-suits N rows b, undone-suits N rows m)
+undone-suits N rows (lastBranch r a b) = rw (undone-suits N rows a, undone-suits N rows b)
+undone-suits N rows (waiting r o x) = refl
+undone-suits N rows (answering r o c d) = undone-suits N rows d
+
+pub new-made : WellMade newSession
+unfolding AllMessages
+new-made = record { bounded = end-well-formed treeDeep treeMany; upToFour = omega arith; messages = tt; noRowsPast = λ r h. refl }
+
+pub new-suits : (N : Network) (rows q : ℕ) (B : Behaviour) → suitsBehaviour N rows q newSession (some B) ≡ true
+unfolding suitsQueue
+new-suits N rows q B = rw (undone-suits N rows B, undone-quiet 256 B)
+
+-- Past the services there is none.
+pub no-service : (l : List Service) (q : ℕ) → length l ≤ q → serviceAt l q ≡ none
+unfolding serviceAt
+no-service [] q h = refl
+no-service (s ∷ l) zero h = absurd (omega arith)
+no-service (s ∷ l) (suc q) h = no-service l q (omega arith)
+
+-- Fresh state has the shape, in a file of at most four services.
+pub fresh-shape : (N : Network) (rows : ℕ) → length (N .services) ≤ 4 → HasShape N rows (freshState N)
+fresh-shape N rows few = record {
+  made = λ q n i j. made q n (eqb n 0);
+  suited = λ q n i j. suited q n (ℕ-discrete n 0);
+  elsewhere = λ q n e. elsewhere q n e;
+}
+  where
+    slot-made : (b : Optional Behaviour) → MadeSlot (freshSlot b)
+    slot-made none = tt
+    slot-made (some B) = new-made
+
+    made : (q n : ℕ) (t : Bool) → MadeSlot (pick t (freshSlot (clientOf (serviceAt (N .services) q))) free)
+    made q n true = slot-made (clientOf (serviceAt (N .services) q))
+    made q n false = tt
+
+    client : (q : ℕ) (b : Optional Behaviour) → clientOf (serviceAt (N .services) q) ≡ b → suitsSlot N rows q 0 (freshSlot b) ≡ true
+    client q none e = refl
+    client q (some B) e = rw e (new-suits N rows q B)
+
+    suited : (q n : ℕ) → Dec (n ≡ 0) → suitsSlot N rows q n (freshState N q n) ≡ true
+    suited q n (yes e) = rw e (client q (clientOf (serviceAt (N .services) q)) refl)
+    suited q n (no e) = rw (ne-eqb n 0 e) refl
+
+    elsewhere : (q n : ℕ) → (4 ≤ q) ⊎ (4 ≤ n) → freshState N q n ≡ free
+    elsewhere q n (inl i) = by (eqb n 0)
+      where
+        by : (t : Bool) → pick t (freshSlot (clientOf (serviceAt (N .services) q))) free ≡ free
+        by true = rw (no-service (N .services) q (omega arith))
+        by false = refl
+    elsewhere q n (inr j) = rw (ne-eqb n 0 (λ e. omega arith))
+
+pub fresh-length : (N : Network) → length (N .services) ≤ 4 → length (stateBytes (freshState N)) ≡ 65536
+fresh-length N few = state-length (fresh-shape N 0 few)

@@ -1,0 +1,1 @@
+// The state of a running network: sessions and their byte form.
