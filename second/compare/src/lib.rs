@@ -1,0 +1,172 @@
+//! Answers of the checker and the reader, from either side, in one form.
+
+pub mod interface;
+pub mod itself;
+#[cfg(feature = "proved")]
+pub mod proved;
+
+use std::fmt;
+use std::ops::Range;
+
+use second::ServiceEnvironments;
+
+/// An environment node as the interface gives it.
+#[derive(Clone, Copy, PartialEq, Eq, Debug)]
+pub struct AnswerNode {
+    pub service: u8,
+    pub client: bool,
+    pub mandatory: bool,
+    pub basic: u8,
+    /// The path's ids and how many there are.
+    pub path: [u16; 6],
+    pub length: u8,
+}
+
+#[derive(Clone, PartialEq, Eq, Debug)]
+pub struct Answer {
+    /// 0 for accepted.
+    pub number: u32,
+    pub place: u32,
+    pub nodes: Vec<AnswerNode>,
+}
+
+impl fmt::Display for Answer {
+    fn fmt(&self, f: &mut fmt::Formatter) -> fmt::Result {
+        if self.number != 0 {
+            return writeln!(f, "refused {} {}", self.number, self.place);
+        }
+        writeln!(f, "accepted")?;
+        for node in &self.nodes {
+            let path: Vec<String> = node.path[..usize::from(node.length.min(6))].iter().map(u16::to_string).collect();
+            let letter = if node.client { 'C' } else { 'S' };
+            let mark = if node.mandatory { '!' } else { '?' };
+            writeln!(f, "{} {letter} {} {mark} {}", node.service, path.join("."), node.basic)?;
+        }
+        Ok(())
+    }
+}
+
+/// One side of a comparison.
+pub trait Side {
+    fn name(&self) -> &'static str;
+    fn check(&self, file: &[u8]) -> Answer;
+    fn part(&self, message: &[u8], ids: [u16; 4]) -> Range<usize>;
+}
+
+/// The library, called directly.
+pub struct Second;
+
+impl Side for Second {
+    fn name(&self) -> &'static str {
+        "second"
+    }
+
+    fn check(&self, file: &[u8]) -> Answer {
+        match second::check(file) {
+            Ok(services) => Answer { number: 0, place: 0, nodes: nodes(&services) },
+            Err(refusal) => Answer { number: refusal.number.into(), place: refusal.place as u32, nodes: Vec::new() },
+        }
+    }
+
+    fn part(&self, message: &[u8], ids: [u16; 4]) -> Range<usize> {
+        second::part_range(message, ids)
+    }
+}
+
+/// Every environment node, by service, starter first, in preorder.
+pub fn nodes(services: &[ServiceEnvironments]) -> Vec<AnswerNode> {
+    let mut nodes = Vec::new();
+    for (service, environments) in services.iter().enumerate() {
+        for (client, environment) in [(false, &environments.starter), (true, &environments.client)] {
+            let Some(environment) = environment else { continue };
+            environment.visit(|ids, node| {
+                nodes.push(AnswerNode {
+                    service: service as u8,
+                    client,
+                    mandatory: node.mandatory,
+                    basic: node.basic.byte(),
+                    path: std::array::from_fn(|step| ids.get(step).copied().unwrap_or(0)),
+                    length: ids.len() as u8,
+                });
+            });
+        }
+    }
+    nodes
+}
+
+pub fn hex(bytes: &[u8]) -> String {
+    bytes.iter().map(|byte| format!("{byte:02x}")).collect()
+}
+
+/// What the two sides say where they differ.
+pub fn differing_check(file: &[u8], left: &dyn Side, right: &dyn Side) -> Option<String> {
+    let (a, b) = (left.check(file), right.check(file));
+    (a != b).then(|| format!("file {}\n{}: {a}{}: {b}", hex(file), left.name(), right.name()))
+}
+
+pub fn differing_part(message: &[u8], ids: [u16; 4], left: &dyn Side, right: &dyn Side) -> Option<String> {
+    let (a, b) = (left.part(message, ids), right.part(message, ids));
+    (a != b).then(|| format!("message {} path {ids:?}\n{}: {a:?}\n{}: {b:?}", hex(message), left.name(), right.name()))
+}
+
+#[cfg(test)]
+mod tests {
+    use super::*;
+    use crate::itself::Itself;
+
+    /// A side that is wrong in one thing.
+    struct Wrong(fn(&mut Answer));
+
+    impl Side for Wrong {
+        fn name(&self) -> &'static str {
+            "wrong"
+        }
+
+        fn check(&self, file: &[u8]) -> Answer {
+            let mut answer = Second.check(file);
+            (self.0)(&mut answer);
+            answer
+        }
+
+        fn part(&self, message: &[u8], ids: [u16; 4]) -> Range<usize> {
+            let part = Second.part(message, ids);
+            part.start..part.end.saturating_sub(1)
+        }
+    }
+
+    const CASE_D: [u8; 66] = [
+        5, 0, 7, 0, 0, 0, 0, 0, 0, 1, 0, 0, 4, 0, 0, 0, 9, 0, 0, 0, 0, 0, 0, 0, 0, 0, 1, 0, 255, 255, 0, 0, 0, 0, 12,
+        0, 0, 0, 0, 0, 1, 0, 8, 0, 0, 0, 8, 0, 1, 0, 16, 0, 1, 0, 26, 0, 0, 0, 26, 0, 1, 0, 34, 0, 4, 0,
+    ];
+
+    #[test]
+    fn the_interface_gives_what_the_library_gives() {
+        assert_eq!(differing_check(&CASE_D, &Second, &Itself), None);
+        assert_eq!(Second.check(&CASE_D).nodes.len(), 2);
+        assert_eq!(differing_check(&CASE_D[1..], &Second, &Itself), None);
+        assert_eq!(Second.check(&CASE_D[1..]).number, 2);
+        let (message, ids) = generate::maximal::message();
+        assert_eq!(differing_part(&message, ids, &Second, &Itself), None);
+        assert_eq!(differing_part(&message, [9, 0, 0, 0], &Second, &Itself), None);
+    }
+
+    #[test]
+    fn every_difference_is_seen() {
+        let changes: [fn(&mut Answer); 8] = [
+            |answer| answer.number = 4,
+            |answer| answer.place = 1,
+            |answer| answer.nodes.truncate(1),
+            |answer| answer.nodes[1].path[1] = 8,
+            |answer| answer.nodes[1].mandatory = false,
+            |answer| answer.nodes[1].basic = 3,
+            |answer| answer.nodes[1].client = false,
+            |answer| answer.nodes[1].service = 1,
+        ];
+        for change in changes {
+            let report = differing_check(&CASE_D, &Second, &Wrong(change)).expect("a difference");
+            assert!(report.starts_with("file 05000700") && report.contains("second: accepted"), "{report}");
+        }
+        let (message, ids) = generate::maximal::message();
+        assert!(differing_part(&message, ids, &Second, &Wrong(|_| {})).is_some());
+    }
+}

@@ -1,0 +1,38 @@
+//! Seeded networks and messages: right ones that use every kind of row, and damaged ones that
+//! reach every refusal of the checker.
+
+pub mod damage;
+pub mod hits;
+pub mod maximal;
+pub mod messages;
+pub mod networks;
+pub mod random;
+
+pub use hits::Hits;
+pub use random::Random;
+
+/// One network file: most are right or nearly so, the others are damaged on purpose.
+pub fn file(random: &mut Random) -> Vec<u8> {
+    if random.one_in(100) {
+        return damage::odd_bytes(random);
+    }
+    let careless = match random.below(10) {
+        0..=6 => 0,
+        7 | 8 => 30,
+        _ => 100,
+    };
+    let blunder = random.one_in(3).then(|| *random.pick(&networks::Blunder::ALL).expect("a blunder"));
+    let mut tables = networks::tables(random, careless, blunder);
+    match random.below(20) {
+        0..=4 => damage::rows(random, &mut tables),
+        5 => damage::links(random, &mut tables),
+        6 => damage::sizes(random, &mut tables),
+        7 => damage::wild(random, &mut tables),
+        _ => {}
+    }
+    let mut file = tables.write();
+    if random.one_in(15) {
+        damage::bytes(random, &mut file);
+    }
+    file
+}

@@ -1,0 +1,12 @@
+//! Networks as text: `assemble` makes a network file, `disassemble` a text that assembles to
+//! exactly that file. docs/NETWORKS.md teaches the text.
+
+pub mod assemble;
+pub mod disassemble;
+pub mod parse;
+pub mod source;
+pub mod syntax;
+
+pub use assemble::{assemble, Assembled};
+pub use disassemble::disassemble;
+pub use source::Error;

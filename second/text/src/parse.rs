@@ -1,0 +1,667 @@
+//! The grammar of the text.
+
+use std::collections::HashMap;
+
+use second::value::LONGEST;
+use second::Basic;
+
+use crate::source::{Error, Scanner, Spot};
+use crate::syntax::*;
+
+const KEYWORDS: [&str; 44] = [
+    "id",
+    "location",
+    "path",
+    "type",
+    "node",
+    "children",
+    "expression",
+    "data",
+    "service",
+    "input",
+    "output",
+    "to",
+    "starter",
+    "client",
+    "nil",
+    "receive",
+    "into",
+    "answer",
+    "do",
+    "reply",
+    "send",
+    "with",
+    "ask",
+    "if",
+    "then",
+    "else",
+    "while",
+    "parallel",
+    "set",
+    "choice",
+    "on",
+    "present",
+    "not",
+    "and",
+    "at",
+    "true",
+    "false",
+    "bool",
+    "int",
+    "double",
+    "long",
+    "string",
+    "raw",
+    "void",
+];
+
+/// Reads a whole text.
+pub fn parse(text: &str) -> Result<Vec<Item>, Error> {
+    let mut parser =
+        Parser { scanner: Scanner::new(text), ids: HashMap::new(), locations: HashMap::new(), types: HashMap::new() };
+    let mut items = Vec::new();
+    while !parser.scanner.ended() {
+        items.extend(parser.item()?);
+    }
+    Ok(items)
+}
+
+struct Parser<'a> {
+    scanner: Scanner<'a>,
+    ids: HashMap<String, u16>,
+    locations: HashMap<String, u16>,
+    /// Types that a child may copy.
+    types: HashMap<String, Tree>,
+}
+
+impl Parser<'_> {
+    fn error<T>(&self, spot: Spot, message: impl Into<String>) -> Result<T, Error> {
+        self.scanner.error(spot, message)
+    }
+
+    fn item(&mut self) -> Result<Option<Item>, Error> {
+        let spot = self.scanner.spot();
+        let word = self.scanner.peek_word();
+        self.scanner.takes_word(word);
+        Ok(Some(match word {
+            "id" | "location" => {
+                let name = self.name()?;
+                self.scanner.expect("=")?;
+                let number = self.not_zero()?;
+                let names = if word == "id" { &mut self.ids } else { &mut self.locations };
+                if names.insert(name, number).is_some() {
+                    return self.error(spot, "this name is declared already");
+                }
+                return Ok(None);
+            }
+            "path" => Item::Path { spot, ids: self.path_ids()? },
+            "type" => {
+                let name = self.name()?;
+                self.scanner.expect("=")?;
+                let tree = self.tree()?;
+                self.types.insert(name.clone(), tree.clone());
+                Item::Type { spot, name, tree }
+            }
+            "node" => self.node(spot)?,
+            "expression" => {
+                self.scanner.expect("$")?;
+                let name = self.name()?;
+                self.scanner.expect("=")?;
+                Item::Expression { spot, name, expression: self.expression()? }
+            }
+            "data" => Item::Data { spot, bytes: self.hex()? },
+            "service" => {
+                let location = self.location()?;
+                self.scanner.expect("{")?;
+                let mut parts = Vec::new();
+                while !self.scanner.takes("}") {
+                    parts.push(self.part()?);
+                }
+                Item::Service { spot, location, parts }
+            }
+            _ => return self.error(spot, "id, location, path, type, node, expression, data or service expected"),
+        }))
+    }
+
+    fn name(&mut self) -> Result<String, Error> {
+        let spot = self.scanner.spot();
+        let word = self.scanner.peek_word();
+        if word.is_empty() {
+            return self.error(spot, "a name expected");
+        }
+        if KEYWORDS.contains(&word) {
+            return self.error(spot, format!("`{word}` is a word of the language and no name"));
+        }
+        self.scanner.takes_word(word);
+        Ok(word.to_string())
+    }
+
+    fn not_zero(&mut self) -> Result<u16, Error> {
+        let spot = self.scanner.spot();
+        match self.scanner.expect_number()? {
+            0 => self.error(spot, "ids and locations are not 0"),
+            number => Ok(number),
+        }
+    }
+
+    /// A number or a declared name.
+    fn id(&mut self) -> Result<u16, Error> {
+        self.number_or_name("id", |parser| &parser.ids)
+    }
+
+    fn location(&mut self) -> Result<u16, Error> {
+        self.number_or_name("location", |parser| &parser.locations)
+    }
+
+    fn number_or_name(&mut self, what: &str, names: fn(&Self) -> &HashMap<String, u16>) -> Result<u16, Error> {
+        let spot = self.scanner.spot();
+        if self.scanner.rest().starts_with(|sign: char| sign.is_ascii_digit()) {
+            return self.not_zero();
+        }
+        if self.scanner.peek_word().is_empty() {
+            return self.error(spot, format!("an {what} expected: a number or a declared name").replace("an l", "a l"));
+        }
+        let name = self.name()?;
+        match names(self).get(&name) {
+            Some(&number) => Ok(number),
+            None => self.error(spot, format!("no {what} `{name}` is declared")),
+        }
+    }
+
+    fn path_ids(&mut self) -> Result<[u16; 4], Error> {
+        let mut ids = [0; 4];
+        ids[0] = self.id()?;
+        let mut steps = 1;
+        while self.scanner.comes(".") {
+            let spot = self.scanner.spot();
+            if steps == 4 {
+                return self.error(spot, "a path has at most four steps");
+            }
+            self.scanner.expect(".")?;
+            ids[steps] = self.id()?;
+            steps += 1;
+        }
+        Ok(ids)
+    }
+
+    /// `X#n`: row n of section X.
+    fn row(&mut self, section: &str) -> Result<Option<u16>, Error> {
+        if self.scanner.takes(&format!("{section}#")) {
+            return self.scanner.expect_number().map(Some);
+        }
+        Ok(None)
+    }
+
+    fn path(&mut self) -> Result<PathUse, Error> {
+        if let Some(row) = self.row("P")? {
+            return Ok(PathUse::Row(row));
+        }
+        let spot = self.scanner.spot();
+        Ok(PathUse::Ids { spot, ids: self.path_ids()? })
+    }
+
+    fn basic(&mut self) -> Option<Basic> {
+        let word = self.scanner.peek_word();
+        let basic = Basic::ALL.into_iter().find(|basic| basic.name() == word)?;
+        self.scanner.takes_word(word);
+        Some(basic)
+    }
+
+    fn tree(&mut self) -> Result<Tree, Error> {
+        let spot = self.scanner.spot();
+        let Some(basic) = self.basic() else {
+            let name = match self.scanner.peek_word() {
+                "" => return self.error(spot, "a basic type or the name of a type expected"),
+                _ => self.name()?,
+            };
+            return match self.types.get(&name) {
+                Some(tree) => Ok(Tree { spot, ..tree.clone() }),
+                None => self.error(spot, format!("no type `{name}` is declared")),
+            };
+        };
+        let mut children = Vec::new();
+        if self.scanner.takes("{") {
+            while !self.scanner.takes("}") {
+                let id_spot = self.scanner.spot();
+                let id = self.id()?;
+                if children.iter().any(|child: &Child| child.id == id) {
+                    return self.error(id_spot, "this child id stands here already");
+                }
+                let optional = self.scanner.takes("?");
+                self.scanner.expect(":")?;
+                let tree = Tree { spot: id_spot, ..self.tree()? };
+                children.push(Child { id, optional, tree });
+                if !self.scanner.takes(",") {
+                    self.scanner.expect("}")?;
+                    break;
+                }
+            }
+            if children.is_empty() {
+                return self.error(spot, "a list of children is not empty");
+            }
+        }
+        children.sort_by_key(|child| child.id);
+        Ok(Tree { spot, basic, children })
+    }
+
+    fn node(&mut self, spot: Spot) -> Result<Item, Error> {
+        let name = self.name()?;
+        self.scanner.expect("=")?;
+        // The only row whose id may be 0 by number: a root, or a row that nothing names.
+        let id = match self.scanner.number()? {
+            Some(number) => number,
+            None => self.id()?,
+        };
+        let optional = self.scanner.takes("?");
+        self.scanner.expect(":")?;
+        let basic_spot = self.scanner.spot();
+        let Some(basic) = self.basic() else { return self.error(basic_spot, "a basic type expected") };
+        let (mut first_child, mut child_count) = (0, 0);
+        if self.scanner.takes_word("children") {
+            let row_spot = self.scanner.spot();
+            let Some(row) = self.row("T")? else { return self.error(row_spot, "`T#` and a row number expected") };
+            (first_child, child_count) = (row, self.scanner.expect_number()?);
+        }
+        Ok(Item::Node { spot, name, id, optional, basic, first_child, child_count })
+    }
+
+    /// Hexadecimal bytes in braces.
+    fn hex(&mut self) -> Result<Vec<u8>, Error> {
+        self.scanner.expect("{")?;
+        let mut digits = Vec::new();
+        loop {
+            let spot = self.scanner.spot();
+            if self.scanner.takes("}") {
+                break;
+            }
+            match self.scanner.take_sign().and_then(|sign| sign.to_digit(16)) {
+                Some(digit) => digits.push(digit as u8),
+                None => return self.error(spot, "hexadecimal digits and `}` expected"),
+            }
+        }
+        if digits.len() % 2 == 1 {
+            let spot = self.scanner.spot();
+            return self.error(spot, "each byte has two hexadecimal digits");
+        }
+        Ok(digits.chunks(2).map(|pair| pair[0] << 4 | pair[1]).collect())
+    }
+
+    fn label(&mut self) -> Result<Option<u16>, Error> {
+        if self.scanner.takes("@") {
+            return self.scanner.expect_number().map(Some);
+        }
+        Ok(None)
+    }
+
+    fn part(&mut self) -> Result<Part, Error> {
+        let spot = self.scanner.spot();
+        let label = self.label()?;
+        let word_spot = self.scanner.spot();
+        let word = self.scanner.peek_word();
+        self.scanner.takes_word(word);
+        match (word, label) {
+            ("input" | "output", _) => {
+                let id = self.id()?;
+                let location = if word == "output" {
+                    self.scanner.expect_word("to")?;
+                    Some(self.location()?)
+                } else {
+                    None
+                };
+                self.scanner.expect(":")?;
+                let request = self.type_use()?;
+                let reply = if self.scanner.takes("->") { Some(self.type_use()?) } else { None };
+                Ok(Part::Operation { spot, label, id, location, request, reply })
+            }
+            ("starter", None) => Ok(Part::Starter(self.statement()?)),
+            ("client", None) => Ok(Part::Client(self.statement()?)),
+            _ => self.error(word_spot, "input, output, starter, client or `}` expected"),
+        }
+    }
+
+    fn type_use(&mut self) -> Result<TypeUse, Error> {
+        let spot = self.scanner.spot();
+        if let Some(row) = self.row("T")? {
+            return Ok(TypeUse::Row(row));
+        }
+        let word = self.scanner.peek_word();
+        if Basic::ALL.iter().any(|basic| basic.name() == word) || word.is_empty() {
+            return Ok(TypeUse::Tree(self.tree()?));
+        }
+        Ok(TypeUse::Name { spot, name: self.name()? })
+    }
+
+    fn statement(&mut self) -> Result<Statement, Error> {
+        let spot = self.scanner.spot();
+        let label = self.label()?;
+        if self.scanner.comes("{") {
+            return self.block(spot, label);
+        }
+        let word_spot = self.scanner.spot();
+        let word = self.scanner.peek_word();
+        self.scanner.takes_word(word);
+        let kind =
+            match word {
+                "nil" => StatementKind::Nil,
+                "receive" => {
+                    let operation = self.input_use()?;
+                    self.scanner.expect_word("into")?;
+                    StatementKind::Receive { operation, into: self.path()? }
+                }
+                "answer" => {
+                    let operation = self.input_use()?;
+                    self.scanner.expect_word("into")?;
+                    let into = self.path()?;
+                    self.scanner.expect_word("do")?;
+                    let body = Box::new(self.statement()?);
+                    self.scanner.expect_word("reply")?;
+                    StatementKind::Answer { operation, into, body, reply: self.path()? }
+                }
+                "send" => {
+                    let operation = self.output_use()?;
+                    self.scanner.expect_word("with")?;
+                    StatementKind::Send { operation, expression: self.expression()? }
+                }
+                "ask" => {
+                    let operation = self.output_use()?;
+                    self.scanner.expect_word("with")?;
+                    let expression = self.expression()?;
+                    self.scanner.expect_word("into")?;
+                    StatementKind::Ask { operation, expression, into: self.path()? }
+                }
+                "if" => {
+                    let condition = self.expression()?;
+                    self.scanner.expect_word("then")?;
+                    let then = Box::new(self.statement()?);
+                    self.scanner.expect_word("else")?;
+                    StatementKind::If { condition, then, otherwise: Box::new(self.statement()?) }
+                }
+                "while" => {
+                    let condition = self.expression()?;
+                    self.scanner.expect_word("do")?;
+                    StatementKind::While { condition, body: Box::new(self.statement()?) }
+                }
+                "parallel" => return self.parallel(spot, label),
+                "set" => {
+                    let path = self.path()?;
+                    self.scanner.expect("=")?;
+                    StatementKind::Assign { path, expression: self.expression()? }
+                }
+                "choice" => {
+                    self.scanner.expect("{")?;
+                    let mut branches = Vec::new();
+                    while !self.scanner.takes("}") {
+                        branches.push(self.branch()?);
+                    }
+                    if !(1..=8).contains(&branches.len()) {
+                        return self.error(word_spot, "a choice has 1 to 8 branches");
+                    }
+                    StatementKind::Choice(branches)
+                }
+                _ => return self.error(
+                    word_spot,
+                    "a statement expected: nil, receive, answer, send, ask, if, while, parallel, set, choice or `{`",
+                ),
+            };
+        Ok(Statement { spot, label, kind })
+    }
+
+    fn branch(&mut self) -> Result<Branch, Error> {
+        let spot = self.scanner.spot();
+        let label = self.label()?;
+        self.scanner.expect_word("on")?;
+        let input_spot = self.scanner.spot();
+        let input = self.statement()?;
+        if !matches!(input.kind, StatementKind::Receive { .. } | StatementKind::Answer { .. }) {
+            return self.error(input_spot, "receive or answer expected");
+        }
+        self.scanner.expect_word("then")?;
+        Ok(Branch { spot, label, input, then: self.statement()? })
+    }
+
+    /// `{ a; b; c }` is a sequence of a and the sequence of b and c.
+    fn block(&mut self, spot: Spot, label: Option<u16>) -> Result<Statement, Error> {
+        self.scanner.expect("{")?;
+        let mut statements = Vec::new();
+        while !self.scanner.takes("}") {
+            statements.push(self.statement()?);
+            if !self.scanner.takes(";") {
+                self.scanner.expect("}")?;
+                break;
+            }
+        }
+        self.join(spot, label, statements, StatementKind::Sequence)
+    }
+
+    /// `parallel { a } { b } { c }` is a parallel of a and the parallel of b and c.
+    fn parallel(&mut self, spot: Spot, label: Option<u16>) -> Result<Statement, Error> {
+        let mut sides = Vec::new();
+        while self.scanner.comes("{") {
+            let side = self.scanner.spot();
+            sides.push(self.block(side, None)?);
+        }
+        if sides.len() < 2 {
+            let spot = self.scanner.spot();
+            return self.error(spot, "a parallel has two or more sides in braces");
+        }
+        self.join(spot, label, sides, StatementKind::Parallel)
+    }
+
+    fn join(
+        &self,
+        spot: Spot,
+        label: Option<u16>,
+        mut statements: Vec<Statement>,
+        pair: fn(Box<Statement>, Box<Statement>) -> StatementKind,
+    ) -> Result<Statement, Error> {
+        if label.is_some() && statements.len() != 2 {
+            return self.error(spot, "a row label stands before exactly two statements");
+        }
+        let Some(mut joined) = statements.pop() else {
+            return Ok(Statement { spot, label: None, kind: StatementKind::Nil });
+        };
+        while let Some(before) = statements.pop() {
+            let outermost = statements.is_empty();
+            joined = Statement {
+                spot: if outermost { spot } else { before.spot },
+                label: if outermost { label } else { None },
+                kind: pair(Box::new(before), Box::new(joined)),
+            };
+        }
+        Ok(joined)
+    }
+
+    fn input_use(&mut self) -> Result<OperationUse, Error> {
+        if let Some(row) = self.row("O")? {
+            return Ok(OperationUse::Row(row));
+        }
+        let spot = self.scanner.spot();
+        Ok(OperationUse::Input { spot, id: self.id()? })
+    }
+
+    fn output_use(&mut self) -> Result<OperationUse, Error> {
+        if let Some(row) = self.row("O")? {
+            return Ok(OperationUse::Row(row));
+        }
+        let spot = self.scanner.spot();
+        let id = self.id()?;
+        self.scanner.expect_word("to")?;
+        Ok(OperationUse::Output { spot, id, location: self.location()? })
+    }
+
+    /// `and` binds least, then `not`, `<` and `==`, `+` and `-`, negation.
+    fn expression(&mut self) -> Result<Expression, Error> {
+        let mut left = self.negation()?;
+        while self.scanner.takes_word("and") {
+            let right = self.negation()?;
+            left = binary(9, left, right);
+        }
+        Ok(left)
+    }
+
+    fn negation(&mut self) -> Result<Expression, Error> {
+        let spot = self.scanner.spot();
+        if self.scanner.takes_word("not") {
+            let operand = Box::new(self.negation()?);
+            return Ok(Expression { spot, kind: ExpressionKind::Unary(3, operand) });
+        }
+        self.comparison()
+    }
+
+    fn comparison(&mut self) -> Result<Expression, Error> {
+        let left = self.sum()?;
+        let kind = if self.scanner.takes("<") {
+            7
+        } else if self.scanner.takes("==") {
+            8
+        } else {
+            return Ok(left);
+        };
+        let right = self.sum()?;
+        Ok(binary(kind, left, right))
+    }
+
+    fn sum(&mut self) -> Result<Expression, Error> {
+        let mut left = self.signed()?;
+        loop {
+            let kind = if self.scanner.takes("+") {
+                5
+            } else if self.scanner.takes("-") {
+                6
+            } else {
+                return Ok(left);
+            };
+            let right = self.signed()?;
+            left = binary(kind, left, right);
+        }
+    }
+
+    fn signed(&mut self) -> Result<Expression, Error> {
+        let spot = self.scanner.spot();
+        if self.scanner.takes("-") {
+            let operand = Box::new(self.signed()?);
+            return Ok(Expression { spot, kind: ExpressionKind::Unary(4, operand) });
+        }
+        self.primary()
+    }
+
+    fn primary(&mut self) -> Result<Expression, Error> {
+        let spot = self.scanner.spot();
+        if self.scanner.takes("(") {
+            let inner = self.expression()?;
+            self.scanner.expect(")")?;
+            return Ok(inner);
+        }
+        if self.scanner.takes("$") {
+            return Ok(Expression { spot, kind: ExpressionKind::Named(self.name()?) });
+        }
+        if self.scanner.takes_word("present") {
+            return Ok(Expression { spot, kind: ExpressionKind::Present(self.path()?) });
+        }
+        if let Some((basic, bytes)) = self.constant()? {
+            let start = if self.scanner.takes_word("at") { Some(self.scanner.expect_number()?) } else { None };
+            return Ok(Expression { spot, kind: ExpressionKind::Constant { basic, bytes, start } });
+        }
+        let next = self.scanner.rest().chars().next();
+        if !next.is_some_and(|sign| sign.is_ascii_alphanumeric() || sign == '_') {
+            return self.error(spot, "an expression expected");
+        }
+        Ok(Expression { spot, kind: ExpressionKind::Path(self.path()?) })
+    }
+
+    fn constant(&mut self) -> Result<Option<(Basic, Vec<u8>)>, Error> {
+        let spot = self.scanner.spot();
+        if self.scanner.comes("\"") {
+            return Ok(Some((Basic::String, self.string()?)));
+        }
+        if self.scanner.takes_word("true") {
+            return Ok(Some((Basic::Bool, vec![1])));
+        }
+        if self.scanner.takes_word("false") {
+            return Ok(Some((Basic::Bool, vec![0])));
+        }
+        let Some(basic) = self.basic() else { return Ok(None) };
+        let value_spot = self.scanner.spot();
+        let bytes = match basic {
+            Basic::Int => self.literal::<i32>("an int: -2147483648 to 2147483647")?.to_le_bytes().to_vec(),
+            Basic::Long => self.literal::<i64>("a long: a whole number of 64 bits")?.to_le_bytes().to_vec(),
+            Basic::Double => {
+                let number = self.literal::<f64>("a double, such as -0.5, 1e300, inf or nan")?;
+                let bits = if number.is_nan() { second::value::NAN_BITS } else { number.to_bits() };
+                bits.to_le_bytes().to_vec()
+            }
+            Basic::Raw => self.hex()?,
+            Basic::Void => Vec::new(),
+            Basic::Bool => return self.error(spot, "a bool constant is `true` or `false`"),
+            Basic::String => return self.error(spot, "a string constant stands in quotes"),
+        };
+        if bytes.len() > LONGEST {
+            return self.error(value_spot, format!("a raw value has at most {LONGEST} bytes"));
+        }
+        Ok(Some((basic, bytes)))
+    }
+
+    fn literal<N: std::str::FromStr>(&mut self, what: &str) -> Result<N, Error> {
+        let spot = self.scanner.spot();
+        let mut sign_before = '-';
+        let mut length = 0;
+        for sign in self.scanner.rest().chars() {
+            let exponent_sign = matches!(sign, '+' | '-') && (length == 0 || matches!(sign_before, 'e' | 'E'));
+            if !(sign.is_ascii_alphanumeric() || sign == '.' || exponent_sign) {
+                break;
+            }
+            sign_before = sign;
+            length += 1;
+        }
+        let mut left = length;
+        let text: String = std::iter::from_fn(|| {
+            left = usize::checked_sub(left, 1)?;
+            self.scanner.take_sign()
+        })
+        .collect();
+        match text.parse() {
+            Ok(number) => Ok(number),
+            Err(_) => self.error(spot, format!("{what} expected")),
+        }
+    }
+
+    fn string(&mut self) -> Result<Vec<u8>, Error> {
+        let spot = self.scanner.spot();
+        self.scanner.expect("\"")?;
+        let mut bytes = Vec::new();
+        loop {
+            match self.scanner.take_sign() {
+                Some('"') => break,
+                Some('\\') => bytes.push(self.escape()?),
+                Some(sign) if sign != '\n' => bytes.extend(sign.encode_utf8(&mut [0; 4]).bytes()),
+                _ => return self.error(spot, "the string does not end on its line"),
+            }
+        }
+        if bytes.len() > LONGEST {
+            return self.error(spot, format!("a string has at most {LONGEST} bytes, this one has {}", bytes.len()));
+        }
+        Ok(bytes)
+    }
+
+    fn escape(&mut self) -> Result<u8, Error> {
+        match self.scanner.take_sign() {
+            Some(sign @ ('"' | '\\')) => Ok(sign as u8),
+            Some('x') => {
+                let mut digit = || self.scanner.take_sign().and_then(|sign| sign.to_digit(16));
+                if let (Some(high), Some(low)) = (digit(), digit()) {
+                    return Ok((high << 4 | low) as u8);
+                }
+                let spot = self.scanner.spot();
+                self.error(spot, "`\\x` and two hexadecimal digits expected")
+            }
+            _ => {
+                let spot = self.scanner.spot();
+                self.error(spot, "`\\\"`, `\\\\` or `\\x` expected")
+            }
+        }
+    }
+}
+
+fn binary(kind: u8, left: Expression, right: Expression) -> Expression {
+    Expression { spot: left.spot, kind: ExpressionKind::Binary(kind, Box::new(left), Box::new(right)) }
+}
