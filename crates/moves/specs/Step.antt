@@ -1,6 +1,6 @@
 -- The stepper on bytes: a file, the state's bytes, the out buffer, a move and the bytes from outside give an outcome, the state's
--- bytes and the out buffer. 01: "moves [try] 1 to 5 and 14 to 19"; "Out bytes past that count stay"; "leaves every lent buffer as it
--- was" on a refusal. Fresh: "fresh [tries] 1 to 13", for a state buffer alone.
+-- bytes and the out buffer. 01, Refusals: "The checker tries 2 to 13, fresh 1 to 13, moves 1 to 5 and 14 to 19"; Moves: "A move's result
+-- is a number and the bytes written out. Out bytes past that count stay." A refusal leaves both buffers as they were.
 use mathlib.Core.Bool.{Bool, true, false, _&&_}
 use mathlib.Core.List.{List, [], _∷_, _++_}
 use Prim.Native.Nat.{ℕ}

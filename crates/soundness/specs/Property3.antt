@@ -1,13 +1,14 @@
--- Property 3. 01: "For any accepted file, from its fresh state, after any list of moves (refused ones included): every live session is well
--- typed, no next move gives 18, no send or reply gives 19, and a ready assign, if or while gives 0 (or 1 for its out buffer)."
--- Moves, in 01: "*From fresh* is a state after a list as in property 3; the list may be empty, and each move in it has any numbers, outside
--- bytes and out buffer. Property 3 is a single claim about the list".
+-- Property 3, type soundness over every list of moves. 01, Moves: "*From fresh* is a state after a list as in property 3; the list may be
+-- empty, and each move in it has any numbers, outside bytes and out buffer. Property 3 is a single claim about the list, not one per move:
+-- after it live sessions are well typed, no next move, on the same file and the state so left, gives 18, no send or reply gives 19, one
+-- to an outsider included, and a ready assign, if or while gives 0, or 1 for its out buffer."
 use mathlib.Core.Path.{_≡_}
 use mathlib.Core.Bool.{Bool, true, false, _&&_, _||_}
 use mathlib.Core.List.{List, [], _∷_}
 use Prim.Native.Nat.{ℕ, _<_}
 use lib.Dec.{T, leb}
 use lib.ListN.{length}
+use Rattle.forest.specs.Forest.{Rising}
 use Rattle.scalar.specs.Value.{pick}
 use Rattle.syntax.specs.Syntax.{Types, some, Network, Operation, Behaviour, nil, oneWay, requestResponse, notification, solicitResponse, ifThenElse}
 use Rattle.syntax.specs.Syntax.{whileDo, sequence, parallel, assign, choice, branch, lastBranch, waiting, answering}
@@ -40,10 +41,11 @@ QueueFits N [] = Unit {0}
 QueueFits N (m ∷ l) = FitsOperation N m × QueueFits N l
 
 -- 01's *well typed*: "for some Γ its tree's own type is ≤ Γ, its rest is derived from Γ, and each queued message fits its operation's
--- request type", for a session of the service q that runs B. Γ is within the limits, as every Γ is. (Of a live session 1 to 3 that has
+-- request type", for a session of the service q that runs B. Γ has rising ids and is within the limits, as every Γ is. (Of a live session 1 to 3 that has
 -- no branch of its starter taken, which no move from fresh makes, this asks that the starter keeps the rule of a choice.)
 pub record WellTyped (N : Network) (q : ℕ) (B : Behaviour) (S : Session) : Type 0 where
   pub env : Types
+  pub rising : Rising env
   pub limit : T (within env)
   pub fit : Subtypes (ownTypes (S .tree)) env
   pub last : Types
@@ -141,7 +143,7 @@ sendsOrReplies (close q n) = false
 pub record Holds (file s : List ℕ) : Type 0 where
   pub state : State
   pub stands : decodeState (networkOf file) (behaviourCount file) s ≡ some state
-  -- "every live session is well typed"
+  -- "after it live sessions are well typed"
   pub wellTyped : (q n : ℕ) (S : Session) → state q n ≡ live S → LiveWellTyped (networkOf file) q n S
   -- "no next move gives 18"
   pub never18 : (t : Turn) → Given t → numberOfNext file s t ≡ 18 → ⊥

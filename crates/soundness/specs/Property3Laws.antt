@@ -82,6 +82,7 @@ module _ (N : Network) (rows : ℕ) (acc : Accepted N rows) where
         runs = h .runs;
         wellTyped = record {
           env = h .well .env;
+          rising = h .well .rising;
           limit = within-before q R (h .well .env) (h .last) ws (h .well .typed) (h .limit);
           fit = h .well .fit;
           last = h .last;
