@@ -15,7 +15,8 @@ use Rattle.network.specs.Layout.{behaviourCount, behaviourAt}
 use Rattle.network.specs.Rows.{fieldA, fieldB, fieldC, fieldD, kindAt, isBranch, isChoice, isInput}
 use Rattle.network.specs.Form.{WellFormed}
 use Rattle.network.specs.Decode.{pathOf, expressionOf, operationOf, branchesFrom, behaviourFrom, behaviourTo, behaviourOf, rowOperation}
-use Rattle.network.specs.Shapes.{PathShape, ExpressionShape, OperationShape, BehaviourShape, standsIn, Outside, Apart, EachRowOnce, Standing}
+use Rattle.syntax.specs.Rows.{hasRow}
+use Rattle.network.specs.Shapes.{PathShape, ExpressionShape, OperationShape, BehaviourShape, Outside, Apart, EachRowOnce, Standing}
 use Rattle.network.specs.Shapes.{alone, inChoice, isInputBehaviour, isChoiceBehaviour, AsInFile, OperationsBy}
 use Rattle.network.specs.DecodeLaws.{path-shape, expression-shape, operation-shape}
 use Rattle.network.specs.UseLaws.{Uses, one-user, Child, SubKept, InputKept, BranchKept, RowKept, behaviour-kept, branch-kept}

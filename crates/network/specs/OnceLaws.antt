@@ -15,7 +15,8 @@ use Rattle.network.specs.Rows.{fieldA, fieldB, fieldC, fieldD, kindAt}
 use Rattle.network.specs.Uses.{rowUses, serviceUses}
 use Rattle.network.specs.Form.{WellFormed}
 use Rattle.network.specs.Decode.{pathOf, expressionOf, operationOf, branchesFrom, behaviourFrom, behaviourTo, behaviourOf}
-use Rattle.network.specs.Shapes.{standsIn, Outside, Apart, EachRowOnce}
+use Rattle.syntax.specs.Rows.{hasRow}
+use Rattle.network.specs.Shapes.{Outside, Apart, EachRowOnce}
 use Rattle.network.specs.UseLaws.{Uses, one-user, no-user, one-service, Child, SubKept, InputKept, BranchKept, RowKept, behaviour-kept}
 use Rattle.network.specs.UseLaws.{branch-kept}
 use Rattle.network.specs.BehaviourLaws.{Branches, Later}
@@ -35,24 +36,24 @@ or-case false b f g t = g t
 -- The user of row i, inside X.
 record User (s : List ℕ) (X : Behaviour) (i : ℕ) : Type 0 where
   user : ℕ
-  inside : T (standsIn user X)
+  inside : T (hasRow user X)
   uses : Uses s user i
   before : user < i
 
 -- The rows of X go up to its top row a.
 abbrev Up : List ℕ → ℕ → Behaviour → Type 0
-Up s a X = (i : ℕ) → T (standsIn i X) → (a ≤ i) × (i < behaviourCount s) × ((i ≡ a → ⊥) → User s X i)
+Up s a X = (i : ℕ) → T (hasRow i X) → (a ≤ i) × (i < behaviourCount s) × ((i ≡ a → ⊥) → User s X i)
 
 -- The user of row i, the choice r or a row inside M.
 record BranchUser (s : List ℕ) (r : ℕ) (M : Behaviour) (i : ℕ) : Type 0 where
   user : ℕ
-  inside : T (eqb user r || standsIn user M)
+  inside : T (eqb user r || hasRow user M)
   uses : Uses s user i
   before : user < i
 
 -- The rows of the branches M, from row a on, go up to the choice r.
 abbrev UpToChoice : List ℕ → ℕ → ℕ → Behaviour → Type 0
-UpToChoice s r a M = (i : ℕ) → T (standsIn i M) → (a ≤ i) × (i < behaviourCount s) × BranchUser s r M i
+UpToChoice s r a M = (i : ℕ) → T (hasRow i M) → (a ≤ i) × (i < behaviourCount s) × BranchUser s r M i
 
 -- ---- behaviours with different top rows are apart
 
@@ -61,7 +62,7 @@ abbrev UsersBefore : List ℕ → ℕ → ℕ → Type 0
 UsersBefore s a b = (p : ℕ) → p < behaviourCount s → Uses s p a → p < b
 
 apart-tops : (s : List ℕ) → WellFormed s → (a b : ℕ) (A B : Behaviour) → UsersBefore s a b → UsersBefore s b a → (a ≡ b → ⊥) → Up s a A → Up s b B
-    → (n i : ℕ) → i ≤ n → T (standsIn i A) → T (standsIn i B) → ⊥
+    → (n i : ℕ) → i ≤ n → T (hasRow i A) → T (hasRow i B) → ⊥
 apart-tops s w a b A B ka kb ne ua ub zero i le ta tb = go (compare i a) (compare i b)
   where
     ia : a ≤ i
@@ -88,7 +89,7 @@ apart-tops s w a b A B ka kb ne ua ub (suc n) i le ta tb = go (compare i a) (com
     li : i < behaviourCount s
     li = ua i ta .1
 
-    go : Compare i a → Compare i b → ((p : ℕ) → p < i → T (standsIn p A) → T (standsIn p B) → ⊥) → ⊥
+    go : Compare i a → Compare i b → ((p : ℕ) → p < i → T (hasRow p A) → T (hasRow p B) → ⊥) → ⊥
     go (lt c) d ih = let x = ia in omega arith
     go (eq c) (lt d) ih = let x = ib in omega arith
     go (eq c) (eq d) ih = ne (sym c ∙ d)
@@ -114,7 +115,7 @@ apart-tops s w a b A B ka kb ne ua ub (suc n) i le ta tb = go (compare i a) (com
         let g = u .before in
         let l = li in
         let e = one-user s w i (v .user) (u .user) l (omega arith) (omega arith) (v .uses) (u .uses) in
-        ih (v .user) f (v .inside) (subst (λ (z : ℕ). T (standsIn z B)) (sym e) (u .inside))
+        ih (v .user) f (v .inside) (subst (λ (z : ℕ). T (hasRow z B)) (sym e) (u .inside))
 
 -- Two rows that row r uses.
 apart-children : (s : List ℕ) → WellFormed s → (r a b : ℕ) (A B : Behaviour) → r < behaviourCount s → Child s r a → Child s r b → (a ≡ b → ⊥)
@@ -128,7 +129,7 @@ apart-children s w r a b A B l ka kb ne ua ub i ta tb =
 -- A part of the branch j and the branches after it, of the choice r.
 apart-branches : (s : List ℕ) → WellFormed s → (r j x : ℕ) (A M : Behaviour) → r < j → j < behaviourCount s → Child s j x → Up s x A
     → UpToChoice s r (suc j) M
-    → (n i : ℕ) → i ≤ n → T (standsIn i A) → T (standsIn i M) → ⊥
+    → (n i : ℕ) → i ≤ n → T (hasRow i A) → T (hasRow i M) → ⊥
 apart-branches s w r j x A M rj lj kx ua um zero i le ta tm = let z = um i tm .0 in omega arith
 apart-branches s w r j x A M rj lj kx ua um (suc n) i le ta tm = go (compare i x)
     (λ p z. apart-branches s w r j x A M rj lj kx ua um n p (omega arith))
@@ -145,13 +146,13 @@ apart-branches s w r j x A M rj lj kx ua um (suc n) i le ta tm = go (compare i x
     m : BranchUser s r M i
     m = um i tm .2
 
-    go : Compare i x → ((p : ℕ) → p < i → T (standsIn p A) → T (standsIn p M) → ⊥) → ⊥
+    go : Compare i x → ((p : ℕ) → p < i → T (hasRow p A) → T (hasRow p M) → ⊥) → ⊥
     go (lt c) ih = let y = xi in omega arith
     go (eq c) ih =
         let f = m .before in
         let l = li in
         let e = one-user s w x (m .user) j (kx .exists) (omega arith) lj (subst (λ (z : ℕ). Uses s (m .user) z) c (m .uses)) (kx .uses) in
-        or-case (eqb (m .user) r) (standsIn (m .user) M)
+        or-case (eqb (m .user) r) (hasRow (m .user) M)
         (λ t. let z = eqb→eq (m .user) r t in omega arith)
         (λ t. let z = um (m .user) t .0 in omega arith)
         (m .inside)
@@ -163,9 +164,9 @@ apart-branches s w r j x A M rj lj kx ua um (suc n) i le ta tm = go (compare i x
         let e = one-user s w i (v .user) (m .user) l (omega arith) (omega arith) (v .uses) (m .uses) in
         let y = ua (v .user) (v .inside) .0 in
         let k = jx in
-        or-case (eqb (m .user) r) (standsIn (m .user) M)
+        or-case (eqb (m .user) r) (hasRow (m .user) M)
         (λ t. let z = eqb→eq (m .user) r t in omega arith)
-        (λ t. ih (v .user) g (v .inside) (subst (λ (z : ℕ). T (standsIn z M)) (sym e) t))
+        (λ t. ih (v .user) g (v .inside) (subst (λ (z : ℕ). T (hasRow z M)) (sym e) t))
         (m .inside)
 
 -- ---- the rows of a behaviour
@@ -174,8 +175,8 @@ top-up : (s : List ℕ) (r i : ℕ) (X : Behaviour) → r < behaviourCount s →
 top-up s r i X l t = let e = eqb→eq i r t in (omega arith, omega arith, λ f. absurd (f e))
 
 -- A row of the sub-behaviour A of row r, as a row of X.
-sub-up : (s : List ℕ) (r a i : ℕ) (A X : Behaviour) → Child s r a → Up s a A → ((j : ℕ) → T (standsIn j A) → T (standsIn j X)) → T (standsIn r X)
-    → T (standsIn i A)
+sub-up : (s : List ℕ) (r a i : ℕ) (A X : Behaviour) → Child s r a → Up s a A → ((j : ℕ) → T (hasRow j A) → T (hasRow j X)) → T (hasRow r X)
+    → T (hasRow i A)
     → (r ≤ i) × (i < behaviourCount s) × ((i ≡ r → ⊥) → User s X i)
 sub-up s r a i A X k u inc rx t = (let x = u i t .0 in let y = k .later in omega arith, u i t .1, λ f. go (compare i a))
   where
@@ -189,16 +190,16 @@ sub-up s r a i A X k u inc rx t = (let x = u i t .0 in let y = k .later in omega
         record { user = v .user; inside = inc (v .user) (v .inside); uses = v .uses; before = v .before }
 
 two-up : (s : List ℕ) (r x y i : ℕ) (A B X : Behaviour) → r < behaviourCount s → Child s r x → Child s r y → Up s x A → Up s y B
-    → ((j : ℕ) → T (standsIn j A) → T (standsIn j X)) → ((j : ℕ) → T (standsIn j B) → T (standsIn j X)) → T (standsIn r X)
-    → T (eqb i r || (standsIn i A || standsIn i B)) → (r ≤ i) × (i < behaviourCount s) × ((i ≡ r → ⊥) → User s X i)
+    → ((j : ℕ) → T (hasRow j A) → T (hasRow j X)) → ((j : ℕ) → T (hasRow j B) → T (hasRow j X)) → T (hasRow r X)
+    → T (eqb i r || (hasRow i A || hasRow i B)) → (r ≤ i) × (i < behaviourCount s) × ((i ≡ r → ⊥) → User s X i)
 two-up s r x y i A B X l kx ky ua ub ia ib rx t =
-    or-case (eqb i r) (standsIn i A || standsIn i B) (λ z. top-up s r i X l z)
-    (λ z. or-case (standsIn i A) (standsIn i B) (λ v. sub-up s r x i A X kx ua ia rx v) (λ v. sub-up s r y i B X ky ub ib rx v) z) t
+    or-case (eqb i r) (hasRow i A || hasRow i B) (λ z. top-up s r i X l z)
+    (λ z. or-case (hasRow i A) (hasRow i B) (λ v. sub-up s r x i A X kx ua ia rx v) (λ v. sub-up s r y i B X ky ub ib rx v) z) t
 
 -- A row of the branch j, whose parts are A and B, as a row of the branches X.
 branch-up : (s : List ℕ) (r j x y i : ℕ) (A B X : Behaviour) → Child s r j → Child s j x → Child s j y → Up s x A → Up s y B
-    → ((l : ℕ) → T (standsIn l A) → T (standsIn l X)) → ((l : ℕ) → T (standsIn l B) → T (standsIn l X)) → T (standsIn j X)
-    → T (eqb i j || (standsIn i A || standsIn i B)) → (j ≤ i) × (i < behaviourCount s) × BranchUser s r X i
+    → ((l : ℕ) → T (hasRow l A) → T (hasRow l X)) → ((l : ℕ) → T (hasRow l B) → T (hasRow l X)) → T (hasRow j X)
+    → T (eqb i j || (hasRow i A || hasRow i B)) → (j ≤ i) × (i < behaviourCount s) × BranchUser s r X i
 branch-up s r j x y i A B X kj kx ky ua ub ia ib jx t = go (compare i j)
   where
     h : (j ≤ i) × (i < behaviourCount s) × ((i ≡ j → ⊥) → User s X i)
@@ -212,7 +213,7 @@ branch-up s r j x y i A B X kj kx ky ua ub ia ib jx t = go (compare i j)
           h .1,
           record {
             user = r;
-            inside = or-left (eqb r r) (standsIn r X) (eqb-refl r);
+            inside = or-left (eqb r r) (hasRow r X) (eqb-refl r);
             uses = subst (λ (z : ℕ). Uses s r z) (sym c)
                 (kj .uses);
             before = omega arith;
@@ -224,7 +225,7 @@ branch-up s r j x y i A B X kj kx ky ua ub ia ib jx t = go (compare i j)
           h .1,
           record {
             user = v .user;
-            inside = or-right (eqb (v .user) r) (standsIn (v .user) X)
+            inside = or-right (eqb (v .user) r) (hasRow (v .user) X)
                 (v .inside);
             uses = v .uses;
             before = v .before;
@@ -233,7 +234,7 @@ branch-up s r j x y i A B X kj kx ky ua ub ia ib jx t = go (compare i j)
 
 branches-up : (s : List ℕ) → WellFormed s → (r : ℕ) (f : ℕ → Behaviour) → Later s r (λ j. Up s j (f j)) → (n a : ℕ) → 1 ≤ n → Branches s r a n
     → UpToChoice s r a (branchesFrom s f a n)
-unfolding branchesFrom standsIn
+unfolding branchesFrom hasRow
 branches-up s w r f u zero a o h i t = absurd (omega arith)
 branches-up s w r f u (suc zero) a o h i t =
     let k = h a (omega arith) (omega arith) in
@@ -243,14 +244,14 @@ branches-up s w r f u (suc zero) a o h i t =
     let y : ℕ = fieldB s (behaviourAt s a) in
     branch-up s r a x y i (f x) (f y) (lastBranch a (f x) (f y)) (k .child) (b .0 .child) (b .1 .child)
     (u x (let z = b .0 .child .later in omega arith) (b .0 .child .exists)) (u y (let z = b .1 .child .later in omega arith) (b .1 .child .exists))
-    (λ l z. or-right (eqb l a) (standsIn l (f x) || standsIn l (f y)) (or-left (standsIn l (f x)) (standsIn l (f y)) z))
-    (λ l z. or-right (eqb l a) (standsIn l (f x) || standsIn l (f y)) (or-right (standsIn l (f x)) (standsIn l (f y)) z))
-    (or-left (eqb a a) (standsIn a (f x) || standsIn a (f y)) (eqb-refl a)) t
+    (λ l z. or-right (eqb l a) (hasRow l (f x) || hasRow l (f y)) (or-left (hasRow l (f x)) (hasRow l (f y)) z))
+    (λ l z. or-right (eqb l a) (hasRow l (f x) || hasRow l (f y)) (or-right (hasRow l (f x)) (hasRow l (f y)) z))
+    (or-left (eqb a a) (hasRow a (f x) || hasRow a (f y)) (eqb-refl a)) t
 branches-up s w r f u (suc (suc n)) a o h i t =
-    or-case (eqb i a) ((standsIn i (f x) || standsIn i (f y)) || standsIn i M)
-    (λ z. this (or-left (eqb i a) (standsIn i (f x) || standsIn i (f y)) z))
-    (λ z. or-case (standsIn i (f x) || standsIn i (f y)) (standsIn i M)
-    (λ v. this (or-right (eqb i a) (standsIn i (f x) || standsIn i (f y)) v))
+    or-case (eqb i a) ((hasRow i (f x) || hasRow i (f y)) || hasRow i M)
+    (λ z. this (or-left (eqb i a) (hasRow i (f x) || hasRow i (f y)) z))
+    (λ z. or-case (hasRow i (f x) || hasRow i (f y)) (hasRow i M)
+    (λ v. this (or-right (eqb i a) (hasRow i (f x) || hasRow i (f y)) v))
     (λ v. later (branches-up s w r f u (suc n) (suc a) (omega arith) (λ j p q. h j (omega arith) (omega arith)) i v)) z) t
   where
     x : ℕ
@@ -268,17 +269,17 @@ branches-up s w r f u (suc (suc n)) a o h i t =
     b : RowKept s a (behaviourAt s a) BehaviourKind.Branch
     b = branch-kept s w r a k
 
-    this : T (eqb i a || (standsIn i (f x) || standsIn i (f y))) → (a ≤ i) × (i < behaviourCount s) × BranchUser s r (branch a (f x) (f y) M) i
+    this : T (eqb i a || (hasRow i (f x) || hasRow i (f y))) → (a ≤ i) × (i < behaviourCount s) × BranchUser s r (branch a (f x) (f y) M) i
     this v =
         let l = k .child .later in
         branch-up s r a x y i (f x) (f y) (branch a (f x) (f y) M) (k .child) (b .0 .child) (b .1 .child)
         (u x (let z = b .0 .child .later in omega arith) (b .0 .child .exists))
         (u y (let z = b .1 .child .later in omega arith) (b .1 .child .exists))
-        (λ l z. or-right (eqb l a) ((standsIn l (f x) || standsIn l (f y)) || standsIn l M)
-        (or-left (standsIn l (f x) || standsIn l (f y)) (standsIn l M) (or-left (standsIn l (f x)) (standsIn l (f y)) z)))
-        (λ l z. or-right (eqb l a) ((standsIn l (f x) || standsIn l (f y)) || standsIn l M)
-        (or-left (standsIn l (f x) || standsIn l (f y)) (standsIn l M) (or-right (standsIn l (f x)) (standsIn l (f y)) z)))
-        (or-left (eqb a a) ((standsIn a (f x) || standsIn a (f y)) || standsIn a M) (eqb-refl a)) v
+        (λ l z. or-right (eqb l a) ((hasRow l (f x) || hasRow l (f y)) || hasRow l M)
+        (or-left (hasRow l (f x) || hasRow l (f y)) (hasRow l M) (or-left (hasRow l (f x)) (hasRow l (f y)) z)))
+        (λ l z. or-right (eqb l a) ((hasRow l (f x) || hasRow l (f y)) || hasRow l M)
+        (or-left (hasRow l (f x) || hasRow l (f y)) (hasRow l M) (or-right (hasRow l (f x)) (hasRow l (f y)) z)))
+        (or-left (eqb a a) ((hasRow a (f x) || hasRow a (f y)) || hasRow a M) (eqb-refl a)) v
 
     later : (suc a ≤ i) × (i < behaviourCount s) × BranchUser s r M i → (a ≤ i) × (i < behaviourCount s) × BranchUser s r (branch a (f x) (f y) M) i
     later v =
@@ -289,10 +290,10 @@ branches-up s w r f u (suc (suc n)) a o h i t =
           record {
             user = p;
             inside =
-                or-case (eqb p r) (standsIn p M) (λ q. or-left (eqb p r) (standsIn p (branch a (f x) (f y) M)) q)
-                (λ q. or-right (eqb p r) (standsIn p (branch a (f x) (f y) M))
-                (or-right (eqb p a) ((standsIn p (f x) || standsIn p (f y)) || standsIn p M)
-                (or-right (standsIn p (f x) || standsIn p (f y)) (standsIn p M) q))) (v .2 .inside);
+                or-case (eqb p r) (hasRow p M) (λ q. or-left (eqb p r) (hasRow p (branch a (f x) (f y) M)) q)
+                (λ q. or-right (eqb p r) (hasRow p (branch a (f x) (f y) M))
+                (or-right (eqb p a) ((hasRow p (f x) || hasRow p (f y)) || hasRow p M)
+                (or-right (hasRow p (f x) || hasRow p (f y)) (hasRow p M) q))) (v .2 .inside);
             uses = v .2 .uses;
             before = v .2 .before;
           },
@@ -300,16 +301,16 @@ branches-up s w r f u (suc (suc n)) a o h i t =
 
 row-up : (s : List ℕ) → WellFormed s → (r at : ℕ) → r < behaviourCount s → (f : ℕ → Behaviour) → Later s r (λ j. Up s j (f j)) → (k : BehaviourKind)
     → RowKept s r at k → Up s r (behaviourFrom s f r at k)
-unfolding behaviourFrom standsIn
+unfolding behaviourFrom hasRow
 row-up s w r at l f u BehaviourKind.Nil h i t = top-up s r i (nil r) l t
 row-up s w r at l f u BehaviourKind.OneWay h i t = top-up s r i (oneWay r (operationOf s (fieldA s at)) (pathOf s (fieldB s at))) l t
 row-up s w r at l f u BehaviourKind.RequestResponse h i t =
-    or-case (eqb i r) (standsIn i (f (fieldD s at)))
+    or-case (eqb i r) (hasRow i (f (fieldD s at)))
     (λ z. top-up s r i (requestResponse r (operationOf s (fieldA s at)) (pathOf s (fieldB s at)) (pathOf s (fieldC s at)) (f (fieldD s at))) l z)
     (λ z. sub-up s r (fieldD s at) i (f (fieldD s at))
     (requestResponse r (operationOf s (fieldA s at)) (pathOf s (fieldB s at)) (pathOf s (fieldC s at)) (f (fieldD s at))) (h .3 .child)
     (u (fieldD s at) (h .3 .child .later) (h .3 .child .exists))
-    (λ j v. or-right (eqb j r) (standsIn j (f (fieldD s at))) v) (or-left (eqb r r) (standsIn r (f (fieldD s at))) (eqb-refl r)) z) t
+    (λ j v. or-right (eqb j r) (hasRow j (f (fieldD s at))) v) (or-left (eqb r r) (hasRow r (f (fieldD s at))) (eqb-refl r)) z) t
 row-up s w r at l f u BehaviourKind.Notification h i t = top-up s r i
     (notification r (operationOf s (fieldA s at)) (expressionOf s (fieldB s at))) l t
 row-up s w r at l f u BehaviourKind.SolicitResponse h i t = top-up s r i
@@ -318,37 +319,37 @@ row-up s w r at l f u BehaviourKind.If h i t =
     two-up s r (fieldB s at) (fieldC s at) i (f (fieldB s at)) (f (fieldC s at))
     (ifThenElse r (expressionOf s (fieldA s at)) (f (fieldB s at)) (f (fieldC s at))) l (h .1 .child) (h .2 .child)
     (u (fieldB s at) (h .1 .child .later) (h .1 .child .exists)) (u (fieldC s at) (h .2 .child .later) (h .2 .child .exists))
-    (λ j v. or-right (eqb j r) (standsIn j (f (fieldB s at)) || standsIn j (f (fieldC s at)))
-    (or-left (standsIn j (f (fieldB s at))) (standsIn j (f (fieldC s at))) v))
-    (λ j v. or-right (eqb j r) (standsIn j (f (fieldB s at)) || standsIn j (f (fieldC s at)))
-    (or-right (standsIn j (f (fieldB s at))) (standsIn j (f (fieldC s at))) v))
-    (or-left (eqb r r) (standsIn r (f (fieldB s at)) || standsIn r (f (fieldC s at))) (eqb-refl r)) t
+    (λ j v. or-right (eqb j r) (hasRow j (f (fieldB s at)) || hasRow j (f (fieldC s at)))
+    (or-left (hasRow j (f (fieldB s at))) (hasRow j (f (fieldC s at))) v))
+    (λ j v. or-right (eqb j r) (hasRow j (f (fieldB s at)) || hasRow j (f (fieldC s at)))
+    (or-right (hasRow j (f (fieldB s at))) (hasRow j (f (fieldC s at))) v))
+    (or-left (eqb r r) (hasRow r (f (fieldB s at)) || hasRow r (f (fieldC s at))) (eqb-refl r)) t
 row-up s w r at l f u BehaviourKind.While h i t =
-    or-case (eqb i r) (standsIn i (f (fieldB s at))) (λ z. top-up s r i (whileDo r (expressionOf s (fieldA s at)) (f (fieldB s at))) l z)
+    or-case (eqb i r) (hasRow i (f (fieldB s at))) (λ z. top-up s r i (whileDo r (expressionOf s (fieldA s at)) (f (fieldB s at))) l z)
     (λ z. sub-up s r (fieldB s at) i (f (fieldB s at)) (whileDo r (expressionOf s (fieldA s at)) (f (fieldB s at))) (h .1 .child)
     (u (fieldB s at) (h .1 .child .later) (h .1 .child .exists))
-    (λ j v. or-right (eqb j r) (standsIn j (f (fieldB s at))) v) (or-left (eqb r r) (standsIn r (f (fieldB s at))) (eqb-refl r)) z) t
+    (λ j v. or-right (eqb j r) (hasRow j (f (fieldB s at))) v) (or-left (eqb r r) (hasRow r (f (fieldB s at))) (eqb-refl r)) z) t
 row-up s w r at l f u BehaviourKind.Sequence h i t =
     two-up s r (fieldA s at) (fieldB s at) i (f (fieldA s at)) (f (fieldB s at)) (sequence r (f (fieldA s at)) (f (fieldB s at))) l (h .0 .child)
     (h .1 .child)
     (u (fieldA s at) (h .0 .child .later) (h .0 .child .exists)) (u (fieldB s at) (h .1 .child .later) (h .1 .child .exists))
-    (λ j v. or-right (eqb j r) (standsIn j (f (fieldA s at)) || standsIn j (f (fieldB s at)))
-    (or-left (standsIn j (f (fieldA s at))) (standsIn j (f (fieldB s at))) v))
-    (λ j v. or-right (eqb j r) (standsIn j (f (fieldA s at)) || standsIn j (f (fieldB s at)))
-    (or-right (standsIn j (f (fieldA s at))) (standsIn j (f (fieldB s at))) v))
-    (or-left (eqb r r) (standsIn r (f (fieldA s at)) || standsIn r (f (fieldB s at))) (eqb-refl r)) t
+    (λ j v. or-right (eqb j r) (hasRow j (f (fieldA s at)) || hasRow j (f (fieldB s at)))
+    (or-left (hasRow j (f (fieldA s at))) (hasRow j (f (fieldB s at))) v))
+    (λ j v. or-right (eqb j r) (hasRow j (f (fieldA s at)) || hasRow j (f (fieldB s at)))
+    (or-right (hasRow j (f (fieldA s at))) (hasRow j (f (fieldB s at))) v))
+    (or-left (eqb r r) (hasRow r (f (fieldA s at)) || hasRow r (f (fieldB s at))) (eqb-refl r)) t
 row-up s w r at l f u BehaviourKind.Parallel h i t =
     two-up s r (fieldA s at) (fieldB s at) i (f (fieldA s at)) (f (fieldB s at)) (parallel r (f (fieldA s at)) (f (fieldB s at))) l (h .0 .child)
     (h .1 .child)
     (u (fieldA s at) (h .0 .child .later) (h .0 .child .exists)) (u (fieldB s at) (h .1 .child .later) (h .1 .child .exists))
-    (λ j v. or-right (eqb j r) (standsIn j (f (fieldA s at)) || standsIn j (f (fieldB s at)))
-    (or-left (standsIn j (f (fieldA s at))) (standsIn j (f (fieldB s at))) v))
-    (λ j v. or-right (eqb j r) (standsIn j (f (fieldA s at)) || standsIn j (f (fieldB s at)))
-    (or-right (standsIn j (f (fieldA s at))) (standsIn j (f (fieldB s at))) v))
-    (or-left (eqb r r) (standsIn r (f (fieldA s at)) || standsIn r (f (fieldB s at))) (eqb-refl r)) t
+    (λ j v. or-right (eqb j r) (hasRow j (f (fieldA s at)) || hasRow j (f (fieldB s at)))
+    (or-left (hasRow j (f (fieldA s at))) (hasRow j (f (fieldB s at))) v))
+    (λ j v. or-right (eqb j r) (hasRow j (f (fieldA s at)) || hasRow j (f (fieldB s at)))
+    (or-right (hasRow j (f (fieldA s at))) (hasRow j (f (fieldB s at))) v))
+    (or-left (eqb r r) (hasRow r (f (fieldA s at)) || hasRow r (f (fieldB s at))) (eqb-refl r)) t
 row-up s w r at l f u BehaviourKind.Assign h i t = top-up s r i (assign r (pathOf s (fieldA s at)) (expressionOf s (fieldB s at))) l t
 row-up s w r at l f u BehaviourKind.Choice h i t =
-    or-case (eqb i r) (standsIn i M) (λ z. top-up s r i (choice r M) l z)
+    or-case (eqb i r) (hasRow i M) (λ z. top-up s r i (choice r M) l z)
     (λ z. below (branches-up s w r f u (fieldB s at) (fieldA s at) (h .0) (h .2) i z)) t
   where
     M : Behaviour
@@ -364,7 +365,7 @@ row-up s w r at l f u BehaviourKind.Branch h i t = top-up s r i (nil r) l t
 row-up s w r at l f u BehaviourKind.Unknown h i t = top-up s r i (nil r) l t
 
 up-to : (s : List ℕ) → WellFormed s → (d r : ℕ) → r < behaviourCount s → Up s r (behaviourTo s d r)
-unfolding behaviourTo standsIn
+unfolding behaviourTo hasRow
 up-to s w zero r l i t = top-up s r i (nil r) l t
 up-to s w (suc d) r l i t = row-up s w r (behaviourAt s r) l (behaviourTo s d) (λ j x y q z. up-to s w d j y q z) (kindAt s r)
     (behaviour-kept s w r l) i t
@@ -498,7 +499,7 @@ unfolding behaviourOf
 each-row-once s w r l = once-to s w (behaviourCount s) r l
 
 -- A behaviour's rows are rows of the file, none before its top row.
-pub rows-of : (s : List ℕ) → WellFormed s → (r i : ℕ) → r < behaviourCount s → T (standsIn i (behaviourOf s r)) → (r ≤ i) × (i < behaviourCount s)
+pub rows-of : (s : List ℕ) → WellFormed s → (r i : ℕ) → r < behaviourCount s → T (hasRow i (behaviourOf s r)) → (r ≤ i) × (i < behaviourCount s)
 unfolding behaviourOf
 rows-of s w r i l t = let h = up-to s w (behaviourCount s) r l i t in (h .0, h .1)
 

@@ -18,7 +18,8 @@ use Rattle.network.specs.Rows.{inRun, fieldA, fieldB, fieldC, fieldD, ki
 use Rattle.network.specs.Uses.{fieldUses, one, usesBy, rowUses, serviceUses, usedByRows, used, usesRow}
 use Rattle.network.specs.Form.{WellFormed}
 use Rattle.network.specs.Decode.{branchesFrom, behaviourFrom, behaviourTo, behaviourOf, serviceOf}
-use Rattle.network.specs.Shapes.{standsIn, Role, asStarter, asClient, behaviourIn}
+use Rattle.syntax.specs.Rows.{hasRow}
+use Rattle.network.specs.Shapes.{Role, asStarter, asClient, behaviourIn}
 use Rattle.network.specs.LeastLaws.{rule-kept}
 use Rattle.network.specs.TestLaws.{le-of, lt-of, eq-of, and-of, ne-of, clash}
 use Rattle.network.specs.RowLaws.{unbroken, counts-kept}
@@ -121,32 +122,32 @@ later-by s r at t BehaviourKind.Unknown h e = absurd h
 
 -- Row t stands in X if a row of X uses it.
 abbrev Closed : List ℕ → ℕ → ℕ → Behaviour → Type 0
-Closed s r t X = T (standsIn r X) → T (standsIn t X)
+Closed s r t X = T (hasRow r X) → T (hasRow t X)
 
-top-by : (s : List ℕ) (f : ℕ → Behaviour) (r at : ℕ) (k : BehaviourKind) → T (standsIn r (behaviourFrom s f r at k))
-unfolding behaviourFrom standsIn
+top-by : (s : List ℕ) (f : ℕ → Behaviour) (r at : ℕ) (k : BehaviourKind) → T (hasRow r (behaviourFrom s f r at k))
+unfolding behaviourFrom hasRow
 top-by s f r at BehaviourKind.Nil = eqb-refl r
 top-by s f r at BehaviourKind.OneWay = eqb-refl r
-top-by s f r at BehaviourKind.RequestResponse = or-left (eqb r r) (standsIn r (f (fieldD s at))) (eqb-refl r)
+top-by s f r at BehaviourKind.RequestResponse = or-left (eqb r r) (hasRow r (f (fieldD s at))) (eqb-refl r)
 top-by s f r at BehaviourKind.Notification = eqb-refl r
 top-by s f r at BehaviourKind.SolicitResponse = eqb-refl r
-top-by s f r at BehaviourKind.If = or-left (eqb r r) (standsIn r (f (fieldB s at)) || standsIn r (f (fieldC s at))) (eqb-refl r)
-top-by s f r at BehaviourKind.While = or-left (eqb r r) (standsIn r (f (fieldB s at))) (eqb-refl r)
-top-by s f r at BehaviourKind.Sequence = or-left (eqb r r) (standsIn r (f (fieldA s at)) || standsIn r (f (fieldB s at))) (eqb-refl r)
-top-by s f r at BehaviourKind.Parallel = or-left (eqb r r) (standsIn r (f (fieldA s at)) || standsIn r (f (fieldB s at))) (eqb-refl r)
+top-by s f r at BehaviourKind.If = or-left (eqb r r) (hasRow r (f (fieldB s at)) || hasRow r (f (fieldC s at))) (eqb-refl r)
+top-by s f r at BehaviourKind.While = or-left (eqb r r) (hasRow r (f (fieldB s at))) (eqb-refl r)
+top-by s f r at BehaviourKind.Sequence = or-left (eqb r r) (hasRow r (f (fieldA s at)) || hasRow r (f (fieldB s at))) (eqb-refl r)
+top-by s f r at BehaviourKind.Parallel = or-left (eqb r r) (hasRow r (f (fieldA s at)) || hasRow r (f (fieldB s at))) (eqb-refl r)
 top-by s f r at BehaviourKind.Assign = eqb-refl r
-top-by s f r at BehaviourKind.Choice = or-left (eqb r r) (standsIn r (branchesFrom s f (fieldA s at) (fieldB s at))) (eqb-refl r)
+top-by s f r at BehaviourKind.Choice = or-left (eqb r r) (hasRow r (branchesFrom s f (fieldA s at) (fieldB s at))) (eqb-refl r)
 top-by s f r at BehaviourKind.Branch = eqb-refl r
 top-by s f r at BehaviourKind.Unknown = eqb-refl r
 
-top-to : (s : List ℕ) (d r : ℕ) → T (standsIn r (behaviourTo s d r))
-unfolding behaviourTo standsIn
+top-to : (s : List ℕ) (d r : ℕ) → T (hasRow r (behaviourTo s d r))
+unfolding behaviourTo hasRow
 top-to s zero r = eqb-refl r
 top-to s (suc d) r = top-by s (behaviourTo s d) r (behaviourAt s r) (kindAt s r)
 
 -- Every row of a choice's run is a branch of it.
-run-in : (s : List ℕ) (f : ℕ → Behaviour) (t n a : ℕ) → a ≤ t → t < a + n → T (standsIn t (branchesFrom s f a n))
-unfolding branchesFrom standsIn
+run-in : (s : List ℕ) (f : ℕ → Behaviour) (t n a : ℕ) → a ≤ t → t < a + n → T (hasRow t (branchesFrom s f a n))
+unfolding branchesFrom hasRow
 run-in s f t zero a x y = absurd (omega arith)
 run-in s f t (suc zero) a x y = or-left (eqb t a) _ (subst (λ (z : ℕ). T (eqb t z)) (omega arith) (eqb-refl t))
 run-in s f t (suc (suc n)) a x y = go (compare t a) (λ z. run-in s f t (suc n) (suc a) z (omega arith))
@@ -160,14 +161,14 @@ run-in s f t (suc (suc n)) a x y = go (compare t a) (λ z. run-in s f t (suc n) 
     M : Behaviour
     M = branchesFrom s f (suc a) (suc n)
 
-    go : Compare t a → (suc a ≤ t → T (standsIn t M)) → T (eqb t a || ((standsIn t X || standsIn t Y) || standsIn t M))
+    go : Compare t a → (suc a ≤ t → T (hasRow t M)) → T (eqb t a || ((hasRow t X || hasRow t Y) || hasRow t M))
     go (lt h) ih = absurd (omega arith)
-    go (eq h) ih = or-left (eqb t a) ((standsIn t X || standsIn t Y) || standsIn t M) (subst (λ (z : ℕ). T (eqb t z)) h (eqb-refl t))
-    go (gt h) ih = or-right (eqb t a) ((standsIn t X || standsIn t Y) || standsIn t M)
-        (or-right (standsIn t X || standsIn t Y) (standsIn t M) (ih (omega arith)))
+    go (eq h) ih = or-left (eqb t a) ((hasRow t X || hasRow t Y) || hasRow t M) (subst (λ (z : ℕ). T (eqb t z)) h (eqb-refl t))
+    go (gt h) ih = or-right (eqb t a) ((hasRow t X || hasRow t Y) || hasRow t M)
+        (or-right (hasRow t X || hasRow t Y) (hasRow t M) (ih (omega arith)))
 
-moved : (f : ℕ → Behaviour) (x t : ℕ) → x ≡ t → T (standsIn x (f x)) → T (standsIn t (f x))
-moved f x t e h = subst (λ (z : ℕ). T (standsIn z (f x))) e h
+moved : (f : ℕ → Behaviour) (x t : ℕ) → x ≡ t → T (hasRow x (f x)) → T (hasRow t (f x))
+moved f x t e h = subst (λ (z : ℕ). T (hasRow z (f x))) e h
 
 no-branch : (k : BehaviourKind) → isInput k ≡ true → isBranch k ≡ false
 no-branch BehaviourKind.Nil e = refl
@@ -185,22 +186,22 @@ no-branch BehaviourKind.Branch e = let z : _≡_ {A = ℕ} 0 1 = cc in absurd (o
 no-branch BehaviourKind.Unknown e = refl
 
 -- Two parts, from the rows x and y, which row a uses.
-pair-closed : (s : List ℕ) (a r t x y : ℕ) (f : ℕ → Behaviour) → T (standsIn x (f x)) → T (standsIn y (f y)) → (r ≡ a → (x ≡ t) ⊎ (y ≡ t))
-    → Closed s r t (f x) → Closed s r t (f y) → T (eqb r a || (standsIn r (f x) || standsIn r (f y))) → T (standsIn t (f x) || standsIn t (f y))
+pair-closed : (s : List ℕ) (a r t x y : ℕ) (f : ℕ → Behaviour) → T (hasRow x (f x)) → T (hasRow y (f y)) → (r ≡ a → (x ≡ t) ⊎ (y ≡ t))
+    → Closed s r t (f x) → Closed s r t (f y) → T (eqb r a || (hasRow r (f x) || hasRow r (f y))) → T (hasRow t (f x) || hasRow t (f y))
 pair-closed s a r t x y f tx ty u cx cy h =
-    or-case (eqb r a) (standsIn r (f x) || standsIn r (f y))
+    or-case (eqb r a) (hasRow r (f x) || hasRow r (f y))
     (λ e. ⊎-elim
-    (λ z. or-left (standsIn t (f x)) (standsIn t (f y)) (moved f x t z tx))
-    (λ z. or-right (standsIn t (f x)) (standsIn t (f y)) (moved f y t z ty))
+    (λ z. or-left (hasRow t (f x)) (hasRow t (f y)) (moved f x t z tx))
+    (λ z. or-right (hasRow t (f x)) (hasRow t (f y)) (moved f y t z ty))
     (u (eqb→eq r a e)))
-    (λ e. or-case (standsIn r (f x)) (standsIn r (f y))
-    (λ z. or-left (standsIn t (f x)) (standsIn t (f y)) (cx z))
-    (λ z. or-right (standsIn t (f x)) (standsIn t (f y)) (cy z)) e)
+    (λ e. or-case (hasRow r (f x)) (hasRow r (f y))
+    (λ z. or-left (hasRow t (f x)) (hasRow t (f y)) (cx z))
+    (λ z. or-right (hasRow t (f x)) (hasRow t (f y)) (cy z)) e)
     h
 
-branches-closed : (s : List ℕ) → WellFormed s → (p r t : ℕ) (f : ℕ → Behaviour) → Uses s r t → ((j : ℕ) → T (standsIn j (f j)))
+branches-closed : (s : List ℕ) → WellFormed s → (p r t : ℕ) (f : ℕ → Behaviour) → Uses s r t → ((j : ℕ) → T (hasRow j (f j)))
     → Later s p (λ j. isBranch (kindAt s j) ≡ false → Closed s r t (f j)) → (n a : ℕ) → 1 ≤ n → Branches s p a n → Closed s r t (branchesFrom s f a n)
-unfolding branchesFrom standsIn
+unfolding branchesFrom hasRow
 branches-closed s w p r t f u tops ih zero a o h z = absurd (omega arith)
 branches-closed s w p r t f u tops ih (suc zero) a o h z =
     let k = h a (omega arith) (omega arith) in
@@ -208,18 +209,18 @@ branches-closed s w p r t f u tops ih (suc zero) a o h z =
     let l = k .child .later in
     let x : ℕ = fieldA s (behaviourAt s a) in
     let y : ℕ = fieldB s (behaviourAt s a) in
-    or-right (eqb t a) (standsIn t (f x) || standsIn t (f y))
+    or-right (eqb t a) (hasRow t (f x) || hasRow t (f y))
     (pair-closed s a r t x y f (tops x) (tops y)
     (λ e. branch-used-by s p a t k (subst (λ (q : ℕ). Uses s q t) e u))
     (ih x (let m = b .0 .child .later in omega arith) (b .0 .child .exists) (no-branch (kindAt s x) (b .0 .kind)))
     (ih y (let m = b .1 .child .later in omega arith) (b .1 .child .exists) (b .1 .kind)) z)
 branches-closed s w p r t f u tops ih (suc (suc n)) a o h z =
-    or-right (eqb t a) ((standsIn t (f x) || standsIn t (f y)) || standsIn t M)
-    (or-case (eqb r a) ((standsIn r (f x) || standsIn r (f y)) || standsIn r M)
-    (λ e. this (or-left (eqb r a) (standsIn r (f x) || standsIn r (f y)) e))
-    (λ e. or-case (standsIn r (f x) || standsIn r (f y)) (standsIn r M)
-    (λ v. this (or-right (eqb r a) (standsIn r (f x) || standsIn r (f y)) v))
-    (λ v. or-right (standsIn t (f x) || standsIn t (f y)) (standsIn t M)
+    or-right (eqb t a) ((hasRow t (f x) || hasRow t (f y)) || hasRow t M)
+    (or-case (eqb r a) ((hasRow r (f x) || hasRow r (f y)) || hasRow r M)
+    (λ e. this (or-left (eqb r a) (hasRow r (f x) || hasRow r (f y)) e))
+    (λ e. or-case (hasRow r (f x) || hasRow r (f y)) (hasRow r M)
+    (λ v. this (or-right (eqb r a) (hasRow r (f x) || hasRow r (f y)) v))
+    (λ v. or-right (hasRow t (f x) || hasRow t (f y)) (hasRow t M)
     (branches-closed s w p r t f u tops ih (suc n) (suc a) (omega arith) (λ j c d. h j (omega arith) (omega arith)) v)) e)
     z)
   where
@@ -238,52 +239,52 @@ branches-closed s w p r t f u tops ih (suc (suc n)) a o h z =
     b : RowKept s a (behaviourAt s a) BehaviourKind.Branch
     b = branch-kept s w p a k
 
-    this : T (eqb r a || (standsIn r (f x) || standsIn r (f y))) → T ((standsIn t (f x) || standsIn t (f y)) || standsIn t M)
+    this : T (eqb r a || (hasRow r (f x) || hasRow r (f y))) → T ((hasRow t (f x) || hasRow t (f y)) || hasRow t M)
     this v =
-        or-left (standsIn t (f x) || standsIn t (f y)) (standsIn t M)
+        or-left (hasRow t (f x) || hasRow t (f y)) (hasRow t M)
         (pair-closed s a r t x y f (tops x) (tops y)
         (λ e. branch-used-by s p a t k (subst (λ (q : ℕ). Uses s q t) e u))
         (ih x (let l = k .child .later in let m = b .0 .child .later in omega arith) (b .0 .child .exists) (no-branch (kindAt s x) (b .0 .kind)))
         (ih y (let l = k .child .later in let m = b .1 .child .later in omega arith) (b .1 .child .exists) (b .1 .kind)) v)
 
 -- Row t, which row r uses; `own` is what is known of it where r is the row a itself.
-row-closed : (s : List ℕ) → WellFormed s → (a at r t : ℕ) (f : ℕ → Behaviour) → Uses s r t → ((j : ℕ) → T (standsIn j (f j)))
+row-closed : (s : List ℕ) → WellFormed s → (a at r t : ℕ) (f : ℕ → Behaviour) → Uses s r t → ((j : ℕ) → T (hasRow j (f j)))
     → Later s a (λ j. isBranch (kindAt s j) ≡ false → Closed s r t (f j)) → (k : BehaviourKind) → RowKept s a at k
     → isBranch k ≡ false → (r ≡ a → UsedBy s at t k) → Closed s r t (behaviourFrom s f a at k)
-unfolding behaviourFrom standsIn
+unfolding behaviourFrom hasRow
 row-closed s w a at r t f u tops ih BehaviourKind.Nil h nb own z = absurd (own (eqb→eq r a z))
 row-closed s w a at r t f u tops ih BehaviourKind.OneWay h nb own z = absurd (own (eqb→eq r a z))
 row-closed s w a at r t f u tops ih BehaviourKind.RequestResponse h nb own z =
-    or-right (eqb t a) (standsIn t (f (fieldD s at)))
-    (or-case (eqb r a) (standsIn r (f (fieldD s at)))
+    or-right (eqb t a) (hasRow t (f (fieldD s at)))
+    (or-case (eqb r a) (hasRow r (f (fieldD s at)))
     (λ e. moved f (fieldD s at) t (own (eqb→eq r a e)) (tops (fieldD s at)))
     (λ e. ih (fieldD s at) (h .3 .child .later) (h .3 .child .exists) (h .3 .kind) e) z)
 row-closed s w a at r t f u tops ih BehaviourKind.Notification h nb own z = absurd (own (eqb→eq r a z))
 row-closed s w a at r t f u tops ih BehaviourKind.SolicitResponse h nb own z = absurd (own (eqb→eq r a z))
 row-closed s w a at r t f u tops ih BehaviourKind.If h nb own z =
-    or-right (eqb t a) (standsIn t (f (fieldB s at)) || standsIn t (f (fieldC s at)))
+    or-right (eqb t a) (hasRow t (f (fieldB s at)) || hasRow t (f (fieldC s at)))
     (pair-closed s a r t (fieldB s at) (fieldC s at) f (tops (fieldB s at)) (tops (fieldC s at)) own
     (ih (fieldB s at) (h .1 .child .later) (h .1 .child .exists) (h .1 .kind))
     (ih (fieldC s at) (h .2 .child .later) (h .2 .child .exists) (h .2 .kind)) z)
 row-closed s w a at r t f u tops ih BehaviourKind.While h nb own z =
-    or-right (eqb t a) (standsIn t (f (fieldB s at)))
-    (or-case (eqb r a) (standsIn r (f (fieldB s at)))
+    or-right (eqb t a) (hasRow t (f (fieldB s at)))
+    (or-case (eqb r a) (hasRow r (f (fieldB s at)))
     (λ e. moved f (fieldB s at) t (own (eqb→eq r a e)) (tops (fieldB s at)))
     (λ e. ih (fieldB s at) (h .1 .child .later) (h .1 .child .exists) (h .1 .kind) e) z)
 row-closed s w a at r t f u tops ih BehaviourKind.Sequence h nb own z =
-    or-right (eqb t a) (standsIn t (f (fieldA s at)) || standsIn t (f (fieldB s at)))
+    or-right (eqb t a) (hasRow t (f (fieldA s at)) || hasRow t (f (fieldB s at)))
     (pair-closed s a r t (fieldA s at) (fieldB s at) f (tops (fieldA s at)) (tops (fieldB s at)) own
     (ih (fieldA s at) (h .0 .child .later) (h .0 .child .exists) (h .0 .kind))
     (ih (fieldB s at) (h .1 .child .later) (h .1 .child .exists) (h .1 .kind)) z)
 row-closed s w a at r t f u tops ih BehaviourKind.Parallel h nb own z =
-    or-right (eqb t a) (standsIn t (f (fieldA s at)) || standsIn t (f (fieldB s at)))
+    or-right (eqb t a) (hasRow t (f (fieldA s at)) || hasRow t (f (fieldB s at)))
     (pair-closed s a r t (fieldA s at) (fieldB s at) f (tops (fieldA s at)) (tops (fieldB s at)) own
     (ih (fieldA s at) (h .0 .child .later) (h .0 .child .exists) (h .0 .kind))
     (ih (fieldB s at) (h .1 .child .later) (h .1 .child .exists) (h .1 .kind)) z)
 row-closed s w a at r t f u tops ih BehaviourKind.Assign h nb own z = absurd (own (eqb→eq r a z))
 row-closed s w a at r t f u tops ih BehaviourKind.Choice h nb own z =
-    or-right (eqb t a) (standsIn t (branchesFrom s f (fieldA s at) (fieldB s at)))
-    (or-case (eqb r a) (standsIn r (branchesFrom s f (fieldA s at) (fieldB s at)))
+    or-right (eqb t a) (hasRow t (branchesFrom s f (fieldA s at) (fieldB s at)))
+    (or-case (eqb r a) (hasRow r (branchesFrom s f (fieldA s at) (fieldB s at)))
     (λ e. let o = own (eqb→eq r a e) in run-in s f t (fieldB s at) (fieldA s at) (o .0) (o .1))
     (λ e. branches-closed s w a r t f u tops ih (fieldB s at) (fieldA s at) (h .0) (h .2) e) z)
 row-closed s w a at r t f u tops ih BehaviourKind.Branch h nb own z = let q : _≡_ {A = ℕ} 0 1 = cc in absurd (omega arith)
@@ -299,7 +300,7 @@ closed-to s w r t u (suc d) a l h nb =
 
 -- A behaviour has every row that one of its rows uses.
 pub used-inside : (s : List ℕ) → WellFormed s → (a r t : ℕ) → a < behaviourCount s → isBranch (kindAt s a) ≡ false → Uses s r t
-    → T (standsIn r (behaviourOf s a)) → T (standsIn t (behaviourOf s a))
+    → T (hasRow r (behaviourOf s a)) → T (hasRow t (behaviourOf s a))
 unfolding behaviourOf
 used-inside s w a r t l nb u z = closed-to s w r t u (behaviourCount s) a l (omega arith) nb z
 
@@ -312,7 +313,7 @@ pub record Owned (s : List ℕ) (t : ℕ) : Type 0 where
   pub behaviour : Behaviour
   pub exists : service < serviceCount s
   pub isThere : behaviourIn role (serviceOf s service) ≡ some behaviour
-  pub inside : T (standsIn t behaviour)
+  pub inside : T (hasRow t behaviour)
 
 -- What uses row t: a B row or a service.
 users : (s : List ℕ) → WellFormed s → (t : ℕ) → t < behaviourCount s
@@ -380,15 +381,15 @@ owned-below s w (suc n) t h l = ⊎-elim (λ v. under-row v (λ m. owned-below s
         let o = ih (omega arith) in
         let k = top-of s w (o .service) (o .exists) (o .role) (o .behaviour) (o .isThere) in
         let a : ℕ = topRow s (o .service) (o .role) in
-        let i : T (standsIn (v .0) (behaviourOf s a)) = subst (λ (b : Behaviour). T (standsIn (v .0) b)) (k .isTop) (o .inside) in
-        let j : T (standsIn t (behaviourOf s a)) = used-inside s w a (v .0) t (k .kept .exists) (k .kept .kind) (v .2) i in
+        let i : T (hasRow (v .0) (behaviourOf s a)) = subst (λ (b : Behaviour). T (hasRow (v .0) b)) (k .isTop) (o .inside) in
+        let j : T (hasRow t (behaviourOf s a)) = used-inside s w a (v .0) t (k .kept .exists) (k .kept .kind) (v .2) i in
         record {
           service = o .service;
           role = o .role;
           behaviour = o .behaviour;
           exists = o .exists;
           isThere = o .isThere;
-          inside = subst (λ (b : Behaviour). T (standsIn t b)) (sym (k .isTop)) j;
+          inside = subst (λ (b : Behaviour). T (hasRow t b)) (sym (k .isTop)) j;
         }
 
 -- Every B row stands in the starter or the client of a service.

@@ -14,6 +14,7 @@ use Rattle.syntax.specs.Syntax.{Mark, mark, mandatory, basic, Types, MessageTyp
 use Rattle.syntax.specs.Syntax.{binary, Direction, input, output, Operation, Behaviour, nil, oneWay, requestResponse, notification, solicitResponse}
 use Rattle.syntax.specs.Syntax.{ifThenElse, whileDo, sequence, parallel, assign, choice, branch, lastBranch, waiting, answering, Optional, none, some}
 use Rattle.syntax.specs.Syntax.{Service, Network}
+use Rattle.syntax.specs.Rows.{hasRow}
 use Rattle.network.specs.Sizes.{typeLevels, typeNodes, expressionLevels}
 use Rattle.network.specs.Meets.{entry}
 
@@ -105,30 +106,12 @@ BehaviourShape (lastBranch r a b) = BehaviourShape a × BehaviourShape b
 BehaviourShape (waiting r o x) = OperationShape o × PathShape x
 BehaviourShape (answering r o y d) = OperationShape o × PathShape y × BehaviourShape d
 
--- Is row i one of the behaviour's rows?
-unfoldable pub standsIn : ℕ → Behaviour → Bool
-standsIn i (nil r) = eqb i r
-standsIn i (oneWay r o x) = eqb i r
-standsIn i (requestResponse r o x y d) = eqb i r || standsIn i d
-standsIn i (notification r o e) = eqb i r
-standsIn i (solicitResponse r o e x) = eqb i r
-standsIn i (ifThenElse r e a b) = eqb i r || (standsIn i a || standsIn i b)
-standsIn i (whileDo r e b) = eqb i r || standsIn i b
-standsIn i (sequence r a b) = eqb i r || (standsIn i a || standsIn i b)
-standsIn i (parallel r a b) = eqb i r || (standsIn i a || standsIn i b)
-standsIn i (assign r x e) = eqb i r
-standsIn i (choice r m) = eqb i r || standsIn i m
-standsIn i (branch r a b m) = eqb i r || ((standsIn i a || standsIn i b) || standsIn i m)
-standsIn i (lastBranch r a b) = eqb i r || (standsIn i a || standsIn i b)
-standsIn i (waiting r o x) = eqb i r
-standsIn i (answering r o y d) = eqb i r || standsIn i d
-
 abbrev pub Outside : ℕ → Behaviour → Type 0
-Outside r b = T (standsIn r b) → ⊥
+Outside r b = T (hasRow r b) → ⊥
 
 -- No row stands in both.
 abbrev pub Apart : Behaviour → Behaviour → Type 0
-Apart a b = (i : ℕ) → T (standsIn i a) → T (standsIn i b) → ⊥
+Apart a b = (i : ℕ) → T (hasRow i a) → T (hasRow i b) → ⊥
 
 -- B: "Each row is used exactly once": no row stands in a behaviour at two places.
 unfoldable pub EachRowOnce : Behaviour → Type 0

@@ -8,7 +8,7 @@ use Rattle.forest.specs.Compare.{of-T, not-T-false}
 use Rattle.syntax.specs.Syntax.{Types, Optional, none, some, Network, Operation, Behaviour, nil, oneWay, requestResponse, notification}
 use Rattle.syntax.specs.Syntax.{solicitResponse, ifThenElse, whileDo, sequence, parallel, assign, choice, branch, lastBranch, waiting, answering}
 use Rattle.syntax.specs.Rows.{rowOf, hasRow, atRow, orElseSome, itself}
-use Rattle.network.specs.Shapes.{Standing, alone, inChoice, onlyAlone, onlyInChoice, standsIn, EachRowOnce, AsInFile}
+use Rattle.network.specs.Shapes.{Standing, alone, inChoice, onlyAlone, onlyInChoice, EachRowOnce, AsInFile}
 use Rattle.typing.specs.Occurs.{occurs}
 use Rattle.typing.specs.OccursLaws.{or-l, or-r}
 use Rattle.typing.specs.Rules.{RisingOperation, WellSorted}
@@ -21,31 +21,12 @@ use Rattle.soundness.specs.ContextLaws.{or-case}
 use Rattle.soundness.specs.RowLaws.{in-own, in-first, in-second, in-only, in-input, in-then, in-others, branch-rows, branch-once, reaches-rows}
 use Rattle.soundness.specs.Accepted.{OfFile, MadeOf, Accepted}
 
--- Each row once, as the network's laws say it and as rows are counted here -----------------------------------------------------------
 
-stands-row : (i : ℕ) (B : Behaviour) → hasRow i B ≡ standsIn i B
-unfolding hasRow standsIn
-stands-row i (nil r) = refl
-stands-row i (oneWay r o x) = refl
-stands-row i (requestResponse r o x c d) = rw (stands-row i d)
-stands-row i (notification r o e) = refl
-stands-row i (solicitResponse r o e x) = refl
-stands-row i (ifThenElse r e a b) = rw (stands-row i a, stands-row i b)
-stands-row i (whileDo r e b) = rw (stands-row i b)
-stands-row i (sequence r a b) = rw (stands-row i a, stands-row i b)
-stands-row i (parallel r a b) = rw (stands-row i a, stands-row i b)
-stands-row i (assign r x e) = refl
-stands-row i (choice r m) = rw (stands-row i m)
-stands-row i (branch r a b m) = rw (stands-row i a, stands-row i b, stands-row i m)
-stands-row i (lastBranch r a b) = rw (stands-row i a, stands-row i b)
-stands-row i (waiting r o x) = refl
-stands-row i (answering r o c d) = rw (stands-row i d)
+not-in : (r : ℕ) (b : Behaviour) → (T (hasRow r b) → ⊥) → NotIn r b
+not-in r b f t = f t
 
-not-in : (r : ℕ) (b : Behaviour) → (T (standsIn r b) → ⊥) → NotIn r b
-not-in r b f t = f (subst T (stands-row r b) t)
-
-none-shared : (a b : Behaviour) → ((i : ℕ) → T (standsIn i a) → T (standsIn i b) → ⊥) → NoneShared a b
-none-shared a b f i t u = f i (subst T (stands-row i a) t) (subst T (stands-row i b) u)
+none-shared : (a b : Behaviour) → ((i : ℕ) → T (hasRow i a) → T (hasRow i b) → ⊥) → NoneShared a b
+none-shared a b f i t u = f i t u
 
 in-alone : (s : Standing) {X Y : Type 0} → (X → Y) → onlyAlone s X → onlyAlone s Y
 in-alone alone f x = f x

@@ -6,33 +6,14 @@ use Prim.Native.Nat.{ℕ, suc}
 use lib.Dec.{eqb}
 use Rattle.forest.specs.Forest.{end, node, tree, Lookup, absent, present, find}
 use Rattle.refusal.specs.declared.Refusal.the-variants.{EnvironmentsDiffer, OutputMismatch}
-use Rattle.syntax.specs.Syntax.{Mark, mark, Types, MessageType, input, output, Operation, Behaviour, nil, oneWay, requestResponse}
-use Rattle.syntax.specs.Syntax.{notification, solicitResponse, ifThenElse, whileDo, sequence, parallel, assign, choice, branch, lastBranch}
-use Rattle.syntax.specs.Syntax.{waiting, answering, Optional, none, some, Service, Network}
+use Rattle.syntax.specs.Syntax.{Mark, mark, Types, MessageType, input, output, Operation, Behaviour, Optional, none, some, Service, Network}
+use Rattle.syntax.specs.Rows.{rowOf}
 use Rattle.subtyping.specs.Subtype.{implies, isSubtype}
 use Rattle.typing.specs.Result.{Result, yields, require, Checked, passed, atRow, next}
 use Rattle.typing.specs.Environment.{within}
 use Rattle.typing.specs.Rules.{sameBool, sameDirection, permits}
 use Rattle.typing.specs.Checker.{sameTypes, limited, check}
 use Rattle.typing.specs.NetworkRules.{branchesOf, unionOf, Environments}
-
--- The row of a behaviour.
-abbrev pub rowOf : Behaviour → ℕ
-rowOf (nil r) = r
-rowOf (oneWay r o x) = r
-rowOf (requestResponse r o x c d) = r
-rowOf (notification r o e) = r
-rowOf (solicitResponse r o e x) = r
-rowOf (ifThenElse r e a b) = r
-rowOf (whileDo r e b) = r
-rowOf (sequence r a b) = r
-rowOf (parallel r a b) = r
-rowOf (assign r x e) = r
-rowOf (choice r m) = r
-rowOf (branch r a b m) = r
-rowOf (lastBranch r a b) = r
-rowOf (waiting r o x) = r
-rowOf (answering r o c d) = r
 
 -- Each behaviour from the empty environment, one after the other.
 unfoldable pub checkEach : ℕ → List Behaviour → Checked (List Types)

@@ -13,6 +13,7 @@ use Rattle.refusal.specs.declared.Refusal.the-variants.{EnvironmentsDiffer, Env
 use Rattle.syntax.specs.Syntax.{Mark, mark, Types, MessageType, Direction, input, output, Operation, Behaviour, nil, oneWay}
 use Rattle.syntax.specs.Syntax.{requestResponse, notification, solicitResponse, ifThenElse, whileDo, sequence, parallel, assign, choice}
 use Rattle.syntax.specs.Syntax.{branch, lastBranch, waiting, answering, Optional, none, some, Service, Network}
+use Rattle.syntax.specs.Rows.{rowOf}
 use Rattle.subtyping.specs.Subtype.{implies, isSubtype, Subtype}
 use Rattle.subtyping.specs.SubtypeLaws.{find-above, implies-elim, implies-intro, subtype-sound, subtype-complete}
 use Rattle.typing.specs.Result.{Result, yields, require, Checked, passed, atRow, next}
@@ -28,7 +29,7 @@ use Rattle.typing.specs.NetworkRules.{branchesOf, DerivesEach, OneType, 
 use Rattle.typing.specs.NetworkRules.{DerivesClient, IfThere, Environments, DerivesServices, Meets, MeetsOne, first, later, MeetsAt}
 use Rattle.typing.specs.NetworkRules.{OutputsMeet, DerivesNetwork, WellSortedIfThere, WellSortedServices, RisingOperations}
 use Rattle.typing.specs.NetworkRules.{WellSortedNetwork}
-use Rattle.typing.specs.NetworkChecker.{rowOf, checkEach, sameTree, oneTypeAt, oneType, oneTypeWith, oneTypeEach, checkStarter}
+use Rattle.typing.specs.NetworkChecker.{checkEach, sameTree, oneTypeAt, oneType, oneTypeWith, oneTypeEach, checkStarter}
 use Rattle.typing.specs.NetworkChecker.{checkClient, ifThere, checkServices, meets, meetsOne, meetsAt, checkOutputs, checkNetwork}
 
 -- The empty environment.

@@ -13,6 +13,7 @@ use Rattle.syntax.specs.Syntax.{Mark, mark, Types, MessageType, add, logicalNot
 use Rattle.syntax.specs.Syntax.{output, Operation}
 use Rattle.syntax.specs.Syntax.{Behaviour, nil, oneWay, notification, ifThenElse, parallel, assign, choice, branch, lastBranch}
 use Rattle.syntax.specs.Syntax.{none, some, Network}
+use Rattle.syntax.specs.Rows.{rowOf}
 use Rattle.subtyping.specs.Subtype.{areSubtypes, isSubtype}
 use Rattle.typing.specs.Result.{fails, yields, refused, passed, next}
 use Rattle.typing.specs.Environment.{within, leaf, firmSteps, firmAboveSteps, noMandatory, place, assignTo}
@@ -124,7 +125,7 @@ pub starters-and-outputs :
     × (checkNetwork (served (twoBranches (nil 11)) (operation 0 0 ∷ sending 4 1 (leaf long) ∷ [])) ≡ refused (OutputMismatch 4))
     × (checkNetwork (served (twoBranches (nil 11)) (operation 0 0 ∷ sending 4 1 (leaf int) ∷ sending 6 9 (leaf long) ∷ []))
     ≡ passed (record { starter = some (node 1 (mark true int) end end); client = none } ∷ []))
-unfolding checkNetwork checkServices checkEach branchesOf union unionOf oneType oneTypeWith oneTypeEach meetsOne meetsAt checkOutputs
+unfolding rowOf checkNetwork checkServices checkEach branchesOf union unionOf oneType oneTypeWith oneTypeEach meetsOne meetsAt checkOutputs
     check next typeOf permits sameTypes areSubtypes find set readSteps writeSteps firmSteps firmAboveSteps measure
 starters-and-outputs = (refl, refl, refl, refl)
 
