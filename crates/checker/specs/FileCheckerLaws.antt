@@ -63,8 +63,10 @@ operations-rising (o ∷ l) h = (operation-rising o (h 0 o refl), operations-ris
 pub file-sorted : (s : List ℕ) → WellFormed s → WellSortedNetwork (networkOf s)
 file-sorted s w =
     let h = network-shape s w in
-    record { inServices = services-sorted _ (networkOf s .services) (λ q v e. (h .behaviours q v asStarter e, h .behaviours q v asClient e))
-           ; inOperations = operations-rising (networkOf s .operations) (h .operations) }
+    record {
+      inServices = services-sorted _ (networkOf s .services) (λ q v e. (h .behaviours q v asStarter e, h .behaviours q v asClient e));
+      inOperations = operations-rising (networkOf s .operations) (h .operations);
+    }
 
 form-passed : {A : Type 0} (v : Verdict) (c : Checked A) {a : A} → afterForm v c ≡ passed a → (v ≡ Done) × (c ≡ passed a)
 form-passed Done c e = (refl, e)

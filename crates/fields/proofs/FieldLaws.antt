@@ -240,7 +240,7 @@ value-part s b at n from len t p q h =
     let d : drop from s ≡ drop at s = ap (λ (x : ℕ). drop x s) p ∙ drop-clip s at in
     let l : length s - from ≡ length (drop from s) = sym (length-drop from s) in
     let k : take len (drop from s) ≡ take n (drop from s) =
-        ap (λ (x : ℕ). take x (drop from s)) (q ∙ ap (clip n) l) ∙ take-clip (drop from s) n in
+    ap (λ (x : ℕ). take x (drop from s)) (q ∙ ap (clip n) l) ∙ take-clip (drop from s) n in
     h ∙ ap (isValue b) (k ∙ ap (take n) d)
 
 pub value-from : (s : List ℕ) (at from : ℕ) → from ≡ clip at (length s) → from ≤ length s

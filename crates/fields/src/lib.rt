@@ -7,10 +7,10 @@ ghost use Rattle.scalar.specs.Value.{isValue};
 ghost use Rattle.wire.specs.Wire.{part, u16At};
 ghost use Rattle.network.specs.Least.{rule};
 ghost use Rattle.fields.specs.Sorts.{fieldsOf};
+ghost use Rattle.network.specs.declared.FieldSort.the-variants.{Free, Unused};
 ghost use Rattle.network.specs.Kinds.{fields, expressionFields, behaviourFields};
 ghost use Rattle.network.specs.Rows.{fieldA, fieldB, fieldC, fieldD, subFits, inputFits, constantFits, fieldFits, fieldsRule, basicFits, expressionRow, expressionRows};
 ghost use Rattle.network.specs.Rows.{behaviourHead, branchRule, branchRows, choiceRun, behaviourRow, behaviourRows};
-
 use layout::both;
 use layout::either;
 use layout::least;
@@ -31,24 +31,67 @@ pub struct Sorts {
 fn sorts_of(a: FieldSort, b: FieldSort, c: FieldSort, d: FieldSort) -> Sorts
     ensures { λ r. ⌜ fieldsOf r ≡ fields a b c d ⌝ }
 {
-    Sorts { a: a, b: b, c: c, d: d }
+    Sorts {
+        a: a,
+        b: b,
+        c: c,
+        d: d,
+    }
+}
+
+fn operands(a: FieldSort, b: FieldSort) -> Sorts
+    ensures { λ r. ⌜ fieldsOf r ≡ fields a b Unused Free ⌝ }
+{
+    Sorts {
+        a: a,
+        b: b,
+        c: FieldSort::Unused,
+        d: FieldSort::Free,
+    }
+}
+
+fn three(a: FieldSort, b: FieldSort, c: FieldSort) -> Sorts
+    ensures { λ r. ⌜ fieldsOf r ≡ fields a b c Unused ⌝ }
+{
+    Sorts {
+        a: a,
+        b: b,
+        c: c,
+        d: FieldSort::Unused,
+    }
+}
+
+fn two(a: FieldSort, b: FieldSort) -> Sorts
+    ensures { λ r. ⌜ fieldsOf r ≡ fields a b Unused Unused ⌝ }
+{
+    Sorts {
+        a: a,
+        b: b,
+        c: FieldSort::Unused,
+        d: FieldSort::Unused,
+    }
 }
 
 fn expression_sorts(k: ExpressionKind) -> Sorts
     ensures { λ r. ⌜ fieldsOf r ≡ expressionFields k ⌝ }
 {
     match k {
-        ExpressionKind::Constant => sorts_of(FieldSort::ConstantPart, FieldSort::Free, FieldSort::Unused, FieldSort::Free),
-        ExpressionKind::ValueAt => sorts_of(FieldSort::PathRow, FieldSort::Unused, FieldSort::Unused, FieldSort::Free),
-        ExpressionKind::Presence => sorts_of(FieldSort::PathRow, FieldSort::Unused, FieldSort::Unused, FieldSort::Free),
-        ExpressionKind::Not => sorts_of(FieldSort::EarlierRow, FieldSort::Unused, FieldSort::Unused, FieldSort::Free),
-        ExpressionKind::Negate => sorts_of(FieldSort::EarlierRow, FieldSort::Unused, FieldSort::Unused, FieldSort::Free),
-        ExpressionKind::Add => sorts_of(FieldSort::EarlierRow, FieldSort::EarlierRow, FieldSort::Unused, FieldSort::Free),
-        ExpressionKind::Subtract => sorts_of(FieldSort::EarlierRow, FieldSort::EarlierRow, FieldSort::Unused, FieldSort::Free),
-        ExpressionKind::Less => sorts_of(FieldSort::EarlierRow, FieldSort::EarlierRow, FieldSort::Unused, FieldSort::Free),
-        ExpressionKind::Equal => sorts_of(FieldSort::EarlierRow, FieldSort::EarlierRow, FieldSort::Unused, FieldSort::Free),
-        ExpressionKind::And => sorts_of(FieldSort::EarlierRow, FieldSort::EarlierRow, FieldSort::Unused, FieldSort::Free),
-        ExpressionKind::Unknown => sorts_of(FieldSort::Free, FieldSort::Free, FieldSort::Free, FieldSort::Free),
+        ExpressionKind::Constant => operands(FieldSort::ConstantPart, FieldSort::Free),
+        ExpressionKind::ValueAt => operands(FieldSort::PathRow, FieldSort::Unused),
+        ExpressionKind::Presence => operands(FieldSort::PathRow, FieldSort::Unused),
+        ExpressionKind::Not => operands(FieldSort::EarlierRow, FieldSort::Unused),
+        ExpressionKind::Negate => operands(FieldSort::EarlierRow, FieldSort::Unused),
+        ExpressionKind::Add => operands(FieldSort::EarlierRow, FieldSort::EarlierRow),
+        ExpressionKind::Subtract => operands(FieldSort::EarlierRow, FieldSort::EarlierRow),
+        ExpressionKind::Less => operands(FieldSort::EarlierRow, FieldSort::EarlierRow),
+        ExpressionKind::Equal => operands(FieldSort::EarlierRow, FieldSort::EarlierRow),
+        ExpressionKind::And => operands(FieldSort::EarlierRow, FieldSort::EarlierRow),
+        ExpressionKind::Unknown => sorts_of(
+            FieldSort::Free,
+            FieldSort::Free,
+            FieldSort::Free,
+            FieldSort::Free,
+        ),
     }
 }
 
@@ -56,32 +99,54 @@ pub fn behaviour_sorts(k: BehaviourKind) -> Sorts
     ensures { λ r. ⌜ fieldsOf r ≡ behaviourFields k ⌝ }
 {
     match k {
-        BehaviourKind::Nil => sorts_of(FieldSort::Unused, FieldSort::Unused, FieldSort::Unused, FieldSort::Unused),
-        BehaviourKind::OneWay => sorts_of(FieldSort::OperationRow, FieldSort::PathRow, FieldSort::Unused, FieldSort::Unused),
-        BehaviourKind::RequestResponse => sorts_of(FieldSort::OperationRow, FieldSort::PathRow, FieldSort::PathRow, FieldSort::LaterRow),
-        BehaviourKind::Notification => sorts_of(FieldSort::OperationRow, FieldSort::ExpressionRow, FieldSort::Unused, FieldSort::Unused),
-        BehaviourKind::SolicitResponse => sorts_of(FieldSort::OperationRow, FieldSort::ExpressionRow, FieldSort::PathRow, FieldSort::Unused),
-        BehaviourKind::If => sorts_of(FieldSort::ExpressionRow, FieldSort::LaterRow, FieldSort::LaterRow, FieldSort::Unused),
-        BehaviourKind::While => sorts_of(FieldSort::ExpressionRow, FieldSort::LaterRow, FieldSort::Unused, FieldSort::Unused),
-        BehaviourKind::Sequence => sorts_of(FieldSort::LaterRow, FieldSort::LaterRow, FieldSort::Unused, FieldSort::Unused),
-        BehaviourKind::Parallel => sorts_of(FieldSort::LaterRow, FieldSort::LaterRow, FieldSort::Unused, FieldSort::Unused),
-        BehaviourKind::Assign => sorts_of(FieldSort::PathRow, FieldSort::ExpressionRow, FieldSort::Unused, FieldSort::Unused),
-        BehaviourKind::Choice => sorts_of(FieldSort::BranchRun, FieldSort::BranchCount, FieldSort::Unused, FieldSort::Unused),
-        BehaviourKind::Branch => sorts_of(FieldSort::InputRow, FieldSort::LaterRow, FieldSort::Unused, FieldSort::Unused),
-        BehaviourKind::Unknown => sorts_of(FieldSort::Free, FieldSort::Free, FieldSort::Free, FieldSort::Free),
+        BehaviourKind::Nil => two(FieldSort::Unused, FieldSort::Unused),
+        BehaviourKind::OneWay => two(FieldSort::OperationRow, FieldSort::PathRow),
+        BehaviourKind::RequestResponse => sorts_of(
+            FieldSort::OperationRow,
+            FieldSort::PathRow,
+            FieldSort::PathRow,
+            FieldSort::LaterRow,
+        ),
+        BehaviourKind::Notification => two(FieldSort::OperationRow, FieldSort::ExpressionRow),
+        BehaviourKind::SolicitResponse => {
+            three(
+                FieldSort::OperationRow,
+                FieldSort::ExpressionRow,
+                FieldSort::PathRow,
+            )
+        }
+        BehaviourKind::If => three(
+            FieldSort::ExpressionRow,
+            FieldSort::LaterRow,
+            FieldSort::LaterRow,
+        ),
+        BehaviourKind::While => two(FieldSort::ExpressionRow, FieldSort::LaterRow),
+        BehaviourKind::Sequence => two(FieldSort::LaterRow, FieldSort::LaterRow),
+        BehaviourKind::Parallel => two(FieldSort::LaterRow, FieldSort::LaterRow),
+        BehaviourKind::Assign => two(FieldSort::PathRow, FieldSort::ExpressionRow),
+        BehaviourKind::Choice => two(FieldSort::BranchRun, FieldSort::BranchCount),
+        BehaviourKind::Branch => two(FieldSort::InputRow, FieldSort::LaterRow),
+        BehaviourKind::Unknown => sorts_of(
+            FieldSort::Free,
+            FieldSort::Free,
+            FieldSort::Free,
+            FieldSort::Free,
+        ),
     }
 }
 
 fn sub_fits(s: &[u8], r: u16, v: u16) -> bool
     ensures { λ t. ⌜ t ≡ subFits (now (s .entry)) r v ⌝ }
 {
-    both(both(r < v, v < layout::behaviour_count(s)), !rows::is_branch(rows::kind_at(s, v)))
+    let later = both(r < v, v < layout::behaviour_count(s));
+    both(later, !rows::is_branch(rows::kind_at(s, v)))
 }
 
 fn input_fits(s: &[u8], r: u16, v: u16) -> bool
     ensures { λ t. ⌜ t ≡ inputFits (now (s .entry)) r v ⌝ }
 {
-    both(both(r < v, v < layout::behaviour_count(s)), rows::is_input(rows::kind_at(s, v)))
+    let later = both(r < v, v < layout::behaviour_count(s));
+    both(later, rows::is_input(rows::kind_at(s, v)))
 }
 
 // Are the bytes from `at` on, n of them as far as there are so many, a value of the basic type?
@@ -96,8 +161,10 @@ fn value_at(s: &[u8], at: usize, basic: u8, n: usize) -> bool
 fn constant_fits(s: &[u8], basic: u8, v: u16, n: u16) -> bool
     ensures { λ t. ⌜ t ≡ constantFits (now (s .entry)) basic v n ⌝ }
 {
-    let inside = wire::index(v) + wire::index(n) <= wire::index(layout::data_size(s));
-    both(inside, value_at(s, layout::data_start(s) + wire::index(v), basic, wire::index(n)))
+    let end = wire::index(v) + wire::index(n);
+    let at = layout::data_start(s) + wire::index(v);
+    let value = value_at(s, at, basic, wire::index(n));
+    both(end <= wire::index(layout::data_size(s)), value)
 }
 
 fn field_fits(s: &[u8], r: u16, basic: u8, q: FieldSort, v: u16, w: u16) -> bool
@@ -119,16 +186,25 @@ fn field_fits(s: &[u8], r: u16, basic: u8, q: FieldSort, v: u16, w: u16) -> bool
 }
 
 // The rules of fields a, b, c of row r, which are of these sorts and stand from `at` + 2 on.
-fn sorts_rule(s: &[u8], r: u16, basic: u8, qa: FieldSort, qb: FieldSort, qc: FieldSort, at: usize, others: Broken) -> Broken
+fn sorts_rule(
+    s: &[u8],
+    r: u16,
+    basic: u8,
+    qa: FieldSort,
+    qb: FieldSort,
+    qc: FieldSort,
+    at: usize,
+    others: Broken,
+) -> Broken
     requires { ⌜ at < 1000000 ⌝ }
     ensures { λ m. ⌜ m ≡ fieldsRule (now (s .entry)) r basic (fields qa qb qc qc) at others ⌝ }
 {
     let a = wire::u16_at(s, at + 2);
     let b = wire::u16_at(s, at + 4);
     let c = wire::u16_at(s, at + 6);
-    rule(field_fits(s, r, basic, qa, a, b), at + 2,
-    rule(field_fits(s, r, basic, qb, b, c), at + 4,
-    rule(field_fits(s, r, basic, qc, c, 0), at + 6, others)))
+    let m = rule(field_fits(s, r, basic, qc, c, 0), at + 6, others);
+    let m = rule(field_fits(s, r, basic, qb, b, c), at + 4, m);
+    rule(field_fits(s, r, basic, qa, a, b), at + 2, m)
 }
 
 fn fields_rule(s: &[u8], r: u16, basic: u8, q: Sorts, at: usize, others: Broken) -> Broken
@@ -165,9 +241,9 @@ fn expression_rule(s: &[u8], r: u16) -> Broken
     let at = layout::expression_at(s, r);
     let k = rows::expression_kind_at(s, r);
     let basic = wire::byte_at(s, at + 1);
-    rule(wire::byte_at(s, at) <= 9, at,
-    rule(basic_fits(k, basic), at + 1,
-    fields_rule(s, r, basic, expression_sorts(k), at, Broken::Nowhere)))
+    let m = fields_rule(s, r, basic, expression_sorts(k), at, Broken::Nowhere);
+    let m = rule(basic_fits(k, basic), at + 1, m);
+    rule(wire::byte_at(s, at) <= 9, at, m)
 }
 
 pub fn expression_rows(s: &[u8]) -> Broken
@@ -187,8 +263,8 @@ fn behaviour_head(s: &[u8], at: usize, others: Broken) -> Broken
     requires { ⌜ at < 1000000 ⌝ }
     ensures { λ m. ⌜ m ≡ behaviourHead (now (s .entry)) at others ⌝ }
 {
-    rule(wire::byte_at(s, at) <= 11, at,
-    rule(wire::byte_at(s, at + 1) == 0, at + 1, others))
+    let m = rule(wire::byte_at(s, at + 1) == 0, at + 1, others);
+    rule(wire::byte_at(s, at) <= 11, at, m)
 }
 
 fn branch_rule(s: &[u8], at: usize, j: u16) -> Broken
@@ -196,7 +272,8 @@ fn branch_rule(s: &[u8], at: usize, j: u16) -> Broken
     ensures { λ m. ⌜ m ≡ branchRule (now (s .entry)) at j ⌝ }
 {
     let inside = rules::in_run(wire::u16_at(s, at + 2), wire::u16_at(s, at + 4), j);
-    rule(either(!inside, rows::is_branch(rows::kind_at(s, j))), at + 2, Broken::Nowhere)
+    let holds = either(!inside, rows::is_branch(rows::kind_at(s, j)));
+    rule(holds, at + 2, Broken::Nowhere)
 }
 
 fn branch_rows(s: &[u8], at: usize) -> Broken
@@ -233,7 +310,8 @@ fn last_rule(s: &[u8], r: u16, q: Sorts, at: usize, others: Broken) -> Broken
     ensures { λ m. ⌜ m ≡ rule (fieldFits (now (s .entry)) r 0 (fieldsOf q .d) (fieldD (now (s .entry)) at) 0) (at + 8) others ⌝ }
 {
     let qd = q.d;
-    rule(field_fits(s, r, 0, qd, wire::u16_at(s, at + 8), 0), at + 8, others)
+    let holds = field_fits(s, r, 0, qd, wire::u16_at(s, at + 8), 0);
+    rule(holds, at + 8, others)
 }
 
 fn behaviour_rule(s: &[u8], r: u16) -> Broken
@@ -241,7 +319,10 @@ fn behaviour_rule(s: &[u8], r: u16) -> Broken
 {
     let at = layout::behaviour_at(s, r);
     let q = behaviour_sorts(rows::kind_at(s, r));
-    behaviour_head(s, at, fields_rule(s, r, 0, q, at, last_rule(s, r, q, at, choice_run(s, r))))
+    let m = choice_run(s, r);
+    let m = last_rule(s, r, q, at, m);
+    let m = fields_rule(s, r, 0, q, at, m);
+    behaviour_head(s, at, m)
 }
 
 pub fn behaviour_rows(s: &[u8]) -> Broken

@@ -45,6 +45,7 @@ module _ {A : Type 0} where
       go2 (lt h) e = refl
       go2 (eq h) e = absurd (d (h ∙ sym e))
       go2 (gt h) e = refl
+
       go : (c : Compare j l) (c2 : Compare i j) → find i (set j (tree a k) r) ≡ find i r → find i (setBy c (tree a k) b k2 r (set j (tree a k) r)) ≡ find i (node l b k2 r)
       go (lt h) (lt h2) ih = find-lt (compare i j) h2 (tree a k) (find i (node l b k2 r)) ∙ sym (find-lt (compare i l) (omega arith) (tree b k2) (find i r))
       go (lt h) (eq h2) ih = absurd (d h2)
@@ -59,7 +60,7 @@ module _ {A : Type 0} where
   set-same i (tree a k) (node j b k2 r) e = go (compare i j) e (set-same i (tree a k) r)
     where
       go : (c : Compare i j) → findBy c (tree b k2) (find i r) ≡ present (tree a k) → (find i r ≡ present (tree a k) → set i (tree a k) r ≡ r)
-         → setBy c (tree a k) b k2 r (set i (tree a k) r) ≡ node j b k2 r
+          → setBy c (tree a k) b k2 r (set i (tree a k) r) ≡ node j b k2 r
       go (lt h) e ih = absurd (let z : _≡_ {A = ℕ} 0 1 = cc in omega arith)
       go (eq h) e ih = cc
       go (gt h) e ih = ap (node j b k2) (ih e)
@@ -103,23 +104,23 @@ module _ {A : Type 0} where
   unfolding find Rising
   forest-ext end end hf hg e = refl
   forest-ext end (node j b l s) hf hg e =
-    let p = e j in let q = find-eq (compare j j) refl (tree b l) (find j s) in
-    absurd (let z : _≡_ {A = ℕ} 0 1 = cc in omega arith)
+      let p = e j in let q = find-eq (compare j j) refl (tree b l) (find j s) in
+      absurd (let z : _≡_ {A = ℕ} 0 1 = cc in omega arith)
   forest-ext (node j b l s) end hf hg e =
-    let p = e j in let q = find-eq (compare j j) refl (tree b l) (find j s) in
-    absurd (let z : _≡_ {A = ℕ} 0 1 = cc in omega arith)
+      let p = e j in let q = find-eq (compare j j) refl (tree b l) (find j s) in
+      absurd (let z : _≡_ {A = ℕ} 0 1 = cc in omega arith)
   forest-ext (node i a k r) (node j b l s) hf hg e = go (compare i j) (forest-ext r s (hf .2) (hg .2))
     where
       go : Compare i j → (((x : ℕ) → find x r ≡ find x s) → r ≡ s) → node i a k r ≡ node j b l s
       go (lt h) ih =
-        let p = e i in let q = find-eq (compare i i) refl (tree a k) (find i r) in let q2 = find-lt (compare i j) h (tree b l) (find i s) in
-        absurd (let z : _≡_ {A = ℕ} 0 1 = cc in omega arith)
+          let p = e i in let q = find-eq (compare i i) refl (tree a k) (find i r) in let q2 = find-lt (compare i j) h (tree b l) (find i s) in
+          absurd (let z : _≡_ {A = ℕ} 0 1 = cc in omega arith)
       go (gt h) ih =
-        let p = e j in let q = find-eq (compare j j) refl (tree b l) (find j s) in let q2 = find-lt (compare j i) h (tree a k) (find j r) in
-        absurd (let z : _≡_ {A = ℕ} 0 1 = cc in omega arith)
+          let p = e j in let q = find-eq (compare j j) refl (tree b l) (find j s) in let q2 = find-lt (compare j i) h (tree a k) (find j r) in
+          absurd (let z : _≡_ {A = ℕ} 0 1 = cc in omega arith)
       go (eq h) ih =
-        let p = e i in let q = find-eq (compare i i) refl (tree a k) (find i r) in let q2 = find-eq (compare i j) h (tree b l) (find i s) in
-        let tl : r ≡ s = ih (λ x. tail x (compare x i)) in cc
+          let p = e i in let q = find-eq (compare i i) refl (tree a k) (find i r) in let q2 = find-eq (compare i j) h (tree b l) (find i s) in
+          let tl : r ≡ s = ih (λ x. tail x (compare x i)) in cc
         where
           tail : (x : ℕ) → Compare x i → find x r ≡ find x s
           tail x (lt h2) = find-above x i r (hf .0) (omega arith) ∙ sym (find-above x j s (hg .0) (omega arith))
@@ -147,7 +148,7 @@ module _ {A B : Type 0} (f : A → B) where
   map-set i (tree a k) (node j b k2 r) = go (compare i j) (map-set i (tree a k) r)
     where
       go : (c : Compare i j) → mapForest f (set i (tree a k) r) ≡ set i (mapTree f (tree a k)) (mapForest f r)
-         → mapForest f (setBy c (tree a k) b k2 r (set i (tree a k) r)) ≡ setBy c (tree (f a) (mapForest f k)) (f b) (mapForest f k2) (mapForest f r) (set i (tree (f a) (mapForest f k)) (mapForest f r))
+          → mapForest f (setBy c (tree a k) b k2 r (set i (tree a k) r)) ≡ setBy c (tree (f a) (mapForest f k)) (f b) (mapForest f k2) (mapForest f r) (set i (tree (f a) (mapForest f k)) (mapForest f r))
       go (lt h) ih = refl
       go (eq h) ih = refl
       go (gt h) ih = ap (node j (f b) (mapForest f k2)) ih

@@ -417,7 +417,8 @@ pub record Leveling (s : List ℕ) (n i : ℕ) (m : Broken) (l : List ℕ) : Typ
 pub levels-begin : (s : List ℕ) (n : ℕ) (l : List ℕ) → length l ≡ 256 → Leveling s n 0 Nowhere l
 levels-begin s n l e = record {
   swept = swept-none (expressionLarge s) n;
-  levels = record { room = omega arith; says = λ j k. absurd (omega arith) } }
+  levels = record { room = omega arith; says = λ j k. absurd (omega arith) };
+}
 
 large-is : (s : List ℕ) (i v at : ℕ) (x : Broken) → Says s i v → at ≡ expressionAt s i → x ≡ rule (leb v 8) at Nowhere → x ≡ expressionLarge s i
 unfolding expressionLarge
@@ -426,12 +427,15 @@ large-is s i v at x f e p = p ∙ rw (e, sym (f 8 (omega arith))) refl
 set-says : (s : List ℕ) (i v : ℕ) (l : List ℕ) → Levels s i l → i < 256 → Says s i v → Levels s (i + 1) (set l i v)
 set-says s i v l w h f = record {
   room = rw (length-set l i v) (w .room);
-  says = λ j k. ⊎-elim (λ q. same j q) (λ q. other j q) (eq-or-lt-of-le (below j k)) }
+  says = λ j k. ⊎-elim (λ q. same j q) (λ q. other j q) (eq-or-lt-of-le (below j k));
+}
   where
     below : (j : ℕ) → j < i + 1 → j ≤ i
     below j k = omega arith
+
     same : (j : ℕ) → j ≡ i → Says s j (getD (set l i v) j 0)
     same j q = rw (q, getD-set-same l i v 0 (omega (arith, w .room))) f
+
     other : (j : ℕ) → j < i → Says s j (getD (set l i v) j 0)
     other j q = rw (getD-set-other l i j v 0 (λ e. omega arith)) (w .says j q)
 
@@ -443,7 +447,8 @@ levels-more s n i v a at m x r l o c w h e d g p q =
     let f : Says s i v = rw e (row-says s l i k (omega (arith, o .few)) (w .levels)) in
     record {
       swept = swept-more (expressionLarge s) n i m x r (w .swept) h (large-is s i v at x f g p) q;
-      levels = rw d (set-says s i v l (w .levels) (omega (arith, o .few)) f) }
+      levels = rw d (set-says s i v l (w .levels) (omega (arith, o .few)) f);
+    }
 
 pub levels-done : (s : List ℕ) (n i : ℕ) (m : Broken) (l : List ℕ) → n ≡ expressionCount s → Leveling s n i m l → n ≤ i → m ≡ expressionSizes s
 unfolding expressionSizes

@@ -6,7 +6,6 @@ ghost use Rattle.network.specs.Rows.{firstChild, childCount};
 ghost use Rattle.network.specs.Sizes.{typeWithin, typeLarge, typeSizes, expressionSizes, large};
 ghost use Rattle.network.specs.Form.{formOf};
 ghost use Rattle.form.specs.Walk.{spent, larger, levelAbove, levelAt, levelBy, rowLevel, Operands};
-
 use layout::least;
 use layout::rule;
 use network::Broken;
@@ -155,7 +154,8 @@ fn expression_sizes(s: &[u8]) -> Broken
         let level = row_level(s, &levels, i);
         let at = wire::index(i);
         levels[at] = level;
-        m = least(m, rule(level <= 8, layout::expression_at(s, i), Broken::Nowhere));
+        let x = rule(level <= 8, layout::expression_at(s, i), Broken::Nowhere);
+        m = least(m, x);
         i += 1;
     }
     m

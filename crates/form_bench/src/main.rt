@@ -3,15 +3,15 @@
 use libc::STDOUT_FILENO;
 use refusal::Verdict;
 
+fn wide(x: u8) -> u64 {
+    x as u64
+}
+
 fn number(v: Verdict) -> u64 {
     match v {
         Verdict::Done => 0,
         Verdict::Refused(why) => wide(refusal::number_of(why)),
     }
-}
-
-fn wide(x: u8) -> u64 {
-    x as u64
 }
 
 fn touch(s: &mut [u8], value: u8) {

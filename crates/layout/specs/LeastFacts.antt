@@ -76,13 +76,13 @@ min-group : (p q r : ℕ) → min p (min q r) ≡ min (min p q) r
 min-group p q r =
     ⊎-elim
     (λ h. ⊎-elim
-        (λ k. ap (min p) (min-left q r k) ∙ min-left p q h ∙ sym (ap (λ (x : ℕ). min x r) (min-left p q h) ∙ min-left p r (omega arith)))
-        (λ k. ap (min p) (min-right q r k) ∙ sym (ap (λ (x : ℕ). min x r) (min-left p q h)))
-        (either-way q r))
+    (λ k. ap (min p) (min-left q r k) ∙ min-left p q h ∙ sym (ap (λ (x : ℕ). min x r) (min-left p q h) ∙ min-left p r (omega arith)))
+    (λ k. ap (min p) (min-right q r k) ∙ sym (ap (λ (x : ℕ). min x r) (min-left p q h)))
+    (either-way q r))
     (λ h. ⊎-elim
-        (λ k. ap (min p) (min-left q r k) ∙ min-right p q h ∙ sym (ap (λ (x : ℕ). min x r) (min-right p q h) ∙ min-left q r k))
-        (λ k. ap (min p) (min-right q r k) ∙ min-right p r (omega arith) ∙ sym (ap (λ (x : ℕ). min x r) (min-right p q h) ∙ min-right q r k))
-        (either-way q r))
+    (λ k. ap (min p) (min-left q r k) ∙ min-right p q h ∙ sym (ap (λ (x : ℕ). min x r) (min-right p q h) ∙ min-left q r k))
+    (λ k. ap (min p) (min-right q r k) ∙ min-right p r (omega arith) ∙ sym (ap (λ (x : ℕ). min x r) (min-right p q h) ∙ min-right q r k))
+    (either-way q r))
     (either-way p q)
 
 pub least-swap : (a b : Broken) → least a b ≡ least b a

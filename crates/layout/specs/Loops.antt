@@ -69,7 +69,8 @@ run-none f first n size from to only p q =
     let b : clip first size ≤ first = clip-below first size .0 in
     record {
       within = omega arith;
-      sofar = sym (over-nothing f from (λ j l. only j (before-run first n j (omega arith)))) }
+      sofar = sym (over-nothing f from (λ j l. only j (before-run first n j (omega arith))));
+    }
 
 past-run : (first n size j : ℕ) → clip (first + n) size ≤ j → j < size → inRun first n j ≡ false
 past-run first n size j h l = after-run first n j (go (ltb (first + n) size) refl h)

@@ -9,7 +9,6 @@ ghost use Rattle.network.specs.Least.{least, rule};
 ghost use Rattle.network.specs.Layout.{trailer, start, count, pathCount, typeCount, expressionCount, behaviourCount, operationCount, serviceCount, dataSize};
 ghost use Rattle.network.specs.Layout.{pathAt, typeAt, expressionAt, behaviourAt, operationAt, serviceAt};
 ghost use Rattle.network.specs.Layout.{T, E, O, S, D, lengthFits, sectionsFollow, endsFit, laidOut, counted};
-
 use network::Broken;
 
 // Both sides are worked out, so that a test made of tests has no branch.
@@ -198,7 +197,8 @@ fn last_follow(s: &[u8]) -> bool
     let b = behaviour_at(s, behaviour_count(s));
     let o = operation_at(s, operation_count(s));
     let v = service_at(s, service_count(s));
-    both(start(s, 4) == b, both(start(s, 5) == o, start(s, 6) == v))
+    let last = both(start(s, 5) == o, start(s, 6) == v);
+    both(start(s, 4) == b, last)
 }
 
 // T and E do too, and so do the others.
@@ -208,7 +208,8 @@ fn first_follow(s: &[u8], others: bool) -> bool
 {
     let p = path_at(s, path_count(s));
     let t = type_at(s, type_count(s));
-    both(start(s, 1) == p, both(start(s, 2) == t, others))
+    let rest = both(start(s, 2) == t, others);
+    both(start(s, 1) == p, rest)
 }
 
 fn sections_follow(s: &[u8]) -> bool
@@ -221,7 +222,8 @@ fn sections_follow(s: &[u8]) -> bool
 fn ends_fit(s: &[u8]) -> bool
     ensures { λ t. ⌜ t ≡ endsFit (now (s .entry)) ⌝ }
 {
-    both(start(s, 0) == 0, trailer(s) == data_start(s) + wire::index(data_size(s)))
+    let end = data_start(s) + wire::index(data_size(s));
+    both(start(s, 0) == 0, trailer(s) == end)
 }
 
 // Refusal 2: does the file keep to it?
@@ -236,6 +238,10 @@ pub fn counted(s: &[u8]) -> bool
     ensures { λ t. ⌜ t ≡ counted (now (s .entry)) ⌝ }
 {
     let n = service_count(s);
-    both(path_count(s) <= 256, both(type_count(s) <= 256, both(expression_count(s) <= 256, both(behaviour_count(s) <= 256,
-    both(operation_count(s) <= 64, both(1 <= n, n <= 4))))))
+    let few = both(1 <= n, n <= 4);
+    let few = both(operation_count(s) <= 64, few);
+    let few = both(behaviour_count(s) <= 256, few);
+    let few = both(expression_count(s) <= 256, few);
+    let few = both(type_count(s) <= 256, few);
+    both(path_count(s) <= 256, few)
 }

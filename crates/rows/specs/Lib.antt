@@ -1,1 +1,3 @@
 pub mod Readers
+pub mod RowSyntax
+pub mod RowSyntaxLaws

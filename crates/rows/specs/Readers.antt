@@ -1,7 +1,7 @@
 -- Whole rows by value: what a reader of one row gives, over network's field definitions. 01, Network file, the items P to S. A row
 -- out of range reads as what stands there.
 use Prim.Native.Nat.{ℕ, _+_}
-use mathlib.Core.List.{List}
+use mathlib.Core.List.{List, [], _∷_}
 use lib.Dec.{eqb}
 use Rattle.scalar.specs.Value.{pick}
 use Rattle.wire.specs.Wire.{byteAt, u16At}
@@ -9,7 +9,6 @@ use Rattle.network.specs.declared.ExpressionKind.{ExpressionKind}
 use Rattle.network.specs.declared.BehaviourKind.{BehaviourKind}
 use Rattle.network.specs.Layout.{pathAt, expressionAt, behaviourAt}
 use Rattle.network.specs.Rows.{typeId, cardinality, typeBasic, firstChild, childCount, fieldA, fieldB, fieldC, fieldD, expressionKindAt, kindAt, operationService, operationDirection, operationTwoWay, operationId, operationLocation, requestType, replyType, serviceLocation, starterRow, clientRow, noRow}
-use Rattle.rows.specs.declared.PathIds.{PathIds}
 use Rattle.rows.specs.declared.TypeNode.{TypeNode}
 use Rattle.rows.specs.declared.ExpressionRow.{ExpressionRow}
 use Rattle.rows.specs.declared.BehaviourRow.{BehaviourRow}
@@ -18,21 +17,18 @@ use Rattle.rows.specs.declared.Link.{Link}
 use Rattle.rows.specs.declared.ServiceRow.{ServiceRow}
 
 -- P: "four u16 ids".
-unfoldable pub pathIds : List ℕ → ℕ → PathIds
-pathIds s r = record {
-    a = u16At s (pathAt s r);
-    b = u16At s (pathAt s r + 2);
-    c = u16At s (pathAt s r + 4);
-    d = u16At s (pathAt s r + 6) }
+unfoldable pub pathIds : List ℕ → ℕ → List ℕ
+pathIds s r = u16At s (pathAt s r) ∷ u16At s (pathAt s r + 2) ∷ u16At s (pathAt s r + 4) ∷ u16At s (pathAt s r + 6) ∷ []
 
 -- T: "id u16, cardinality u8 (.. 1 is [1,1]), basic u8 .., first child u16, child count u16".
 unfoldable pub typeNodeOf : List ℕ → ℕ → TypeNode
 typeNodeOf s r = record {
-    id = typeId s r;
-    mandatory = eqb (cardinality s r) 1;
-    basic = typeBasic s r;
-    first = firstChild s r;
-    count = childCount s r }
+  id = typeId s r;
+  mandatory = eqb (cardinality s r) 1;
+  basic = typeBasic s r;
+  first = firstChild s r;
+  count = childCount s r;
+}
 
 -- E: "0 constant (basic; a start in D, b length), 1 path a, 2 is path a present, 3 not, 4 negate, 5 add, 6 subtract, 7 less, 8 equal,
 -- 9 and. Operands a, b are earlier rows."
@@ -78,13 +74,14 @@ behaviourRowOf s r =
 -- O: "service row u8, direction u8 (0 in, 1 out), two-way u8 (0, 1), 0, id u16, location u16 .., request type u16, reply type u16".
 unfoldable pub operationRowOf : List ℕ → ℕ → OperationRow
 operationRowOf s r = record {
-    service = operationService s r;
-    input = eqb (operationDirection s r) 0;
-    twoway = eqb (operationTwoWay s r) 1;
-    id = operationId s r;
-    location = operationLocation s r;
-    request = requestType s r;
-    reply = replyType s r }
+  service = operationService s r;
+  input = eqb (operationDirection s r) 0;
+  twoway = eqb (operationTwoWay s r) 1;
+  id = operationId s r;
+  location = operationLocation s r;
+  request = requestType s r;
+  reply = replyType s r;
+}
 
 -- S: "starter row (a choice), client row, 65535 for none".
 unfoldable pub linkOf : ℕ → Link
@@ -92,6 +89,7 @@ linkOf v = pick (eqb v noRow) Link.Nothing (Link.Row v)
 
 unfoldable pub serviceRowOf : List ℕ → ℕ → ServiceRow
 serviceRowOf s r = record {
-    location = serviceLocation s r;
-    starter = linkOf (starterRow s r);
-    client = linkOf (clientRow s r) }
+  location = serviceLocation s r;
+  starter = linkOf (starterRow s r);
+  client = linkOf (clientRow s r);
+}

@@ -7,17 +7,8 @@ ghost use Rattle.network.specs.Rows.{isBranch, isChoice, isInput, typeId, cardi
 ghost use Rattle.network.specs.Rows.{operationService, operationDirection, operationTwoWay, operationId, operationLocation, requestType, replyType};
 ghost use Rattle.network.specs.Rows.{serviceLocation, starterRow, clientRow};
 ghost use Rattle.rows.specs.Readers.{pathIds, typeNodeOf, expressionRowAs, expressionRowOf, behaviourRowAs, behaviourRowOf, operationRowOf, linkOf, serviceRowOf};
-
 use network::BehaviourKind;
 use network::ExpressionKind;
-
-// A path's four ids.
-pub struct PathIds {
-    pub a: u16,
-    pub b: u16,
-    pub c: u16,
-    pub d: u16,
-}
 
 // A T row: its children are the `count` rows from `first` on.
 pub struct TypeNode {
@@ -284,17 +275,28 @@ pub fn client_row(s: &[u8], r: u16) -> u16
     wire::u16_at(s, layout::service_at(s, r) + 4)
 }
 
-pub fn path_row(s: &[u8], r: u16) -> PathIds
+// A path's four ids.
+pub fn path_row(s: &[u8], r: u16) -> [u16; 4]
     ensures { λ x. ⌜ x ≡ pathIds (now (s .entry)) r ⌝ }
 {
     let at = layout::path_at(s, r);
-    PathIds { a: wire::u16_at(s, at), b: wire::u16_at(s, at + 2), c: wire::u16_at(s, at + 4), d: wire::u16_at(s, at + 6) }
+    let a = wire::u16_at(s, at);
+    let b = wire::u16_at(s, at + 2);
+    let c = wire::u16_at(s, at + 4);
+    let d = wire::u16_at(s, at + 6);
+    [a, b, c, d]
 }
 
 pub fn type_row(s: &[u8], r: u16) -> TypeNode
     ensures { λ x. ⌜ x ≡ typeNodeOf (now (s .entry)) r ⌝ }
 {
-    TypeNode { id: type_id(s, r), mandatory: cardinality(s, r) == 1, basic: type_basic(s, r), first: first_child(s, r), count: child_count(s, r) }
+    TypeNode {
+        id: type_id(s, r),
+        mandatory: cardinality(s, r) == 1,
+        basic: type_basic(s, r),
+        first: first_child(s, r),
+        count: child_count(s, r),
+    }
 }
 
 fn expression_as(kind: u8, basic: u8, a: u16, b: u16) -> ExpressionRow
@@ -319,7 +321,10 @@ pub fn expression_row(s: &[u8], r: u16) -> ExpressionRow
     ensures { λ x. ⌜ x ≡ expressionRowOf (now (s .entry)) r ⌝ }
 {
     let at = layout::expression_at(s, r);
-    expression_as(wire::byte_at(s, at), wire::byte_at(s, at + 1), wire::u16_at(s, at + 2), wire::u16_at(s, at + 4))
+    let basic = wire::byte_at(s, at + 1);
+    let a = wire::u16_at(s, at + 2);
+    let b = wire::u16_at(s, at + 4);
+    expression_as(wire::byte_at(s, at), basic, a, b)
 }
 
 fn behaviour_as(kind: u8, a: u16, b: u16, c: u16, d: u16) -> BehaviourRow
@@ -346,7 +351,11 @@ pub fn behaviour_row(s: &[u8], r: u16) -> BehaviourRow
     ensures { λ x. ⌜ x ≡ behaviourRowOf (now (s .entry)) r ⌝ }
 {
     let at = layout::behaviour_at(s, r);
-    behaviour_as(wire::byte_at(s, at), wire::u16_at(s, at + 2), wire::u16_at(s, at + 4), wire::u16_at(s, at + 6), wire::u16_at(s, at + 8))
+    let a = wire::u16_at(s, at + 2);
+    let b = wire::u16_at(s, at + 4);
+    let c = wire::u16_at(s, at + 6);
+    let d = wire::u16_at(s, at + 8);
+    behaviour_as(wire::byte_at(s, at), a, b, c, d)
 }
 
 pub fn operation_row(s: &[u8], r: u16) -> OperationRow
@@ -377,5 +386,9 @@ pub fn service_row(s: &[u8], r: u16) -> ServiceRow
 {
     let starter = link_as(starter_row(s, r));
     let client = link_as(client_row(s, r));
-    ServiceRow { location: service_location(s, r), starter: starter, client: client }
+    ServiceRow {
+        location: service_location(s, r),
+        starter: starter,
+        client: client,
+    }
 }

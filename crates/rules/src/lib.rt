@@ -9,7 +9,6 @@ ghost use Rattle.network.specs.Layout.{operationAt, serviceCount};
 ghost use Rattle.network.specs.Rows.{inRun, pathRow, laterRun, childrenFit, idBefore, childRule, childIds, typeRow};
 ghost use Rattle.network.specs.Rows.{operationService, operationDirection, operationTwoWay, rootFits, locationFits, replyFits, sameService, sameName, repeatRule, operationFields, operationLinks, operationRow};
 ghost use Rattle.network.specs.Rows.{starterFits, clientFits, locationRule, serviceRow, pathRows, typeRows, operationRows, serviceRows};
-
 use layout::both;
 use layout::either;
 use layout::least;
@@ -24,10 +23,10 @@ fn path_rule(s: &[u8], r: u16) -> Broken
     let b = wire::u16_at(s, at + 2);
     let c = wire::u16_at(s, at + 4);
     let d = wire::u16_at(s, at + 6);
-    rule(a != 0, at,
-    rule(either(a != 0, b == 0), at + 2,
-    rule(either(b != 0, c == 0), at + 4,
-    rule(either(c != 0, d == 0), at + 6, Broken::Nowhere))))
+    let m = rule(either(c != 0, d == 0), at + 6, Broken::Nowhere);
+    let m = rule(either(b != 0, c == 0), at + 4, m);
+    let m = rule(either(a != 0, b == 0), at + 2, m);
+    rule(a != 0, at, m)
 }
 
 pub fn path_rows(s: &[u8]) -> Broken
@@ -47,14 +46,16 @@ pub fn path_rows(s: &[u8]) -> Broken
 pub fn in_run(first: u16, n: u16, j: u16) -> bool
     ensures { λ r. ⌜ r ≡ inRun first n j ⌝ }
 {
-    both(first <= j, wire::index(j) < wire::index(first) + wire::index(n))
+    let end = wire::index(first) + wire::index(n);
+    both(first <= j, wire::index(j) < end)
 }
 
 // Are the n rows from `first` on later than r, and below `size`?
 pub fn later_run(size: u16, r: u16, first: u16, n: u16) -> bool
     ensures { λ t. ⌜ t ≡ laterRun size r first n ⌝ }
 {
-    both(r < first, wire::index(first) + wire::index(n) <= wire::index(size))
+    let end = wire::index(first) + wire::index(n);
+    both(r < first, end <= wire::index(size))
 }
 
 fn children_fit(s: &[u8], r: u16, first: u16, n: u16) -> bool
@@ -89,7 +90,8 @@ fn child_rule(s: &[u8], first: u16, n: u16, j: u16) -> Broken
     ensures { λ m. ⌜ m ≡ childRule (now (s .entry)) first n j ⌝ }
 {
     let rises = id_before(s, first, j) < rows::type_id(s, j);
-    rule(either(!in_run(first, n, j), rises), layout::type_at(s, j), Broken::Nowhere)
+    let holds = either(!in_run(first, n, j), rises);
+    rule(holds, layout::type_at(s, j), Broken::Nowhere)
 }
 
 fn child_ids(s: &[u8], first: u16, n: u16) -> Broken
@@ -112,9 +114,10 @@ fn type_rule(s: &[u8], r: u16) -> Broken
     let at = layout::type_at(s, r);
     let first = rows::first_child(s, r);
     let n = rows::child_count(s, r);
-    rule(rows::cardinality(s, r) <= 1, at + 2,
-    rule(rows::type_basic(s, r) <= 6, at + 3,
-    rule(children_fit(s, r, first, n), at + 4, child_ids(s, first, n))))
+    let m = child_ids(s, first, n);
+    let m = rule(children_fit(s, r, first, n), at + 4, m);
+    let m = rule(rows::type_basic(s, r) <= 6, at + 3, m);
+    rule(rows::cardinality(s, r) <= 1, at + 2, m)
 }
 
 pub fn type_rows(s: &[u8]) -> Broken
@@ -133,7 +136,8 @@ pub fn type_rows(s: &[u8]) -> Broken
 fn root_fits(s: &[u8], t: u16) -> bool
     ensures { λ r. ⌜ r ≡ rootFits (now (s .entry)) t ⌝ }
 {
-    both(t < layout::type_count(s), both(rows::type_id(s, t) == 0, rows::cardinality(s, t) == 1))
+    let root = both(rows::type_id(s, t) == 0, rows::cardinality(s, t) == 1);
+    both(t < layout::type_count(s), root)
 }
 
 fn location_fits(direction: u8, location: u16) -> bool
@@ -176,7 +180,8 @@ fn same_name(s: &[u8], r: u16, q: u16) -> bool
 fn repeat_rule(s: &[u8], r: u16, q: u16) -> Broken
     ensures { λ m. ⌜ m ≡ repeatRule (now (s .entry)) r q ⌝ }
 {
-    rule(!both(same_service(s, r, q), same_name(s, r, q)), layout::operation_at(s, r), Broken::Nowhere)
+    let same = both(same_service(s, r, q), same_name(s, r, q));
+    rule(!same, layout::operation_at(s, r), Broken::Nowhere)
 }
 
 fn repeats(s: &[u8], r: u16) -> Broken
@@ -198,27 +203,34 @@ fn operation_head(s: &[u8], r: u16, others: Broken) -> Broken
         (rule (leb (operationTwoWay (now (s .entry)) r) 1) (operationAt (now (s .entry)) r + 2) others)) ⌝ }
 {
     let at = layout::operation_at(s, r);
-    rule(wire::byte_to_u16(rows::operation_service(s, r)) < layout::service_count(s), at,
-    rule(rows::operation_direction(s, r) <= 1, at + 1,
-    rule(rows::operation_two_way(s, r) <= 1, at + 2, others)))
+    let service = wire::byte_to_u16(rows::operation_service(s, r));
+    let m = rule(rows::operation_two_way(s, r) <= 1, at + 2, others);
+    let m = rule(rows::operation_direction(s, r) <= 1, at + 1, m);
+    rule(service < layout::service_count(s), at, m)
 }
 
 fn operation_fields(s: &[u8], r: u16, others: Broken) -> Broken
     ensures { λ m. ⌜ m ≡ operationFields (now (s .entry)) r others ⌝ }
 {
     let at = layout::operation_at(s, r);
-    operation_head(s, r,
-    rule(wire::byte_at(s, at + 3) == 0, at + 3,
-    rule(rows::operation_id(s, r) != 0, at + 4, others)))
+    let m = rule(rows::operation_id(s, r) != 0, at + 4, others);
+    let m = rule(wire::byte_at(s, at + 3) == 0, at + 3, m);
+    operation_head(s, r, m)
 }
 
 fn operation_links(s: &[u8], r: u16, others: Broken) -> Broken
     ensures { λ m. ⌜ m ≡ operationLinks (now (s .entry)) r others ⌝ }
 {
     let at = layout::operation_at(s, r);
-    rule(location_fits(rows::operation_direction(s, r), rows::operation_location(s, r)), at + 6,
-    rule(root_fits(s, rows::request_type(s, r)), at + 8,
-    rule(reply_fits(s, rows::operation_two_way(s, r), rows::reply_type(s, r)), at + 10, others)))
+    let location = location_fits(
+        rows::operation_direction(s, r),
+        rows::operation_location(s, r),
+    );
+    let request = root_fits(s, rows::request_type(s, r));
+    let reply = reply_fits(s, rows::operation_two_way(s, r), rows::reply_type(s, r));
+    let m = rule(reply, at + 10, others);
+    let m = rule(request, at + 8, m);
+    rule(location, at + 6, m)
 }
 
 fn operation_rule(s: &[u8], r: u16) -> Broken
@@ -243,7 +255,8 @@ pub fn operation_rows(s: &[u8]) -> Broken
 fn location_rule(s: &[u8], r: u16, q: u16) -> Broken
     ensures { λ m. ⌜ m ≡ locationRule (now (s .entry)) r q ⌝ }
 {
-    rule(rows::service_location(s, q) != rows::service_location(s, r), layout::service_at(s, r), Broken::Nowhere)
+    let differs = rows::service_location(s, q) != rows::service_location(s, r);
+    rule(differs, layout::service_at(s, r), Broken::Nowhere)
 }
 
 fn location_repeats(s: &[u8], r: u16) -> Broken
@@ -261,23 +274,25 @@ fn location_repeats(s: &[u8], r: u16) -> Broken
 fn starter_fits(s: &[u8], v: u16) -> bool
     ensures { λ r. ⌜ r ≡ starterFits (now (s .entry)) v ⌝ }
 {
-    either(v == 65535, both(v < layout::behaviour_count(s), rows::is_choice(rows::kind_at(s, v))))
+    let choice = rows::is_choice(rows::kind_at(s, v));
+    either(v == 65535, both(v < layout::behaviour_count(s), choice))
 }
 
 fn client_fits(s: &[u8], v: u16) -> bool
     ensures { λ r. ⌜ r ≡ clientFits (now (s .entry)) v ⌝ }
 {
-    either(v == 65535, both(v < layout::behaviour_count(s), !rows::is_branch(rows::kind_at(s, v))))
+    let branch = rows::is_branch(rows::kind_at(s, v));
+    either(v == 65535, both(v < layout::behaviour_count(s), !branch))
 }
 
 fn service_rule(s: &[u8], r: u16) -> Broken
     ensures { λ m. ⌜ m ≡ serviceRow (now (s .entry)) r ⌝ }
 {
     let at = layout::service_at(s, r);
-    rule(rows::service_location(s, r) != 0, at,
-    rule(starter_fits(s, rows::starter_row(s, r)), at + 2,
-    rule(client_fits(s, rows::client_row(s, r)), at + 4,
-    rule(wire::u16_at(s, at + 6) == 0, at + 6, location_repeats(s, r)))))
+    let m = rule(wire::u16_at(s, at + 6) == 0, at + 6, location_repeats(s, r));
+    let m = rule(client_fits(s, rows::client_row(s, r)), at + 4, m);
+    let m = rule(starter_fits(s, rows::starter_row(s, r)), at + 2, m);
+    rule(rows::service_location(s, r) != 0, at, m)
 }
 
 pub fn service_rows(s: &[u8]) -> Broken

@@ -33,7 +33,7 @@ computed :
     × (numbers (networkOf file) (freshState (networkOf file)) (asks ++ five) ≡ 0 ∷ 0 ∷ 0 ∷ 0 ∷ 0 ∷ 0 ∷ 16 ∷ [])
     × (numbers (networkOf file) (freshState (networkOf file)) (asks ++ (outsiderSends withoutChild ∷ [])) ≡ 0 ∷ 0 ∷ 19 ∷ [])
     × (reachedBy (networkOf file) (freshState (networkOf file)) (asks ++ (outsiderSends withoutChild ∷ []))
-        ≡ reachedBy (networkOf file) (freshState (networkOf file)) asks)
+    ≡ reachedBy (networkOf file) (freshState (networkOf file)) asks)
 unfolding u16At find set measure mapForest readSteps writeSteps number isValue littleEndian addOf rowOf hasRow atRow headOk siblings parse decode
     count encode areSubtypes permits untilZero pathOf markOf typeSiblings writtenOut expressionFrom expressionTo operationOf branchesFrom
     behaviourFrom behaviourTo behaviourOf serviceOf rowsFrom networkOf expressionKind behaviourKind expressionFields behaviourFields trailer start

@@ -21,7 +21,6 @@ use Rattle.soundness.specs.ContextLaws.{or-case}
 use Rattle.soundness.specs.RowLaws.{in-own, in-first, in-second, in-only, in-input, in-then, in-others, branch-rows, branch-once, reaches-rows}
 use Rattle.soundness.specs.Accepted.{OfFile, MadeOf, Accepted}
 
-
 not-in : (r : ℕ) (b : Behaviour) → (T (hasRow r b) → ⊥) → NotIn r b
 not-in r b f t = f t
 

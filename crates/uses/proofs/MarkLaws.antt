@@ -124,13 +124,15 @@ pub step-alike : {n : ℕ} {h k : ℕ → ℕ} {l m : List ℕ} {x : Bool} → (
 unfolding plus secondOf
 step-alike {n} {h} {k} e w = record {
   adds = λ u a. marked-alike (λ t l. ap (λ (y : ℕ). u t + y) (e t l)) (w .adds u a);
-  seen = λ u a. w .seen u a ∙ some-alike (secondOf u h) (secondOf u k) n (λ t l. ap (secondUse (u t)) (e t l)) }
+  seen = λ u a. w .seen u a ∙ some-alike (secondOf u h) (secondOf u k) n (λ t l. ap (secondUse (u t)) (e t l));
+}
 
 pub step-nothing : (n : ℕ) (h : ℕ → ℕ) (l : List ℕ) → ((t : ℕ) → t < n → h t ≡ 0) → Step n h l l false
 unfolding plus secondOf
 step-nothing n h l e = record {
   adds = λ u a. marked-alike (λ t k. let z = e t k in omega arith) a;
-  seen = λ u a. sym (some-none (secondOf u h) n (λ t k. zero-second (u t) (h t) (e t k))) }
+  seen = λ u a. sym (some-none (secondOf u h) n (λ t k. zero-second (u t) (h t) (e t k)));
+}
 
 pub step-join : {n : ℕ} {h k : ℕ → ℕ} {l m o : List ℕ} {x y : Bool} → Step n h l m x → Step n k m o y → Step n (plus h k) l o (x || y)
 unfolding plus secondOf
@@ -141,7 +143,8 @@ step-join {n} {h} {k} {l} {m} {o} {x} {y} v w = record {
       let q : y ≡ someBelow n (secondOf (plus u h) k) = w .seen (plus u h) (v .adds u a) in
       ap (λ (z : Bool). z || y) p ∙ ap (λ (z : Bool). someBelow n (secondOf u h) || z) q
       ∙ sym (some-either (secondOf u h) (secondOf (plus u h) k) n)
-      ∙ some-alike (λ t. secondOf u h t || secondOf (plus u h) k t) (secondOf u (plus h k)) n (λ t j. sym (second-join (u t) (h t) (k t))) }
+      ∙ some-alike (λ t. secondOf u h t || secondOf (plus u h) k t) (secondOf u (plus h k)) n (λ t j. sym (second-join (u t) (h t) (k t)));
+}
 
 -- ---- one row
 
@@ -162,10 +165,12 @@ unfolding useOf plus secondOf
 use-here n v l h = record {
   adds = λ u a. record {
     room = rw (length-set l v 1) (a .room);
-    marked = λ t j. go u t (a .room) (eqb v t) refl (a .marked t j) };
+    marked = λ t j. go u t (a .room) (eqb v t) refl (a .marked t j);
+  };
   seen = λ u a.
       ap not (a .marked v h) ∙ sym (first-use (u v)) ∙ ap (λ (b : Bool). secondUse (u v) (one b)) (sym (eq-eqb v v refl))
-      ∙ sym (some-one (secondOf u (useOf v)) n v h (λ t j d. zero-second (u t) (one (eqb v t)) (ap one (ne-eqb v t d)))) }
+      ∙ sym (some-one (secondOf u (useOf v)) n v h (λ t j d. zero-second (u t) (one (eqb v t)) (ap one (ne-eqb v t d))));
+}
   where
     go : (u : ℕ → ℕ) (t : ℕ) → n ≤ length l → (b : Bool) → eqb v t ≡ b → eqb (getD l t 0) 0 ≡ eqb (u t) 0 → eqb (getD (set l v 1) t 0) 0 ≡ eqb (u t + one (eqb v t)) 0
     go u t k true e m =
@@ -204,7 +209,8 @@ unfolding runTo
 run-begin first w n from end l p q = record {
   low = omega arith;
   within = run-none (λ j. Nowhere) first w n from end (λ j e. refl) p q .within;
-  step = step-nothing n (runTo first from) l (λ t k. ap one (outside first t from (omega (arith, clip-below (first + 0) n .0)))) }
+  step = step-nothing n (runTo first from) l (λ t k. ap one (outside first t from (omega (arith, clip-below (first + 0) n .0))));
+}
 
 one-more : (first i t : ℕ) → first ≤ i → one (leb first t && ltb t i) + one (eqb i t) ≡ one (leb first t && ltb t (i + 1))
 one-more first i t h = go (ltb t i) refl (eqb i t) refl
@@ -241,7 +247,8 @@ unfolding runTo useOf plus
 run-more first w n i end l m o x y r q v h u e = record {
   low = omega (arith, v .low);
   within = omega arith;
-  step = rw e (step-alike (λ t k. one-more first i t (reached first n i (v .low) (omega (arith, clip-below (first + w) n .1)))) (step-join (v .step) u)) }
+  step = rw e (step-alike (λ t k. one-more first i t (reached first n i (v .low) (omega (arith, clip-below (first + w) n .1)))) (step-join (v .step) u));
+}
 
 ends : (first w n t : ℕ) → t < n → ltb t (clip (first + w) n) ≡ ltb t (first + w)
 ends first w n t h = go (ltb (first + w) n) refl
@@ -364,7 +371,8 @@ unfolding noUse
 fresh-marks s n l b c e h = record {
   few = omega arith;
   all = e;
-  none = record { room = omega arith; marked = λ t k. ap (λ (x : ℕ). eqb x 0) (blank-at l t b) } }
+  none = record { room = omega arith; marked = λ t k. ap (λ (x : ℕ). eqb x 0) (blank-at l t b) };
+}
 
 sum-more : (f : ℕ → ℕ) (i : ℕ) → sumOver (i + 1) f ≡ sumOver i f + f i
 unfolding sumOver
@@ -384,7 +392,7 @@ row-second : (s : List ℕ) (n i at : ℕ) (x : Broken) (l o : List ℕ) (again 
 unfolding rowSecond rowUseRule usesTo usedByRows rowUse secondOf
 row-second s n i at x l o again c v w e p =
     let z : again ≡ someBelow (behaviourCount s) (secondOf (usesTo s i) (rowUse s i)) =
-        w .seen (usesTo s i) v ∙ ap (λ (k : ℕ). someBelow k (secondOf (usesTo s i) (rowUse s i))) c in
+    w .seen (usesTo s i) v ∙ ap (λ (k : ℕ). someBelow k (secondOf (usesTo s i) (rowUse s i))) c in
     p ∙ ap (λ (b : Bool). rule (not b) at Nowhere) z ∙ ap (λ (k : ℕ). rule (not (someBelow (behaviourCount s) (secondOf (usesTo s i) (rowUse s i)))) k Nowhere) e
     ∙ some-rule (secondOf (usesTo s i) (rowUse s i)) (behaviourCount s) (behaviourAt s i)
 
@@ -393,14 +401,16 @@ pub rows-more : (s : List ℕ) (n i at : ℕ) (m x r : Broken) (l₀ l o : List 
 unfolding usesTo usedByRows rowUse plus
 rows-more s n i at m x r l₀ l o again f v h w e p q = record {
   swept = swept-more (rowSecond s) n i m x r (v .swept) h (row-second s n i at x l o again (f .all) (v .after) w e p) q;
-  after = marked-alike (λ t k. sym (sum-more (rowUses s t) i)) (w .adds (usesTo s i) (v .after)) }
+  after = marked-alike (λ t k. sym (sum-more (rowUses s t) i)) (w .adds (usesTo s i) (v .after));
+}
 
 pub rows-done : (s : List ℕ) (n i : ℕ) (m : Broken) (l : List ℕ) → Using s n i m l → n ≤ i → ByRows s n m l
 rows-done s n i m l v h =
     let z : i ≡ n = omega (arith, v .swept .within) in
     record {
       lowest = swept-done (rowSecond s) n i m n (v .swept) h refl;
-      after = marked-alike (λ t k. ap (λ (j : ℕ). usesTo s j t) z) (v .after) }
+      after = marked-alike (λ t k. ap (λ (j : ℕ). usesTo s j t) z) (v .after);
+    }
 
 pub ruleset rows-laws = (rows-begin, rows-more, rows-done)
 
@@ -414,14 +424,15 @@ pub services-begin : (s : List ℕ) (n all : ℕ) (l : List ℕ) → Beside s n 
 unfolding usesTo usesBeside used sumOver
 services-begin s n all l h = record {
   swept = swept-none (serviceSecond s) all;
-  after = marked-alike (λ t k. let e : usedByRows s t n ≡ usedByRows s t (behaviourCount s) = ap (usedByRows s t) (h .all) in omega arith) (h .byRows) }
+  after = marked-alike (λ t k. let e : usedByRows s t n ≡ usedByRows s t (behaviourCount s) = ap (usedByRows s t) (h .all) in omega arith) (h .byRows);
+}
 
 service-second : (s : List ℕ) (n i at : ℕ) (x : Broken) (l o : List ℕ) (again : Bool) → n ≡ behaviourCount s → Marked n (usesBeside s i) l → Step n (serviceUse s i) l o again →
     at ≡ serviceAt s i → x ≡ rule (not again) at Nowhere → x ≡ serviceSecond s i
 unfolding serviceSecond serviceUseRule usesBeside serviceUse secondOf
 service-second s n i at x l o again c v w e p =
     let z : again ≡ someBelow (behaviourCount s) (secondOf (usesBeside s i) (serviceUse s i)) =
-        w .seen (usesBeside s i) v ∙ ap (λ (k : ℕ). someBelow k (secondOf (usesBeside s i) (serviceUse s i))) c in
+    w .seen (usesBeside s i) v ∙ ap (λ (k : ℕ). someBelow k (secondOf (usesBeside s i) (serviceUse s i))) c in
     p ∙ ap (λ (b : Bool). rule (not b) at Nowhere) z ∙ ap (λ (k : ℕ). rule (not (someBelow (behaviourCount s) (secondOf (usesBeside s i) (serviceUse s i)))) k Nowhere) e
     ∙ some-rule (secondOf (usesBeside s i) (serviceUse s i)) (behaviourCount s) (serviceAt s i)
 
@@ -430,14 +441,16 @@ pub services-more : (s : List ℕ) (n all i at : ℕ) (m x r : Broken) (l₀ l o
 unfolding usesBeside used serviceUse plus
 services-more s n all i at m x r l₀ l o again f v h w e p q = record {
   swept = swept-more (serviceSecond s) all i m x r (v .swept) h (service-second s n i at x l o again (f .all) (v .after) w e p) q;
-  after = marked-alike (λ t k. let z : sumOver (i + 1) (serviceUses s t) ≡ sumOver i (serviceUses s t) + serviceUses s t i = sum-more (serviceUses s t) i in omega arith) (w .adds (usesBeside s i) (v .after)) }
+  after = marked-alike (λ t k. let z : sumOver (i + 1) (serviceUses s t) ≡ sumOver i (serviceUses s t) + serviceUses s t i = sum-more (serviceUses s t) i in omega arith) (w .adds (usesBeside s i) (v .after));
+}
 
 pub services-done : (s : List ℕ) (n all i : ℕ) (m : Broken) (l : List ℕ) → all ≡ serviceCount s → Serving s n all i m l → all ≤ i → ByServices s n m l
 services-done s n all i m l e v h =
     let z : i ≡ serviceCount s = omega (arith, v .swept .within) in
     record {
       lowest = swept-done (serviceSecond s) all i m (serviceCount s) (v .swept) h e;
-      after = marked-alike (λ t k. ap (λ (j : ℕ). usesBeside s j t) z) (v .after) }
+      after = marked-alike (λ t k. ap (λ (j : ℕ). usesBeside s j t) z) (v .after);
+    }
 
 pub ruleset services-laws = (services-begin, services-more, services-done)
 
@@ -465,8 +478,8 @@ uses-are s n x y z p m l o c v w q e f =
     let B = behaviourCount s in
     let S = serviceCount s in
     let a : leastOver B (usesRow s) ≡ leastOver B (λ t. least (neverUsed s t) (least (leastOver B (rowUseRule s t)) (leastOver S (serviceUseRule s t)))) =
-        over-alike (usesRow s) (λ t. least (neverUsed s t) (least (leastOver B (rowUseRule s t)) (leastOver S (serviceUseRule s t)))) B
-        (λ t k. rule-apart (not (eqb (used s t S) 0)) (behaviourAt s t) (least (leastOver B (rowUseRule s t)) (leastOver S (serviceUseRule s t)))) in
+    over-alike (usesRow s) (λ t. least (neverUsed s t) (least (leastOver B (rowUseRule s t)) (leastOver S (serviceUseRule s t)))) B
+    (λ t k. rule-apart (not (eqb (used s t S) 0)) (behaviourAt s t) (least (leastOver B (rowUseRule s t)) (leastOver S (serviceUseRule s t)))) in
     let b = over-pair (neverUsed s) (λ t. least (leastOver B (rowUseRule s t)) (leastOver S (serviceUseRule s t))) B in
     let d = over-pair (λ t. leastOver B (rowUseRule s t)) (λ t. leastOver S (serviceUseRule s t)) B in
     let g = over-exchange (rowUseRule s) B B in

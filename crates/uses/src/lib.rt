@@ -7,7 +7,6 @@ ghost use Rattle.network.specs.Layout.{behaviourCount};
 ghost use Rattle.network.specs.declared.FieldSort.the-variants.{BranchRun};
 ghost use Rattle.network.specs.Uses.{usesRows, broken};
 ghost use Rattle.uses.specs.Marks.{Step, useOf, fieldUse, sortsUse, rowUse, serviceUse, neverUsed, Fresh, ByRows, Beside, ByServices, AllUsed};
-
 use layout::either;
 use layout::least;
 use layout::rule;
@@ -62,7 +61,18 @@ fn use_field(marks: &mut [u8; 256], n: u16, q: FieldSort, v: u16, w: u16) -> boo
     }
 }
 
-fn use_sorts(marks: &mut [u8; 256], n: u16, qa: FieldSort, qb: FieldSort, qc: FieldSort, qd: FieldSort, a: u16, b: u16, c: u16, d: u16) -> bool
+fn use_sorts(
+    marks: &mut [u8; 256],
+    n: u16,
+    qa: FieldSort,
+    qb: FieldSort,
+    qc: FieldSort,
+    qd: FieldSort,
+    a: u16,
+    b: u16,
+    c: u16,
+    d: u16,
+) -> bool
     requires { ⌜ n ≤ 256 ⌝ }
     ensures { λ again. ⌜ Step n (sortsUse qa qb qc qd a b c d) (now (marks .entry)) (now (marks .exit)) again ⌝ }
 {
@@ -112,7 +122,8 @@ fn rows_use(s: &[u8], marks: &mut [u8; 256], n: u16) -> Broken
     let mut i: u16 = 0;
     while i < n {
         let again = use_fields(s, marks, n, i);
-        m = least(m, rule(!again, layout::behaviour_at(s, i), Broken::Nowhere));
+        let x = rule(!again, layout::behaviour_at(s, i), Broken::Nowhere);
+        m = least(m, x);
         i += 1;
     }
     m
@@ -128,7 +139,8 @@ fn services_use(s: &[u8], marks: &mut [u8; 256], n: u16) -> Broken
     let mut i: u16 = 0;
     while i < all {
         let again = use_service(s, marks, n, i);
-        m = least(m, rule(!again, layout::service_at(s, i), Broken::Nowhere));
+        let x = rule(!again, layout::service_at(s, i), Broken::Nowhere);
+        m = least(m, x);
         i += 1;
     }
     m
@@ -143,7 +155,8 @@ fn never_used(s: &[u8], marks: &[u8; 256], n: u16) -> Broken
     let mut i: u16 = 0;
     while i < n {
         let at = wire::index(i);
-        m = least(m, rule(marks[at] != 0, layout::behaviour_at(s, i), Broken::Nowhere));
+        let x = rule(marks[at] != 0, layout::behaviour_at(s, i), Broken::Nowhere);
+        m = least(m, x);
         i += 1;
     }
     m
@@ -167,8 +180,11 @@ pub fn lowest_broken(s: &[u8]) -> Broken
     requires { ⌜ behaviourCount (now s) ≤ 256 ⌝ }
     ensures { λ m. ⌜ m ≡ broken (now (s .entry)) ⌝ }
 {
-    least(rules::path_rows(s),
-    least(rules::type_rows(s),
-    least(fields::expression_rows(s),
-    least(fields::behaviour_rows(s), least(uses_rows(s), least(rules::operation_rows(s), rules::service_rows(s)))))))
+    let m = rules::service_rows(s);
+    let m = least(rules::operation_rows(s), m);
+    let m = least(uses_rows(s), m);
+    let m = least(fields::behaviour_rows(s), m);
+    let m = least(fields::expression_rows(s), m);
+    let m = least(rules::type_rows(s), m);
+    least(rules::path_rows(s), m)
 }

@@ -2,94 +2,70 @@ use Rattle.fields.proofs.FieldLaws.{basic-laws}
 use borrow.Author.Needs.{needs}
 use Rattle.fields.proofs.basic_fits.Statement.{statement}
 use Rattle.fields.proofs.basic_fits.Tie as tie
-use Rattle.fields.proofs.basic_fits.Reads as reads
-use Rattle.fields.proofs.basic_fits.Lts as lts
 
--- src/lib.rt:148:37
 enum-told : tie.Need-enum-told
 enum-told c = search needs
 
--- src/lib.rt:149:36
 enum-told-2 : tie.Need-enum-told-2
 enum-told-2 c = search needs
 
--- src/lib.rt:150:37
 enum-told-3 : tie.Need-enum-told-3
 enum-told-3 c = search needs
 
--- src/lib.rt:151:32
 enum-told-4 : tie.Need-enum-told-4
 enum-told-4 c = search needs
 
--- src/lib.rt:152:35
 enum-told-5 : tie.Need-enum-told-5
 enum-told-5 c = search needs
 
--- src/lib.rt:153:32
 enum-told-6 : tie.Need-enum-told-6
 enum-told-6 c = search needs
 
--- src/lib.rt:154:37
 enum-told-7 : tie.Need-enum-told-7
 enum-told-7 c = search needs
 
--- src/lib.rt:155:33
 enum-told-8 : tie.Need-enum-told-8
 enum-told-8 c = search needs
 
--- src/lib.rt:156:34
 enum-told-9 : tie.Need-enum-told-9
 enum-told-9 c = search needs
 
--- src/lib.rt:157:32
 enum-told-10 : tie.Need-enum-told-10
 enum-told-10 c = search needs
 
--- src/lib.rt:158:36
 enum-told-11 : tie.Need-enum-told-11
 enum-told-11 c = search needs
 
--- src/lib.rt:144:1
 returns : tie.Need-returns
 returns c = search basic-laws depth 12
 
--- src/lib.rt:144:1
 returns-2 : tie.Need-returns-2
 returns-2 c = search basic-laws depth 12
 
--- src/lib.rt:144:1
 returns-3 : tie.Need-returns-3
 returns-3 c = search basic-laws depth 12
 
--- src/lib.rt:144:1
 returns-4 : tie.Need-returns-4
 returns-4 c = search basic-laws depth 12
 
--- src/lib.rt:144:1
 returns-5 : tie.Need-returns-5
 returns-5 c = search basic-laws depth 12
 
--- src/lib.rt:144:1
 returns-6 : tie.Need-returns-6
 returns-6 c = search basic-laws depth 12
 
--- src/lib.rt:144:1
 returns-7 : tie.Need-returns-7
 returns-7 c = search basic-laws depth 12
 
--- src/lib.rt:144:1
 returns-8 : tie.Need-returns-8
 returns-8 c = search basic-laws depth 12
 
--- src/lib.rt:144:1
 returns-9 : tie.Need-returns-9
 returns-9 c = search basic-laws depth 12
 
--- src/lib.rt:144:1
 returns-10 : tie.Need-returns-10
 returns-10 c = search basic-laws depth 12
 
--- src/lib.rt:144:1
 returns-11 : tie.Need-returns-11
 returns-11 c = search basic-laws depth 12
 

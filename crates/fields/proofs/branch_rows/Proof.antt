@@ -5,13 +5,6 @@ use Rattle.network.specs.Rows.{branchRule}
 use borrow.Author.Needs.{needs}
 use Rattle.fields.proofs.branch_rows.Statement.{statement}
 use Rattle.fields.proofs.branch_rows.Tie as tie
-use Rattle.fields.proofs.branch_rows.Reads as reads
-use Rattle.fields.proofs.branch_rows.Lts as lts
-use Rattle.fields.proofs.branch_rule.Reads as branch-rule-reads
-use Rattle.layout.proofs.behaviour_count.Reads as behaviour-count-reads
-use Rattle.layout.proofs.clipped.Reads as clipped-reads
-use Rattle.layout.proofs.least.Reads as least-reads
-use Rattle.wire.proofs.u16_at.Reads as u16-at-reads
 
 abbrev Inv-loop : tie.InvT-loop
 Inv-loop s at first n size end m₀ i₀ m i = Swept (branchRule s at) end i m
@@ -19,59 +12,45 @@ Inv-loop s at first n size end m₀ i₀ m i = Swept (branchRule s at) end i m
 abbrev μ-loop : tie.MeasureT-loop
 μ-loop s at first n size end m₀ i₀ m i = end - i
 
--- src/lib.rt:206:33
 add-u16-at : tie.Need-add-u16-at Inv-loop μ-loop
 add-u16-at c = search needs
 
--- src/lib.rt:206:9
 u16-at-requires : tie.Need-u16-at-requires Inv-loop μ-loop
 u16-at-requires c κs = search needs
 
--- src/lib.rt:207:29
 add-u16-at-2 : tie.Need-add-u16-at-2 Inv-loop μ-loop
 add-u16-at-2 c = search needs
 
--- src/lib.rt:207:9
 u16-at-requires-2 : tie.Need-u16-at-requires-2 Inv-loop μ-loop
 u16-at-requires-2 c κs = search needs
 
--- src/lib.rt:208:9
 behaviour-count-requires : tie.Need-behaviour-count-requires Inv-loop μ-loop
 behaviour-count-requires c κs = search needs
 
--- src/lib.rt:209:9
 clipped-requires : tie.Need-clipped-requires Inv-loop μ-loop
 clipped-requires c κs = search needs
 
--- src/lib.rt:211:9
 clipped-requires-2 : tie.Need-clipped-requires-2 Inv-loop μ-loop
 clipped-requires-2 c κs = search needs
 
--- src/lib.rt:212:5
 loop-holds : tie.Need-loop-holds Inv-loop μ-loop
 loop-holds c = search branches-laws depth 12
 
--- src/lib.rt:213:22
 branch-rule-requires : tie.Need-branch-rule-requires Inv-loop μ-loop
 branch-rule-requires c κs = search needs
 
--- src/lib.rt:213:9
 least-requires : tie.Need-least-requires Inv-loop μ-loop
 least-requires c κs = search needs
 
--- src/lib.rt:214:9
 add-i : tie.Need-add-i Inv-loop μ-loop
 add-i c = search needs
 
--- src/lib.rt:212:5
 loop-less : tie.Need-loop-less Inv-loop μ-loop
 loop-less c = search needs
 
--- src/lib.rt:212:5
 loop-again : tie.Need-loop-again Inv-loop μ-loop
 loop-again c = search branches-laws depth 12
 
--- src/lib.rt:202:1
 returns : tie.Need-returns Inv-loop μ-loop
 returns c = search branches-laws depth 12
 

@@ -4,11 +4,6 @@ use Rattle.layout.specs.Loops.{Swept, loop-laws}
 use borrow.Author.Needs.{needs}
 use Rattle.fields.proofs.expression_rows.Statement.{statement}
 use Rattle.fields.proofs.expression_rows.Tie as tie
-use Rattle.fields.proofs.expression_rows.Reads as reads
-use Rattle.fields.proofs.expression_rows.Lts as lts
-use Rattle.fields.proofs.expression_rule.Reads as expression-rule-reads
-use Rattle.layout.proofs.expression_count.Reads as expression-count-reads
-use Rattle.layout.proofs.least.Reads as least-reads
 
 abbrev Inv-loop : tie.InvT-loop
 Inv-loop s n m₀ i₀ m i = Swept (expressionRow s) n i m
@@ -16,35 +11,27 @@ Inv-loop s n m₀ i₀ m i = Swept (expressionRow s) n i m
 abbrev μ-loop : tie.MeasureT-loop
 μ-loop s n m₀ i₀ m i = n - i
 
--- src/lib.rt:176:9
 expression-count-requires : tie.Need-expression-count-requires Inv-loop μ-loop
 expression-count-requires c κs = search needs
 
--- src/lib.rt:179:5
 loop-holds : tie.Need-loop-holds Inv-loop μ-loop
 loop-holds c = search loop-laws depth 12
 
--- src/lib.rt:180:22
 expression-rule-requires : tie.Need-expression-rule-requires Inv-loop μ-loop
 expression-rule-requires c κs = search needs
 
--- src/lib.rt:180:9
 least-requires : tie.Need-least-requires Inv-loop μ-loop
 least-requires c κs = search needs
 
--- src/lib.rt:181:9
 add-i : tie.Need-add-i Inv-loop μ-loop
 add-i c = search needs
 
--- src/lib.rt:179:5
 loop-less : tie.Need-loop-less Inv-loop μ-loop
 loop-less c = search needs
 
--- src/lib.rt:179:5
 loop-again : tie.Need-loop-again Inv-loop μ-loop
 loop-again c = search loop-laws depth 12
 
--- src/lib.rt:173:1
 returns : tie.Need-returns Inv-loop μ-loop
 unfolding expressionRows
 returns c = search loop-laws depth 12

@@ -2,139 +2,103 @@ use Rattle.fields.proofs.FieldLaws.{expression-laws}
 use borrow.Author.Needs.{needs}
 use Rattle.fields.proofs.expression_sorts.Statement.{statement}
 use Rattle.fields.proofs.expression_sorts.Tie as tie
-use Rattle.fields.proofs.expression_sorts.Reads as reads
-use Rattle.fields.proofs.expression_sorts.Lts as lts
-use Rattle.fields.proofs.sorts_of.Reads as sorts-of-reads
 
--- src/lib.rt:41:46
 enum-told : tie.Need-enum-told
 enum-told c = search needs
 
--- src/lib.rt:41:37
-sorts-of-requires : tie.Need-sorts-of-requires
-sorts-of-requires c κs = search needs
+operands-requires : tie.Need-operands-requires
+operands-requires c κs = search needs
 
--- src/lib.rt:42:45
 enum-told-2 : tie.Need-enum-told-2
 enum-told-2 c = search needs
 
--- src/lib.rt:42:36
-sorts-of-requires-2 : tie.Need-sorts-of-requires-2
-sorts-of-requires-2 c κs = search needs
+operands-requires-2 : tie.Need-operands-requires-2
+operands-requires-2 c κs = search needs
 
--- src/lib.rt:43:46
 enum-told-3 : tie.Need-enum-told-3
 enum-told-3 c = search needs
 
--- src/lib.rt:43:37
-sorts-of-requires-3 : tie.Need-sorts-of-requires-3
-sorts-of-requires-3 c κs = search needs
+operands-requires-3 : tie.Need-operands-requires-3
+operands-requires-3 c κs = search needs
 
--- src/lib.rt:44:41
 enum-told-4 : tie.Need-enum-told-4
 enum-told-4 c = search needs
 
--- src/lib.rt:44:32
-sorts-of-requires-4 : tie.Need-sorts-of-requires-4
-sorts-of-requires-4 c κs = search needs
+operands-requires-4 : tie.Need-operands-requires-4
+operands-requires-4 c κs = search needs
 
--- src/lib.rt:45:44
 enum-told-5 : tie.Need-enum-told-5
 enum-told-5 c = search needs
 
--- src/lib.rt:45:35
-sorts-of-requires-5 : tie.Need-sorts-of-requires-5
-sorts-of-requires-5 c κs = search needs
+operands-requires-5 : tie.Need-operands-requires-5
+operands-requires-5 c κs = search needs
 
--- src/lib.rt:46:41
 enum-told-6 : tie.Need-enum-told-6
 enum-told-6 c = search needs
 
--- src/lib.rt:46:32
-sorts-of-requires-6 : tie.Need-sorts-of-requires-6
-sorts-of-requires-6 c κs = search needs
+operands-requires-6 : tie.Need-operands-requires-6
+operands-requires-6 c κs = search needs
 
--- src/lib.rt:47:46
 enum-told-7 : tie.Need-enum-told-7
 enum-told-7 c = search needs
 
--- src/lib.rt:47:37
-sorts-of-requires-7 : tie.Need-sorts-of-requires-7
-sorts-of-requires-7 c κs = search needs
+operands-requires-7 : tie.Need-operands-requires-7
+operands-requires-7 c κs = search needs
 
--- src/lib.rt:48:42
 enum-told-8 : tie.Need-enum-told-8
 enum-told-8 c = search needs
 
--- src/lib.rt:48:33
-sorts-of-requires-8 : tie.Need-sorts-of-requires-8
-sorts-of-requires-8 c κs = search needs
+operands-requires-8 : tie.Need-operands-requires-8
+operands-requires-8 c κs = search needs
 
--- src/lib.rt:49:43
 enum-told-9 : tie.Need-enum-told-9
 enum-told-9 c = search needs
 
--- src/lib.rt:49:34
-sorts-of-requires-9 : tie.Need-sorts-of-requires-9
-sorts-of-requires-9 c κs = search needs
+operands-requires-9 : tie.Need-operands-requires-9
+operands-requires-9 c κs = search needs
 
--- src/lib.rt:50:41
 enum-told-10 : tie.Need-enum-told-10
 enum-told-10 c = search needs
 
--- src/lib.rt:50:32
-sorts-of-requires-10 : tie.Need-sorts-of-requires-10
-sorts-of-requires-10 c κs = search needs
+operands-requires-10 : tie.Need-operands-requires-10
+operands-requires-10 c κs = search needs
 
--- src/lib.rt:51:45
 enum-told-11 : tie.Need-enum-told-11
 enum-told-11 c = search needs
 
--- src/lib.rt:51:36
-sorts-of-requires-11 : tie.Need-sorts-of-requires-11
-sorts-of-requires-11 c κs = search needs
+sorts-of-requires : tie.Need-sorts-of-requires
+sorts-of-requires c κs = search needs
 
--- src/lib.rt:37:1
 returns : tie.Need-returns
 returns c = search expression-laws depth 12
 
--- src/lib.rt:37:1
 returns-2 : tie.Need-returns-2
 returns-2 c = search expression-laws depth 12
 
--- src/lib.rt:37:1
 returns-3 : tie.Need-returns-3
 returns-3 c = search expression-laws depth 12
 
--- src/lib.rt:37:1
 returns-4 : tie.Need-returns-4
 returns-4 c = search expression-laws depth 12
 
--- src/lib.rt:37:1
 returns-5 : tie.Need-returns-5
 returns-5 c = search expression-laws depth 12
 
--- src/lib.rt:37:1
 returns-6 : tie.Need-returns-6
 returns-6 c = search expression-laws depth 12
 
--- src/lib.rt:37:1
 returns-7 : tie.Need-returns-7
 returns-7 c = search expression-laws depth 12
 
--- src/lib.rt:37:1
 returns-8 : tie.Need-returns-8
 returns-8 c = search expression-laws depth 12
 
--- src/lib.rt:37:1
 returns-9 : tie.Need-returns-9
 returns-9 c = search expression-laws depth 12
 
--- src/lib.rt:37:1
 returns-10 : tie.Need-returns-10
 returns-10 c = search expression-laws depth 12
 
--- src/lib.rt:37:1
 returns-11 : tie.Need-returns-11
 returns-11 c = search expression-laws depth 12
 
@@ -143,27 +107,27 @@ expression-sorts-spec =
     tie.close
     (tie.spec
     enum-told
-    sorts-of-requires
+    operands-requires
     enum-told-2
-    sorts-of-requires-2
+    operands-requires-2
     enum-told-3
-    sorts-of-requires-3
+    operands-requires-3
     enum-told-4
-    sorts-of-requires-4
+    operands-requires-4
     enum-told-5
-    sorts-of-requires-5
+    operands-requires-5
     enum-told-6
-    sorts-of-requires-6
+    operands-requires-6
     enum-told-7
-    sorts-of-requires-7
+    operands-requires-7
     enum-told-8
-    sorts-of-requires-8
+    operands-requires-8
     enum-told-9
-    sorts-of-requires-9
+    operands-requires-9
     enum-told-10
-    sorts-of-requires-10
+    operands-requires-10
     enum-told-11
-    sorts-of-requires-11
+    sorts-of-requires
     returns
     returns-2
     returns-3

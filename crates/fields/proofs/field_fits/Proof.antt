@@ -2,139 +2,97 @@ use Rattle.fields.proofs.FieldLaws.{field-laws}
 use borrow.Author.Needs.{needs}
 use Rattle.fields.proofs.field_fits.Statement.{statement}
 use Rattle.fields.proofs.field_fits.Tie as tie
-use Rattle.fields.proofs.field_fits.Reads as reads
-use Rattle.fields.proofs.field_fits.Lts as lts
-use Rattle.fields.proofs.constant_fits.Reads as constant-fits-reads
-use Rattle.fields.proofs.input_fits.Reads as input-fits-reads
-use Rattle.fields.proofs.sub_fits.Reads as sub-fits-reads
-use Rattle.layout.proofs.behaviour_count.Reads as behaviour-count-reads
-use Rattle.layout.proofs.both.Reads as both-reads
-use Rattle.layout.proofs.expression_count.Reads as expression-count-reads
-use Rattle.layout.proofs.operation_count.Reads as operation-count-reads
-use Rattle.layout.proofs.path_count.Reads as path-count-reads
-use Rattle.rules.proofs.later_run.Reads as later-run-reads
 
--- src/lib.rt:107:23
 enum-told : tie.Need-enum-told
 enum-told c = search needs
 
--- src/lib.rt:108:25
 enum-told-2 : tie.Need-enum-told-2
 enum-told-2 c = search needs
 
--- src/lib.rt:109:30
 enum-told-3 : tie.Need-enum-told-3
 enum-told-3 c = search needs
 
--- src/lib.rt:109:30
 path-count-requires : tie.Need-path-count-requires
 path-count-requires c κs = search needs
 
--- src/lib.rt:110:29
 enum-told-4 : tie.Need-enum-told-4
 enum-told-4 c = search needs
 
--- src/lib.rt:111:36
 enum-told-5 : tie.Need-enum-told-5
 enum-told-5 c = search needs
 
--- src/lib.rt:111:36
 expression-count-requires : tie.Need-expression-count-requires
 expression-count-requires c κs = search needs
 
--- src/lib.rt:112:35
 enum-told-6 : tie.Need-enum-told-6
 enum-told-6 c = search needs
 
--- src/lib.rt:112:35
 operation-count-requires : tie.Need-operation-count-requires
 operation-count-requires c κs = search needs
 
--- src/lib.rt:113:27
 enum-told-7 : tie.Need-enum-told-7
 enum-told-7 c = search needs
 
--- src/lib.rt:113:27
 sub-fits-requires : tie.Need-sub-fits-requires
 sub-fits-requires c κs = search needs
 
--- src/lib.rt:114:27
 enum-told-8 : tie.Need-enum-told-8
 enum-told-8 c = search needs
 
--- src/lib.rt:114:27
 input-fits-requires : tie.Need-input-fits-requires
 input-fits-requires c κs = search needs
 
--- src/lib.rt:115:45
 enum-told-9 : tie.Need-enum-told-9
 enum-told-9 c = search needs
 
--- src/lib.rt:115:45
 behaviour-count-requires : tie.Need-behaviour-count-requires
 behaviour-count-requires c κs = search needs
 
--- src/lib.rt:115:28
 later-run-requires : tie.Need-later-run-requires
 later-run-requires c κs = search needs
 
--- src/lib.rt:116:35
 enum-told-10 : tie.Need-enum-told-10
 enum-told-10 c = search needs
 
--- src/lib.rt:116:30
 both-requires : tie.Need-both-requires
 both-requires c κs = search needs
 
--- src/lib.rt:117:31
 enum-told-11 : tie.Need-enum-told-11
 enum-told-11 c = search needs
 
--- src/lib.rt:117:31
 constant-fits-requires : tie.Need-constant-fits-requires
 constant-fits-requires c κs = search needs
 
--- src/lib.rt:103:1
 returns : tie.Need-returns
 returns c = search field-laws depth 12
 
--- src/lib.rt:103:1
 returns-2 : tie.Need-returns-2
 returns-2 c = search field-laws depth 12
 
--- src/lib.rt:103:1
 returns-3 : tie.Need-returns-3
 returns-3 c = search field-laws depth 12
 
--- src/lib.rt:103:1
 returns-4 : tie.Need-returns-4
 returns-4 c = search field-laws depth 12
 
--- src/lib.rt:103:1
 returns-5 : tie.Need-returns-5
 returns-5 c = search field-laws depth 12
 
--- src/lib.rt:103:1
 returns-6 : tie.Need-returns-6
 returns-6 c = search field-laws depth 12
 
--- src/lib.rt:103:1
 returns-7 : tie.Need-returns-7
 returns-7 c = search field-laws depth 12
 
--- src/lib.rt:103:1
 returns-8 : tie.Need-returns-8
 returns-8 c = search field-laws depth 12
 
--- src/lib.rt:103:1
 returns-9 : tie.Need-returns-9
 returns-9 c = search field-laws depth 12
 
--- src/lib.rt:103:1
 returns-10 : tie.Need-returns-10
 returns-10 c = search field-laws depth 12
 
--- src/lib.rt:103:1
 returns-11 : tie.Need-returns-11
 returns-11 c = search field-laws depth 12
 

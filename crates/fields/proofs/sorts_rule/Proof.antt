@@ -2,73 +2,52 @@ use Rattle.fields.proofs.FieldLaws.{rules-laws}
 use borrow.Author.Needs.{needs}
 use Rattle.fields.proofs.sorts_rule.Statement.{statement}
 use Rattle.fields.proofs.sorts_rule.Tie as tie
-use Rattle.fields.proofs.sorts_rule.Reads as reads
-use Rattle.fields.proofs.sorts_rule.Lts as lts
-use Rattle.fields.proofs.field_fits.Reads as field-fits-reads
-use Rattle.layout.proofs.rule.Reads as rule-reads
-use Rattle.wire.proofs.u16_at.Reads as u16-at-reads
 
--- src/lib.rt:126:29
 add-u16-at : tie.Need-add-u16-at
 add-u16-at c = search needs
 
--- src/lib.rt:126:9
 u16-at-requires : tie.Need-u16-at-requires
 u16-at-requires c κs = search needs
 
--- src/lib.rt:127:29
 add-u16-at-2 : tie.Need-add-u16-at-2
 add-u16-at-2 c = search needs
 
--- src/lib.rt:127:9
 u16-at-requires-2 : tie.Need-u16-at-requires-2
 u16-at-requires-2 c κs = search needs
 
--- src/lib.rt:128:29
 add-u16-at-3 : tie.Need-add-u16-at-3
 add-u16-at-3 c = search needs
 
--- src/lib.rt:128:9
 u16-at-requires-3 : tie.Need-u16-at-requires-3
 u16-at-requires-3 c κs = search needs
 
--- src/lib.rt:129:10
 field-fits-requires : tie.Need-field-fits-requires
 field-fits-requires c κs = search needs
 
--- src/lib.rt:129:45
 add-rule : tie.Need-add-rule
 add-rule c = search needs
 
--- src/lib.rt:130:10
-field-fits-requires-2 : tie.Need-field-fits-requires-2
-field-fits-requires-2 c κs = search needs
-
--- src/lib.rt:130:45
-add-rule-2 : tie.Need-add-rule-2
-add-rule-2 c = search needs
-
--- src/lib.rt:131:10
-field-fits-requires-3 : tie.Need-field-fits-requires-3
-field-fits-requires-3 c κs = search needs
-
--- src/lib.rt:131:45
-add-rule-3 : tie.Need-add-rule-3
-add-rule-3 c = search needs
-
--- src/lib.rt:131:5
 rule-requires : tie.Need-rule-requires
 rule-requires c κs = search needs
 
--- src/lib.rt:130:5
+field-fits-requires-2 : tie.Need-field-fits-requires-2
+field-fits-requires-2 c κs = search needs
+
+add-rule-2 : tie.Need-add-rule-2
+add-rule-2 c = search needs
+
 rule-requires-2 : tie.Need-rule-requires-2
 rule-requires-2 c κs = search needs
 
--- src/lib.rt:129:5
+field-fits-requires-3 : tie.Need-field-fits-requires-3
+field-fits-requires-3 c κs = search needs
+
+add-rule-3 : tie.Need-add-rule-3
+add-rule-3 c = search needs
+
 rule-requires-3 : tie.Need-rule-requires-3
 rule-requires-3 c κs = search needs
 
--- src/lib.rt:122:1
 returns : tie.Need-returns
 returns c = search rules-laws depth 12
 
@@ -84,11 +63,11 @@ sorts-rule-spec =
     u16-at-requires-3
     field-fits-requires
     add-rule
+    rule-requires
     field-fits-requires-2
     add-rule-2
+    rule-requires-2
     field-fits-requires-3
     add-rule-3
-    rule-requires
-    rule-requires-2
     rule-requires-3
     returns)

@@ -22,63 +22,48 @@ walk-at t = and 1 walk-kinds.ps (is 1 walk-kinds.ps μ-walk t) walk.Pre
 abbrev walk-below : ℕ → In 1 walk-kinds.ps
 walk-below t = and 1 walk-kinds.ps (falls 1 walk-kinds.ps _<_ μ-walk t) walk.Pre
 
--- src/lib.rt:45:9
 walk-returns : (t : ℕ) → walk-lts.Need-returns (first-of-reads.Asked, first-of-reads.Learnt, children-of-reads.Asked, children-of-reads.Learnt, walk-below t, walk.Post) (walk-at t) walk.Post
 walk-returns t c = search walk-laws depth 12
 
--- src/lib.rt:48:9
 walk-returns-2 : (t : ℕ) → walk-lts.Need-returns-2 (first-of-reads.Asked, first-of-reads.Learnt, children-of-reads.Asked, children-of-reads.Learnt, walk-below t, walk.Post) (walk-at t) walk.Post
 walk-returns-2 t c = search walk-laws depth 12
 
--- src/lib.rt:51:9
 walk-returns-3 : (t : ℕ) → walk-lts.Need-returns-3 (first-of-reads.Asked, first-of-reads.Learnt, children-of-reads.Asked, children-of-reads.Learnt, walk-below t, walk.Post) (walk-at t) walk.Post
 walk-returns-3 t c = search walk-laws depth 12
 
--- src/lib.rt:53:9
 walk-first-of-requires : (t : ℕ) → walk-lts.Need-first-of-requires (first-of-reads.Asked, first-of-reads.Learnt, children-of-reads.Asked, children-of-reads.Learnt, walk-below t, walk.Post) (walk-at t) walk.Post
 walk-first-of-requires t c κs = search needs
 
--- src/lib.rt:54:9
 walk-children-of-requires : (t : ℕ) → walk-lts.Need-children-of-requires (first-of-reads.Asked, first-of-reads.Learnt, children-of-reads.Asked, children-of-reads.Learnt, walk-below t, walk.Post) (walk-at t) walk.Post
 walk-children-of-requires t c κs = search needs
 
--- src/lib.rt:55:49
 walk-sub-walk : (t : ℕ) → walk-lts.Need-sub-walk (first-of-reads.Asked, first-of-reads.Learnt, children-of-reads.Asked, children-of-reads.Learnt, walk-below t, walk.Post) (walk-at t) walk.Post
 walk-sub-walk t c = search needs
 
--- src/lib.rt:55:61
 walk-sub-walk-2 : (t : ℕ) → walk-lts.Need-sub-walk-2 (first-of-reads.Asked, first-of-reads.Learnt, children-of-reads.Asked, children-of-reads.Learnt, walk-below t, walk.Post) (walk-at t) walk.Post
 walk-sub-walk-2 t c = search needs
 
--- src/lib.rt:55:29
 walk-walk-requires : (t : ℕ) → walk-lts.Need-walk-requires (first-of-reads.Asked, first-of-reads.Learnt, children-of-reads.Asked, children-of-reads.Learnt, walk-below t, walk.Post) (walk-at t) walk.Post
 walk-walk-requires t c κs = (omega arith, search needs)
 
--- src/lib.rt:55:21
 walk-enum-known-rest : (t : ℕ) → walk-lts.Need-enum-known-rest (first-of-reads.Asked, first-of-reads.Learnt, children-of-reads.Asked, children-of-reads.Learnt, walk-below t, walk.Post) (walk-at t) walk.Post
 walk-enum-known-rest t c = search needs
 
--- src/lib.rt:56:9
 walk-enum-told : (t : ℕ) → walk-lts.Need-enum-told (first-of-reads.Asked, first-of-reads.Learnt, children-of-reads.Asked, children-of-reads.Learnt, walk-below t, walk.Post) (walk-at t) walk.Post
 walk-enum-told t c = search needs
 
--- src/lib.rt:56:9
 walk-returns-4 : (t : ℕ) → walk-lts.Need-returns-4 (first-of-reads.Asked, first-of-reads.Learnt, children-of-reads.Asked, children-of-reads.Learnt, walk-below t, walk.Post) (walk-at t) walk.Post
 walk-returns-4 t c = search walk-laws depth 12
 
--- src/lib.rt:58:13
 walk-add-walk : (t : ℕ) → walk-lts.Need-add-walk (first-of-reads.Asked, first-of-reads.Learnt, children-of-reads.Asked, children-of-reads.Learnt, walk-below t, walk.Post) (walk-at t) walk.Post
 walk-add-walk t c = search needs
 
--- src/lib.rt:58:24
 walk-sub-walk-3 : (t : ℕ) → walk-lts.Need-sub-walk-3 (first-of-reads.Asked, first-of-reads.Learnt, children-of-reads.Asked, children-of-reads.Learnt, walk-below t, walk.Post) (walk-at t) walk.Post
 walk-sub-walk-3 t c = search needs
 
--- src/lib.rt:58:5
 walk-walk-requires-2 : (t : ℕ) → walk-lts.Need-walk-requires-2 (first-of-reads.Asked, first-of-reads.Learnt, children-of-reads.Asked, children-of-reads.Learnt, walk-below t, walk.Post) (walk-at t) walk.Post
 walk-walk-requires-2 t c κs = (omega arith, search needs)
 
--- src/lib.rt:40:1
 walk-returns-5 : (t : ℕ) → walk-lts.Need-returns-5 (first-of-reads.Asked, first-of-reads.Learnt, children-of-reads.Asked, children-of-reads.Learnt, walk-below t, walk.Post) (walk-at t) walk.Post
 walk-returns-5 t c = search walk-laws depth 12
 

@@ -3,14 +3,6 @@ use Rattle.form.proofs.FormLaws.{levels-laws, Leveling}
 use borrow.Author.Needs.{needs}
 use Rattle.form.proofs.expression_sizes.Statement.{statement}
 use Rattle.form.proofs.expression_sizes.Tie as tie
-use Rattle.form.proofs.expression_sizes.Reads as reads
-use Rattle.form.proofs.expression_sizes.Lts as lts
-use Rattle.form.proofs.row_level.Reads as row-level-reads
-use Rattle.layout.proofs.expression_at.Reads as expression-at-reads
-use Rattle.layout.proofs.expression_count.Reads as expression-count-reads
-use Rattle.layout.proofs.least.Reads as least-reads
-use Rattle.layout.proofs.rule.Reads as rule-reads
-use Rattle.wire.proofs.index.Reads as index-reads
 
 abbrev Inv-loop : tie.InvT-loop
 Inv-loop s n levels₀ m₀ i₀ levels m i = Leveling s n i m levels
@@ -18,51 +10,39 @@ Inv-loop s n levels₀ m₀ i₀ levels m i = Leveling s n i m levels
 abbrev μ-loop : tie.MeasureT-loop
 μ-loop s n levels₀ m₀ i₀ levels m i = n - i
 
--- src/lib.rt:152:9
 expression-count-requires : tie.Need-expression-count-requires Inv-loop μ-loop
 expression-count-requires c κs = search needs
 
--- src/lib.rt:156:5
 loop-holds : tie.Need-loop-holds Inv-loop μ-loop
 loop-holds c = search levels-laws depth 12
 
--- src/lib.rt:157:13
 row-level-requires : tie.Need-row-level-requires Inv-loop μ-loop
 row-level-requires c κs = search needs
 
--- src/lib.rt:158:13
 index-requires : tie.Need-index-requires Inv-loop μ-loop
 index-requires c κs = search needs
 
--- src/lib.rt:159:9
 array-write-levels : tie.Need-array-write-levels Inv-loop μ-loop
 array-write-levels c = search needs
 
--- src/lib.rt:160:39
 expression-at-requires : tie.Need-expression-at-requires Inv-loop μ-loop
 expression-at-requires c κs = search needs
 
--- src/lib.rt:160:22
 rule-requires : tie.Need-rule-requires Inv-loop μ-loop
 rule-requires c κs = search needs
 
--- src/lib.rt:160:9
 least-requires : tie.Need-least-requires Inv-loop μ-loop
 least-requires c κs = search needs
 
--- src/lib.rt:161:9
 add-i : tie.Need-add-i Inv-loop μ-loop
 add-i c = search needs
 
--- src/lib.rt:156:5
 loop-less : tie.Need-loop-less Inv-loop μ-loop
 loop-less c = search needs
 
--- src/lib.rt:156:5
 loop-again : tie.Need-loop-again Inv-loop μ-loop
 loop-again c = search levels-laws depth 12
 
--- src/lib.rt:148:1
 returns : tie.Need-returns Inv-loop μ-loop
 returns c = search levels-laws depth 12
 

@@ -2,60 +2,43 @@ use Rattle.form.proofs.FormLaws.{form-laws}
 use borrow.Author.Needs.{needs}
 use Rattle.form.proofs.form_of.Statement.{statement}
 use Rattle.form.proofs.form_of.Tie as tie
-use Rattle.form.proofs.form_of.Reads as reads
-use Rattle.form.proofs.form_of.Lts as lts
-use Rattle.form.proofs.lowest_large.Reads as lowest-large-reads
-use Rattle.layout.proofs.counted.Reads as counted-reads
-use Rattle.layout.proofs.laid_out.Reads as laid-out-reads
-use Rattle.uses.proofs.lowest_broken.Reads as lowest-broken-reads
 
--- src/lib.rt:178:9
 laid-out-requires : tie.Need-laid-out-requires
 laid-out-requires c κs = search needs
 
--- src/lib.rt:180:9
 returns : tie.Need-returns
 returns c = search form-laws depth 12
 
--- src/lib.rt:182:9
 counted-requires : tie.Need-counted-requires
 counted-requires c κs = search needs
 
--- src/lib.rt:184:9
 returns-2 : tie.Need-returns-2
 returns-2 c = search form-laws depth 12
 
--- src/lib.rt:186:9
 lowest-broken-requires : tie.Need-lowest-broken-requires
 lowest-broken-requires c κs = search form-laws depth 12
 
--- src/lib.rt:187:23
 enum-known-fields : tie.Need-enum-known-fields
 enum-known-fields c = search needs
 
--- src/lib.rt:188:9
 returns-3 : tie.Need-returns-3
 returns-3 c = search form-laws depth 12
 
 enum-told : tie.Need-enum-told
 enum-told c = search needs
 
--- src/lib.rt:190:9
 lowest-large-requires : tie.Need-lowest-large-requires
 lowest-large-requires c κs = search form-laws depth 12
 
--- src/lib.rt:191:23
 enum-known-sizes : tie.Need-enum-known-sizes
 enum-known-sizes c = search needs
 
--- src/lib.rt:192:9
 returns-4 : tie.Need-returns-4
 returns-4 c = search form-laws depth 12
 
 enum-told-2 : tie.Need-enum-told-2
 enum-told-2 c = search needs
 
--- src/lib.rt:175:1
 returns-5 : tie.Need-returns-5
 returns-5 c = search form-laws depth 12
 

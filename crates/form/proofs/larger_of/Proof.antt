@@ -1,14 +1,10 @@
 use Rattle.form.proofs.FormLaws.{above-laws}
 use Rattle.form.proofs.larger_of.Statement.{statement}
 use Rattle.form.proofs.larger_of.Tie as tie
-use Rattle.form.proofs.larger_of.Reads as reads
-use Rattle.form.proofs.larger_of.Lts as lts
 
--- src/lib.rt:105:9
 returns : tie.Need-returns
 returns c = search above-laws depth 12
 
--- src/lib.rt:101:1
 returns-2 : tie.Need-returns-2
 returns-2 c = search above-laws depth 12
 

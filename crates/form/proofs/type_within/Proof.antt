@@ -2,32 +2,22 @@ use Rattle.form.proofs.FormLaws.{fits-laws}
 use borrow.Author.Needs.{needs}
 use Rattle.form.proofs.type_within.Statement.{statement}
 use Rattle.form.proofs.type_within.Tie as tie
-use Rattle.form.proofs.type_within.Reads as reads
-use Rattle.form.proofs.type_within.Lts as lts
-use Rattle.form.proofs.walk.Reads as walk-reads
-use Rattle.wire.proofs.index.Reads as index-reads
 
--- src/lib.rt:64:21
 index-requires : tie.Need-index-requires
 index-requires c κs = search needs
 
--- src/lib.rt:64:9
 walk-requires : tie.Need-walk-requires
 walk-requires c κs = search needs
 
--- src/lib.rt:66:21
 enum-known-w : tie.Need-enum-known-w
 enum-known-w c = search needs
 
--- src/lib.rt:67:25
 enum-told : tie.Need-enum-told
 enum-told c = search needs
 
--- src/lib.rt:61:1
 returns : tie.Need-returns
 returns c = search fits-laws depth 12
 
--- src/lib.rt:61:1
 returns-2 : tie.Need-returns-2
 returns-2 c = search fits-laws depth 12
 

@@ -2,35 +2,25 @@ use Rattle.layout.specs.Loops.{clip-laws}
 use borrow.Author.Needs.{needs}
 use Rattle.layout.proofs.clipped.Statement.{statement}
 use Rattle.layout.proofs.clipped.Tie as tie
-use Rattle.layout.proofs.clipped.Reads as reads
-use Rattle.layout.proofs.clipped.Lts as lts
-use Rattle.wire.proofs.index.Reads as index-reads
 
--- src/lib.rt:47:15
 index-requires : tie.Need-index-requires
 index-requires c κs = search needs
 
--- src/lib.rt:47:36
 index-requires-2 : tie.Need-index-requires-2
 index-requires-2 c κs = search needs
 
--- src/lib.rt:47:15
 add-end : tie.Need-add-end
 add-end c = search needs
 
--- src/lib.rt:48:14
 index-requires-3 : tie.Need-index-requires-3
 index-requires-3 c κs = search needs
 
--- src/lib.rt:49:16
 add-result : tie.Need-add-result
 add-result c = search needs
 
--- src/lib.rt:49:9
 returns : tie.Need-returns
 returns c = search clip-laws depth 12
 
--- src/lib.rt:44:1
 returns-2 : tie.Need-returns-2
 returns-2 c = search clip-laws depth 12
 

@@ -2,23 +2,16 @@ use Rattle.layout.specs.LeastFacts.{least-facts}
 use borrow.Author.Needs.{needs}
 use Rattle.layout.proofs.rule.Statement.{statement}
 use Rattle.layout.proofs.rule.Tie as tie
-use Rattle.layout.proofs.rule.Reads as reads
-use Rattle.layout.proofs.rule.Lts as lts
-use Rattle.layout.proofs.least.Reads as least-reads
 
--- src/lib.rt:58:9
 least-requires : tie.Need-least-requires
 least-requires c κs = search needs
 
--- src/lib.rt:58:9
 returns : tie.Need-returns
 returns c = search least-facts depth 12
 
--- src/lib.rt:60:5
 least-requires-2 : tie.Need-least-requires-2
 least-requires-2 c κs = search needs
 
--- src/lib.rt:54:1
 returns-2 : tie.Need-returns-2
 returns-2 c = search least-facts depth 12
 

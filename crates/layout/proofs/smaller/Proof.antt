@@ -1,14 +1,10 @@
 use Rattle.layout.specs.LeastFacts.{least-facts}
 use Rattle.layout.proofs.smaller.Statement.{statement}
 use Rattle.layout.proofs.smaller.Tie as tie
-use Rattle.layout.proofs.smaller.Reads as reads
-use Rattle.layout.proofs.smaller.Lts as lts
 
--- src/lib.rt:37:9
 returns : tie.Need-returns
 returns c = search least-facts depth 12
 
--- src/lib.rt:33:1
 returns-2 : tie.Need-returns-2
 returns-2 c = search least-facts depth 12
 

@@ -2,28 +2,19 @@ use Rattle.network.specs.Layout.{typeAt}
 use borrow.Author.Needs.{needs}
 use Rattle.layout.proofs.type_at.Statement.{statement}
 use Rattle.layout.proofs.type_at.Tie as tie
-use Rattle.layout.proofs.type_at.Reads as reads
-use Rattle.layout.proofs.type_at.Lts as lts
-use Rattle.layout.proofs.start.Reads as start-reads
-use Rattle.wire.proofs.index.Reads as index-reads
 
--- src/lib.rt:147:5
 start-requires : tie.Need-start-requires
 start-requires c κs = search needs
 
--- src/lib.rt:147:23
 index-requires : tie.Need-index-requires
 index-requires c κs = search needs
 
--- src/lib.rt:147:19
 mul-result : tie.Need-mul-result
 mul-result c = search needs
 
--- src/lib.rt:147:5
 add-result : tie.Need-add-result
 add-result c = search needs
 
--- src/lib.rt:144:1
 returns : tie.Need-returns
 unfolding typeAt
 returns c = (cc, search needs)

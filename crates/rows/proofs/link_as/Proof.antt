@@ -1,14 +1,10 @@
 use Rattle.rows.proofs.KindLaws.{link-laws}
 use Rattle.rows.proofs.link_as.Statement.{statement}
 use Rattle.rows.proofs.link_as.Tie as tie
-use Rattle.rows.proofs.link_as.Reads as reads
-use Rattle.rows.proofs.link_as.Lts as lts
 
--- src/lib.rt:310:9
 returns : tie.Need-returns
 returns c = search link-laws depth 12
 
--- src/lib.rt:306:1
 returns-2 : tie.Need-returns-2
 returns-2 c = search link-laws depth 12
 

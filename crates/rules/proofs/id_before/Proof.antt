@@ -2,24 +2,16 @@ use Rattle.rules.proofs.RuleLaws.{row-laws}
 use borrow.Author.Needs.{needs}
 use Rattle.rules.proofs.id_before.Statement.{statement}
 use Rattle.rules.proofs.id_before.Tie as tie
-use Rattle.rules.proofs.id_before.Reads as reads
-use Rattle.rules.proofs.id_before.Lts as lts
-use Rattle.rows.proofs.type_id.Reads as type-id-reads
-use Rattle.rules.proofs.before.Reads as before-reads
 
--- src/lib.rt:83:9
 returns : tie.Need-returns
 returns c = search row-laws depth 12
 
--- src/lib.rt:85:22
 before-requires : tie.Need-before-requires
 before-requires c κs = search needs
 
--- src/lib.rt:85:5
 type-id-requires : tie.Need-type-id-requires
 type-id-requires c κs = search needs
 
--- src/lib.rt:79:1
 returns-2 : tie.Need-returns-2
 returns-2 c = search row-laws depth 12
 

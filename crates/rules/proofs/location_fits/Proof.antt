@@ -1,18 +1,13 @@
 use Rattle.rules.proofs.RuleLaws.{operation-laws}
 use Rattle.rules.proofs.location_fits.Statement.{statement}
 use Rattle.rules.proofs.location_fits.Tie as tie
-use Rattle.rules.proofs.location_fits.Reads as reads
-use Rattle.rules.proofs.location_fits.Lts as lts
 
--- src/lib.rt:139:1
 returns : tie.Need-returns
 returns c = search operation-laws depth 12
 
--- src/lib.rt:139:1
 returns-2 : tie.Need-returns-2
 returns-2 c = search operation-laws depth 12
 
--- src/lib.rt:139:1
 returns-3 : tie.Need-returns-3
 returns-3 c = search operation-laws depth 12
 

@@ -4,11 +4,6 @@ use Rattle.layout.specs.Loops.{Swept, loop-laws}
 use borrow.Author.Needs.{needs}
 use Rattle.rules.proofs.path_rows.Statement.{statement}
 use Rattle.rules.proofs.path_rows.Tie as tie
-use Rattle.rules.proofs.path_rows.Reads as reads
-use Rattle.rules.proofs.path_rows.Lts as lts
-use Rattle.layout.proofs.least.Reads as least-reads
-use Rattle.layout.proofs.path_count.Reads as path-count-reads
-use Rattle.rules.proofs.path_rule.Reads as path-rule-reads
 
 abbrev Inv-loop : tie.InvT-loop
 Inv-loop s n m₀ i₀ m i = Swept (pathRow s) n i m
@@ -16,35 +11,27 @@ Inv-loop s n m₀ i₀ m i = Swept (pathRow s) n i m
 abbrev μ-loop : tie.MeasureT-loop
 μ-loop s n m₀ i₀ m i = n - i
 
--- src/lib.rt:36:9
 path-count-requires : tie.Need-path-count-requires Inv-loop μ-loop
 path-count-requires c κs = search needs
 
--- src/lib.rt:39:5
 loop-holds : tie.Need-loop-holds Inv-loop μ-loop
 loop-holds c = search loop-laws depth 12
 
--- src/lib.rt:40:22
 path-rule-requires : tie.Need-path-rule-requires Inv-loop μ-loop
 path-rule-requires c κs = search needs
 
--- src/lib.rt:40:9
 least-requires : tie.Need-least-requires Inv-loop μ-loop
 least-requires c κs = search needs
 
--- src/lib.rt:41:9
 add-i : tie.Need-add-i Inv-loop μ-loop
 add-i c = search needs
 
--- src/lib.rt:39:5
 loop-less : tie.Need-loop-less Inv-loop μ-loop
 loop-less c = search needs
 
--- src/lib.rt:39:5
 loop-again : tie.Need-loop-again Inv-loop μ-loop
 loop-again c = search loop-laws depth 12
 
--- src/lib.rt:33:1
 returns : tie.Need-returns Inv-loop μ-loop
 unfolding pathRows
 returns c = search loop-laws depth 12

@@ -4,10 +4,6 @@ use Rattle.network.specs.Rows.{repeatRule}
 use borrow.Author.Needs.{needs}
 use Rattle.rules.proofs.repeats.Statement.{statement}
 use Rattle.rules.proofs.repeats.Tie as tie
-use Rattle.rules.proofs.repeats.Reads as reads
-use Rattle.rules.proofs.repeats.Lts as lts
-use Rattle.layout.proofs.least.Reads as least-reads
-use Rattle.rules.proofs.repeat_rule.Reads as repeat-rule-reads
 
 abbrev Inv-loop : tie.InvT-loop
 Inv-loop s r m₀ i₀ m i = Swept (repeatRule s r) r i m
@@ -15,31 +11,24 @@ Inv-loop s r m₀ i₀ m i = Swept (repeatRule s r) r i m
 abbrev μ-loop : tie.MeasureT-loop
 μ-loop s r m₀ i₀ m i = r - i
 
--- src/lib.rt:187:5
 loop-holds : tie.Need-loop-holds Inv-loop μ-loop
 loop-holds c = search loop-laws depth 12
 
--- src/lib.rt:188:22
 repeat-rule-requires : tie.Need-repeat-rule-requires Inv-loop μ-loop
 repeat-rule-requires c κs = search needs
 
--- src/lib.rt:188:9
 least-requires : tie.Need-least-requires Inv-loop μ-loop
 least-requires c κs = search needs
 
--- src/lib.rt:189:9
 add-i : tie.Need-add-i Inv-loop μ-loop
 add-i c = search needs
 
--- src/lib.rt:187:5
 loop-less : tie.Need-loop-less Inv-loop μ-loop
 loop-less c = search needs
 
--- src/lib.rt:187:5
 loop-again : tie.Need-loop-again Inv-loop μ-loop
 loop-again c = search loop-laws depth 12
 
--- src/lib.rt:182:1
 returns : tie.Need-returns Inv-loop μ-loop
 returns c = search loop-laws depth 12
 

@@ -4,11 +4,6 @@ use Rattle.layout.specs.Loops.{Swept, loop-laws}
 use borrow.Author.Needs.{needs}
 use Rattle.rules.proofs.service_rows.Statement.{statement}
 use Rattle.rules.proofs.service_rows.Tie as tie
-use Rattle.rules.proofs.service_rows.Reads as reads
-use Rattle.rules.proofs.service_rows.Lts as lts
-use Rattle.layout.proofs.least.Reads as least-reads
-use Rattle.layout.proofs.service_count.Reads as service-count-reads
-use Rattle.rules.proofs.service_rule.Reads as service-rule-reads
 
 abbrev Inv-loop : tie.InvT-loop
 Inv-loop s n m₀ i₀ m i = Swept (serviceRow s) n i m
@@ -16,35 +11,27 @@ Inv-loop s n m₀ i₀ m i = Swept (serviceRow s) n i m
 abbrev μ-loop : tie.MeasureT-loop
 μ-loop s n m₀ i₀ m i = n - i
 
--- src/lib.rt:286:9
 service-count-requires : tie.Need-service-count-requires Inv-loop μ-loop
 service-count-requires c κs = search needs
 
--- src/lib.rt:289:5
 loop-holds : tie.Need-loop-holds Inv-loop μ-loop
 loop-holds c = search loop-laws depth 12
 
--- src/lib.rt:290:22
 service-rule-requires : tie.Need-service-rule-requires Inv-loop μ-loop
 service-rule-requires c κs = search needs
 
--- src/lib.rt:290:9
 least-requires : tie.Need-least-requires Inv-loop μ-loop
 least-requires c κs = search needs
 
--- src/lib.rt:291:9
 add-i : tie.Need-add-i Inv-loop μ-loop
 add-i c = search needs
 
--- src/lib.rt:289:5
 loop-less : tie.Need-loop-less Inv-loop μ-loop
 loop-less c = search needs
 
--- src/lib.rt:289:5
 loop-again : tie.Need-loop-again Inv-loop μ-loop
 loop-again c = search loop-laws depth 12
 
--- src/lib.rt:283:1
 returns : tie.Need-returns Inv-loop μ-loop
 unfolding serviceRows
 returns c = search loop-laws depth 12

@@ -5,12 +5,6 @@ use Rattle.uses.specs.Marks.{neverUsed}
 use borrow.Author.Needs.{needs}
 use Rattle.uses.proofs.never_used.Statement.{statement}
 use Rattle.uses.proofs.never_used.Tie as tie
-use Rattle.uses.proofs.never_used.Reads as reads
-use Rattle.uses.proofs.never_used.Lts as lts
-use Rattle.layout.proofs.behaviour_at.Reads as behaviour-at-reads
-use Rattle.layout.proofs.least.Reads as least-reads
-use Rattle.layout.proofs.rule.Reads as rule-reads
-use Rattle.wire.proofs.index.Reads as index-reads
 
 abbrev Inv-loop : tie.InvT-loop
 Inv-loop s marks n m₀ i₀ m i = Swept (neverUsed s) n i m
@@ -18,43 +12,33 @@ Inv-loop s marks n m₀ i₀ m i = Swept (neverUsed s) n i m
 abbrev μ-loop : tie.MeasureT-loop
 μ-loop s marks n m₀ i₀ m i = n - i
 
--- src/lib.rt:144:5
 loop-holds : tie.Need-loop-holds Inv-loop μ-loop
 loop-holds c = search never-laws depth 12
 
--- src/lib.rt:145:13
 index-requires : tie.Need-index-requires Inv-loop μ-loop
 index-requires c κs = search needs
 
--- src/lib.rt:146:27
 element-copy-out-rule : tie.Need-element-copy-out-rule Inv-loop μ-loop
 element-copy-out-rule c = search needs
 
--- src/lib.rt:146:43
 behaviour-at-requires : tie.Need-behaviour-at-requires Inv-loop μ-loop
 behaviour-at-requires c κs = search needs
 
--- src/lib.rt:146:22
 rule-requires : tie.Need-rule-requires Inv-loop μ-loop
 rule-requires c κs = search needs
 
--- src/lib.rt:146:9
 least-requires : tie.Need-least-requires Inv-loop μ-loop
 least-requires c κs = search needs
 
--- src/lib.rt:147:9
 add-i : tie.Need-add-i Inv-loop μ-loop
 add-i c = search needs
 
--- src/lib.rt:144:5
 loop-less : tie.Need-loop-less Inv-loop μ-loop
 loop-less c = search needs
 
--- src/lib.rt:144:5
 loop-again : tie.Need-loop-again Inv-loop μ-loop
 loop-again c = search never-laws depth 12
 
--- src/lib.rt:138:1
 returns : tie.Need-returns Inv-loop μ-loop
 returns c = search never-laws depth 12
 

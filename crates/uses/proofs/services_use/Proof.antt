@@ -3,13 +3,6 @@ use Rattle.uses.proofs.MarkLaws.{services-laws, Serving}
 use borrow.Author.Needs.{needs}
 use Rattle.uses.proofs.services_use.Statement.{statement}
 use Rattle.uses.proofs.services_use.Tie as tie
-use Rattle.uses.proofs.services_use.Reads as reads
-use Rattle.uses.proofs.services_use.Lts as lts
-use Rattle.layout.proofs.least.Reads as least-reads
-use Rattle.layout.proofs.rule.Reads as rule-reads
-use Rattle.layout.proofs.service_at.Reads as service-at-reads
-use Rattle.layout.proofs.service_count.Reads as service-count-reads
-use Rattle.uses.proofs.use_service.Reads as use-service-reads
 
 abbrev Inv-loop : tie.InvT-loop
 Inv-loop s marks₀ n all m₀ i₀ marks m i = Serving s n all i m marks
@@ -17,43 +10,33 @@ Inv-loop s marks₀ n all m₀ i₀ marks m i = Serving s n all i m marks
 abbrev μ-loop : tie.MeasureT-loop
 μ-loop s marks₀ n all m₀ i₀ marks m i = all - i
 
--- src/lib.rt:126:9
 service-count-requires : tie.Need-service-count-requires Inv-loop μ-loop
 service-count-requires c κs = search needs
 
--- src/lib.rt:129:5
 loop-holds : tie.Need-loop-holds Inv-loop μ-loop
 loop-holds c = search services-laws depth 12
 
--- src/lib.rt:130:13
 use-service-requires : tie.Need-use-service-requires Inv-loop μ-loop
 use-service-requires c κs = search needs
 
--- src/lib.rt:131:35
 service-at-requires : tie.Need-service-at-requires Inv-loop μ-loop
 service-at-requires c κs = search needs
 
--- src/lib.rt:131:22
 rule-requires : tie.Need-rule-requires Inv-loop μ-loop
 rule-requires c κs = search needs
 
--- src/lib.rt:131:9
 least-requires : tie.Need-least-requires Inv-loop μ-loop
 least-requires c κs = search needs
 
--- src/lib.rt:132:9
 add-i : tie.Need-add-i Inv-loop μ-loop
 add-i c = search needs
 
--- src/lib.rt:129:5
 loop-less : tie.Need-loop-less Inv-loop μ-loop
 loop-less c = search needs
 
--- src/lib.rt:129:5
 loop-again : tie.Need-loop-again Inv-loop μ-loop
 loop-again c = search services-laws depth 12
 
--- src/lib.rt:122:1
 returns : tie.Need-returns Inv-loop μ-loop
 returns c = search services-laws depth 12
 

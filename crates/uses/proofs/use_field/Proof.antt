@@ -2,108 +2,79 @@ use Rattle.uses.proofs.MarkLaws.{field-laws}
 use borrow.Author.Needs.{needs}
 use Rattle.uses.proofs.use_field.Statement.{statement}
 use Rattle.uses.proofs.use_field.Tie as tie
-use Rattle.uses.proofs.use_field.Reads as reads
-use Rattle.uses.proofs.use_field.Lts as lts
-use Rattle.uses.proofs.use_row.Reads as use-row-reads
-use Rattle.uses.proofs.use_run.Reads as use-run-reads
 
--- src/lib.rt:51:23
 enum-told : tie.Need-enum-told
 enum-told c = search needs
 
--- src/lib.rt:52:25
 enum-told-2 : tie.Need-enum-told-2
 enum-told-2 c = search needs
 
--- src/lib.rt:53:26
 enum-told-3 : tie.Need-enum-told-3
 enum-told-3 c = search needs
 
--- src/lib.rt:54:29
 enum-told-4 : tie.Need-enum-told-4
 enum-told-4 c = search needs
 
--- src/lib.rt:55:32
 enum-told-5 : tie.Need-enum-told-5
 enum-told-5 c = search needs
 
--- src/lib.rt:56:31
 enum-told-6 : tie.Need-enum-told-6
 enum-told-6 c = search needs
 
--- src/lib.rt:57:35
 enum-told-7 : tie.Need-enum-told-7
 enum-told-7 c = search needs
 
--- src/lib.rt:57:27
 use-row-requires : tie.Need-use-row-requires
 use-row-requires c κs = search needs
 
--- src/lib.rt:58:35
 enum-told-8 : tie.Need-enum-told-8
 enum-told-8 c = search needs
 
--- src/lib.rt:58:27
 use-row-requires-2 : tie.Need-use-row-requires-2
 use-row-requires-2 c κs = search needs
 
--- src/lib.rt:59:36
 enum-told-9 : tie.Need-enum-told-9
 enum-told-9 c = search needs
 
--- src/lib.rt:59:28
 use-run-requires : tie.Need-use-run-requires
 use-run-requires c κs = search needs
 
--- src/lib.rt:60:30
 enum-told-10 : tie.Need-enum-told-10
 enum-told-10 c = search needs
 
--- src/lib.rt:61:31
 enum-told-11 : tie.Need-enum-told-11
 enum-told-11 c = search needs
 
--- src/lib.rt:46:1
 returns : tie.Need-returns
 returns c = search field-laws depth 12
 
--- src/lib.rt:46:1
 returns-2 : tie.Need-returns-2
 returns-2 c = search field-laws depth 12
 
--- src/lib.rt:46:1
 returns-3 : tie.Need-returns-3
 returns-3 c = search field-laws depth 12
 
--- src/lib.rt:46:1
 returns-4 : tie.Need-returns-4
 returns-4 c = search field-laws depth 12
 
--- src/lib.rt:46:1
 returns-5 : tie.Need-returns-5
 returns-5 c = search field-laws depth 12
 
--- src/lib.rt:46:1
 returns-6 : tie.Need-returns-6
 returns-6 c = search field-laws depth 12
 
--- src/lib.rt:46:1
 returns-7 : tie.Need-returns-7
 returns-7 c = search field-laws depth 12
 
--- src/lib.rt:46:1
 returns-8 : tie.Need-returns-8
 returns-8 c = search field-laws depth 12
 
--- src/lib.rt:46:1
 returns-9 : tie.Need-returns-9
 returns-9 c = search field-laws depth 12
 
--- src/lib.rt:46:1
 returns-10 : tie.Need-returns-10
 returns-10 c = search field-laws depth 12
 
--- src/lib.rt:46:1
 returns-11 : tie.Need-returns-11
 returns-11 c = search field-laws depth 12
 

@@ -1,0 +1,82 @@
+-- Network's syntax in terms of rows read by value, for code that reads a row and matches on it: what a row becomes, its operands,
+-- children and sub-behaviours given by a function. RowSyntaxLaws says that this is what network's Decode says.
+use Prim.Native.Nat.{ℕ, zero, suc, _+_}
+use mathlib.Core.List.{List, [], _∷_}
+use mathlib.Core.Bool.{Bool, true, false}
+use Rattle.scalar.specs.Basic.{void}
+use Rattle.scalar.specs.Value.{value, pick}
+use Rattle.forest.specs.Forest.{Tree, tree}
+use Rattle.forest.specs.Path.{Path, path}
+use Rattle.syntax.specs.Syntax.{Mark, mark, logicalNot, negate, add, subtract, less, equal, logicalAnd, Expression, constant, valueAt, presence, unary, binary, input, output, Operation, Behaviour, nil, oneWay, requestResponse, notification, solicitResponse, ifThenElse, whileDo, sequence, parallel, assign, choice, Optional, none, some, Service}
+use Rattle.network.specs.Layout.{dataPart}
+use Rattle.network.specs.Decode.{untilZero, pathOf, siblings, expressionOf, operationOf, branchesFrom, typeOf, noReply, behaviourOf}
+use Rattle.rows.specs.declared.TypeNode.{TypeNode}
+use Rattle.rows.specs.declared.ExpressionRow.{ExpressionRow}
+use Rattle.rows.specs.declared.BehaviourRow.{BehaviourRow}
+use Rattle.rows.specs.declared.OperationRow.{OperationRow}
+use Rattle.rows.specs.declared.Link.{Link}
+use Rattle.rows.specs.declared.ServiceRow.{ServiceRow}
+
+-- A T row's node: its mark, over its children as `child` gives them.
+unfoldable pub typeWith : List ℕ → (ℕ → Tree Mark) → TypeNode → Tree Mark
+typeWith s child t = tree (mark (t .mandatory) (t .basic)) (siblings s child (t .first) (t .count))
+
+-- An E row, its operands as `operand` gives them.
+unfoldable pub expressionWith : List ℕ → (ℕ → Expression) → ExpressionRow → Expression
+expressionWith s operand (ExpressionRow.Constant basic v n) = constant (value basic (dataPart s v n))
+expressionWith s operand (ExpressionRow.ValueAt p) = valueAt (pathOf s p)
+expressionWith s operand (ExpressionRow.Presence p) = presence (pathOf s p)
+expressionWith s operand (ExpressionRow.Not a) = unary logicalNot (operand a)
+expressionWith s operand (ExpressionRow.Negate a) = unary negate (operand a)
+expressionWith s operand (ExpressionRow.Add a b) = binary add (operand a) (operand b)
+expressionWith s operand (ExpressionRow.Subtract a b) = binary subtract (operand a) (operand b)
+expressionWith s operand (ExpressionRow.Less a b) = binary less (operand a) (operand b)
+expressionWith s operand (ExpressionRow.Equal a b) = binary equal (operand a) (operand b)
+expressionWith s operand (ExpressionRow.And a b) = binary logicalAnd (operand a) (operand b)
+expressionWith s operand ExpressionRow.Unknown = constant (value void [])
+
+-- B row r, its sub-behaviours as `sub` gives them.
+unfoldable pub behaviourWith : List ℕ → (ℕ → Behaviour) → ℕ → BehaviourRow → Behaviour
+behaviourWith s sub r BehaviourRow.Nil = nil r
+behaviourWith s sub r (BehaviourRow.OneWay o x) = oneWay r (operationOf s o) (pathOf s x)
+behaviourWith s sub r (BehaviourRow.RequestResponse o x y body) = requestResponse r (operationOf s o) (pathOf s x) (pathOf s y) (sub body)
+behaviourWith s sub r (BehaviourRow.Notification o e) = notification r (operationOf s o) (expressionOf s e)
+behaviourWith s sub r (BehaviourRow.SolicitResponse o e x) = solicitResponse r (operationOf s o) (expressionOf s e) (pathOf s x)
+behaviourWith s sub r (BehaviourRow.If e a b) = ifThenElse r (expressionOf s e) (sub a) (sub b)
+behaviourWith s sub r (BehaviourRow.While e a) = whileDo r (expressionOf s e) (sub a)
+behaviourWith s sub r (BehaviourRow.Sequence a b) = sequence r (sub a) (sub b)
+behaviourWith s sub r (BehaviourRow.Parallel a b) = parallel r (sub a) (sub b)
+behaviourWith s sub r (BehaviourRow.Assign x e) = assign r (pathOf s x) (expressionOf s e)
+behaviourWith s sub r (BehaviourRow.Choice first n) = choice r (branchesFrom s sub first n)
+behaviourWith s sub r (BehaviourRow.Branch i a) = nil r
+behaviourWith s sub r BehaviourRow.Unknown = nil r
+
+-- O row r.
+unfoldable pub operationWith : List ℕ → ℕ → OperationRow → Operation
+operationWith s r o = record {
+  row = r;
+  service = o .service;
+  direction = pick (o .input) input output;
+  twoWay = o .twoway;
+  id = o .id;
+  location = o .location;
+  request = typeOf s (o .request);
+  reply = pick (o .twoway) (typeOf s (o .reply)) noReply;
+}
+
+-- An S row.
+unfoldable pub linked : List ℕ → Link → Optional Behaviour
+linked s (Link.Row v) = some (behaviourOf s v)
+linked s Link.Nothing = none
+
+unfoldable pub serviceWith : List ℕ → ServiceRow → Service
+serviceWith s v = record {
+  location = v .location;
+  starter = linked s (v .starter);
+  client = linked s (v .client);
+}
+
+-- Four ids as a path.
+unfoldable pub pathWith : List ℕ → Path
+pathWith [] = path 0 []
+pathWith (i ∷ is) = path i (untilZero is)

@@ -1,0 +1,82 @@
+-- A row read by value becomes the syntax that network's Decode gives it.
+use Prim.Native.Nat.{ℕ, zero, suc, _+_}
+use mathlib.Core.Path.{_≡_, refl, sym, _∙_, ap}
+use mathlib.Core.List.{List}
+use mathlib.Core.Bool.{Bool, true, false}
+use lib.Dec.{eqb}
+use Rattle.scalar.specs.Value.{pick}
+use Rattle.forest.specs.Forest.{Tree}
+use Rattle.syntax.specs.Syntax.{Mark, Expression, Behaviour, Optional, none, some}
+use Rattle.wire.specs.Wire.{byteAt}
+use Rattle.network.specs.declared.ExpressionKind.{ExpressionKind}
+use Rattle.network.specs.declared.BehaviourKind.{BehaviourKind}
+use Rattle.network.specs.Layout.{expressionAt, behaviourAt}
+use Rattle.network.specs.Rows.{fieldA, fieldB, fieldC, fieldD, expressionKindAt, kindAt, noRow, starterRow, clientRow}
+use Rattle.network.specs.Decode.{pathOf, markOf, writtenOut, expressionFrom, expressionTo, operationOf, behaviourFrom, behaviourTo, behaviourOf, optionalBehaviour, serviceOf}
+use Rattle.rows.specs.declared.Link.{Link}
+use Rattle.rows.specs.Readers.{pathIds, typeNodeOf, expressionRowAs, expressionRowOf, behaviourRowAs, behaviourRowOf, operationRowOf, linkOf, serviceRowOf}
+use Rattle.rows.specs.RowSyntax.{typeWith, expressionWith, behaviourWith, operationWith, linked, serviceWith, pathWith}
+
+pub path-row-is : (s : List ℕ) (r : ℕ) → pathOf s r ≡ pathWith (pathIds s r)
+unfolding pathOf pathWith pathIds
+path-row-is s r = refl
+
+pub type-row-is : (s : List ℕ) (d r : ℕ) → writtenOut s (suc d) r ≡ typeWith s (writtenOut s d) (typeNodeOf s r)
+unfolding writtenOut typeWith typeNodeOf markOf
+type-row-is s d r = refl
+
+expression-kind-is : (s : List ℕ) (operand : ℕ → Expression) (at : ℕ) (k : ExpressionKind) →
+    expressionFrom s operand at k ≡ expressionWith s operand (expressionRowAs k (byteAt s (at + 1)) (fieldA s at) (fieldB s at))
+unfolding expressionFrom expressionWith expressionRowAs
+expression-kind-is s operand at ExpressionKind.Constant = refl
+expression-kind-is s operand at ExpressionKind.ValueAt = refl
+expression-kind-is s operand at ExpressionKind.Presence = refl
+expression-kind-is s operand at ExpressionKind.Not = refl
+expression-kind-is s operand at ExpressionKind.Negate = refl
+expression-kind-is s operand at ExpressionKind.Add = refl
+expression-kind-is s operand at ExpressionKind.Subtract = refl
+expression-kind-is s operand at ExpressionKind.Less = refl
+expression-kind-is s operand at ExpressionKind.Equal = refl
+expression-kind-is s operand at ExpressionKind.And = refl
+expression-kind-is s operand at ExpressionKind.Unknown = refl
+
+pub expression-row-is : (s : List ℕ) (d r : ℕ) → expressionTo s (suc d) r ≡ expressionWith s (expressionTo s d) (expressionRowOf s r)
+unfolding expressionTo expressionRowOf
+expression-row-is s d r = expression-kind-is s (expressionTo s d) (expressionAt s r) (expressionKindAt s r)
+
+behaviour-kind-is : (s : List ℕ) (sub : ℕ → Behaviour) (r at : ℕ) (k : BehaviourKind) →
+    behaviourFrom s sub r at k ≡ behaviourWith s sub r (behaviourRowAs k (fieldA s at) (fieldB s at) (fieldC s at) (fieldD s at))
+unfolding behaviourFrom behaviourWith behaviourRowAs
+behaviour-kind-is s sub r at BehaviourKind.Nil = refl
+behaviour-kind-is s sub r at BehaviourKind.OneWay = refl
+behaviour-kind-is s sub r at BehaviourKind.RequestResponse = refl
+behaviour-kind-is s sub r at BehaviourKind.Notification = refl
+behaviour-kind-is s sub r at BehaviourKind.SolicitResponse = refl
+behaviour-kind-is s sub r at BehaviourKind.If = refl
+behaviour-kind-is s sub r at BehaviourKind.While = refl
+behaviour-kind-is s sub r at BehaviourKind.Sequence = refl
+behaviour-kind-is s sub r at BehaviourKind.Parallel = refl
+behaviour-kind-is s sub r at BehaviourKind.Assign = refl
+behaviour-kind-is s sub r at BehaviourKind.Choice = refl
+behaviour-kind-is s sub r at BehaviourKind.Branch = refl
+behaviour-kind-is s sub r at BehaviourKind.Unknown = refl
+
+pub behaviour-row-is : (s : List ℕ) (d r : ℕ) → behaviourTo s (suc d) r ≡ behaviourWith s (behaviourTo s d) r (behaviourRowOf s r)
+unfolding behaviourTo behaviourRowOf
+behaviour-row-is s d r = behaviour-kind-is s (behaviourTo s d) r (behaviourAt s r) (kindAt s r)
+
+pub operation-row-is : (s : List ℕ) (r : ℕ) → operationOf s r ≡ operationWith s r (operationRowOf s r)
+unfolding operationOf operationWith operationRowOf
+operation-row-is s r = refl
+
+link-is : (s : List ℕ) (v : ℕ) → optionalBehaviour s v ≡ linked s (linkOf v)
+unfolding linked linkOf
+link-is s v = go (eqb v noRow)
+  where
+    go : (t : Bool) → pick t none (some (behaviourOf s v)) ≡ linked s (pick t Link.Nothing (Link.Row v))
+    go true = refl
+    go false = refl
+
+pub service-row-is : (s : List ℕ) (r : ℕ) → serviceOf s r ≡ serviceWith s (serviceRowOf s r)
+unfolding serviceOf serviceWith serviceRowOf
+service-row-is s r = rw (link-is s (starterRow s r), link-is s (clientRow s r)) refl
