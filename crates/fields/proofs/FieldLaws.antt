@@ -17,8 +17,6 @@ use Rattle.network.specs.declared.BehaviourKind.{BehaviourKind}
 use Rattle.network.specs.declared.FieldSort.{FieldSort}
 use Rattle.network.specs.declared.FieldSort.the-variants.{Free, Unused, PathRow, EarlierRow, ExpressionRow, OperationRow, LaterRow, InputRow, BranchRun, BranchCount, ConstantPart}
 use Rattle.network.specs.declared.Fields.{Fields}
-use Rattle.fields.specs.declared.Sorts.{Sorts}
-use Rattle.fields.specs.Sorts.{fieldsOf}
 use Rattle.network.specs.Least.{least, rule, leastOver}
 use Rattle.network.specs.Layout.{pathCount, expressionCount, operationCount, behaviourCount, behaviourAt}
 use Rattle.network.specs.Kinds.{fields, expressionFields, behaviourFields}
@@ -26,101 +24,101 @@ use Rattle.network.specs.Rows.{inRun, laterRun, subFits, inputFits, constantFit
 use Rattle.layout.specs.LeastFacts.{rule-true}
 use Rattle.layout.specs.Loops.{Swept, swept-more, OnlyRun, clip, run-none, run-done, clip-below}
 
-pub expression-Constant : (k : ExpressionKind) (r : Sorts) → k ≡ ExpressionKind.Constant → fieldsOf r ≡ fields ConstantPart Free Unused Free → fieldsOf r ≡ expressionFields k
+pub expression-Constant : (k : ExpressionKind) (r : Fields) → k ≡ ExpressionKind.Constant → r ≡ fields ConstantPart Free Unused Free → r ≡ expressionFields k
 unfolding expressionFields
 expression-Constant k r e h = rw e h
 
-pub expression-ValueAt : (k : ExpressionKind) (r : Sorts) → k ≡ ExpressionKind.ValueAt → fieldsOf r ≡ fields PathRow Unused Unused Free → fieldsOf r ≡ expressionFields k
+pub expression-ValueAt : (k : ExpressionKind) (r : Fields) → k ≡ ExpressionKind.ValueAt → r ≡ fields PathRow Unused Unused Free → r ≡ expressionFields k
 unfolding expressionFields
 expression-ValueAt k r e h = rw e h
 
-pub expression-Presence : (k : ExpressionKind) (r : Sorts) → k ≡ ExpressionKind.Presence → fieldsOf r ≡ fields PathRow Unused Unused Free → fieldsOf r ≡ expressionFields k
+pub expression-Presence : (k : ExpressionKind) (r : Fields) → k ≡ ExpressionKind.Presence → r ≡ fields PathRow Unused Unused Free → r ≡ expressionFields k
 unfolding expressionFields
 expression-Presence k r e h = rw e h
 
-pub expression-Not : (k : ExpressionKind) (r : Sorts) → k ≡ ExpressionKind.Not → fieldsOf r ≡ fields EarlierRow Unused Unused Free → fieldsOf r ≡ expressionFields k
+pub expression-Not : (k : ExpressionKind) (r : Fields) → k ≡ ExpressionKind.Not → r ≡ fields EarlierRow Unused Unused Free → r ≡ expressionFields k
 unfolding expressionFields
 expression-Not k r e h = rw e h
 
-pub expression-Negate : (k : ExpressionKind) (r : Sorts) → k ≡ ExpressionKind.Negate → fieldsOf r ≡ fields EarlierRow Unused Unused Free → fieldsOf r ≡ expressionFields k
+pub expression-Negate : (k : ExpressionKind) (r : Fields) → k ≡ ExpressionKind.Negate → r ≡ fields EarlierRow Unused Unused Free → r ≡ expressionFields k
 unfolding expressionFields
 expression-Negate k r e h = rw e h
 
-pub expression-Add : (k : ExpressionKind) (r : Sorts) → k ≡ ExpressionKind.Add → fieldsOf r ≡ fields EarlierRow EarlierRow Unused Free → fieldsOf r ≡ expressionFields k
+pub expression-Add : (k : ExpressionKind) (r : Fields) → k ≡ ExpressionKind.Add → r ≡ fields EarlierRow EarlierRow Unused Free → r ≡ expressionFields k
 unfolding expressionFields
 expression-Add k r e h = rw e h
 
-pub expression-Subtract : (k : ExpressionKind) (r : Sorts) → k ≡ ExpressionKind.Subtract → fieldsOf r ≡ fields EarlierRow EarlierRow Unused Free → fieldsOf r ≡ expressionFields k
+pub expression-Subtract : (k : ExpressionKind) (r : Fields) → k ≡ ExpressionKind.Subtract → r ≡ fields EarlierRow EarlierRow Unused Free → r ≡ expressionFields k
 unfolding expressionFields
 expression-Subtract k r e h = rw e h
 
-pub expression-Less : (k : ExpressionKind) (r : Sorts) → k ≡ ExpressionKind.Less → fieldsOf r ≡ fields EarlierRow EarlierRow Unused Free → fieldsOf r ≡ expressionFields k
+pub expression-Less : (k : ExpressionKind) (r : Fields) → k ≡ ExpressionKind.Less → r ≡ fields EarlierRow EarlierRow Unused Free → r ≡ expressionFields k
 unfolding expressionFields
 expression-Less k r e h = rw e h
 
-pub expression-Equal : (k : ExpressionKind) (r : Sorts) → k ≡ ExpressionKind.Equal → fieldsOf r ≡ fields EarlierRow EarlierRow Unused Free → fieldsOf r ≡ expressionFields k
+pub expression-Equal : (k : ExpressionKind) (r : Fields) → k ≡ ExpressionKind.Equal → r ≡ fields EarlierRow EarlierRow Unused Free → r ≡ expressionFields k
 unfolding expressionFields
 expression-Equal k r e h = rw e h
 
-pub expression-And : (k : ExpressionKind) (r : Sorts) → k ≡ ExpressionKind.And → fieldsOf r ≡ fields EarlierRow EarlierRow Unused Free → fieldsOf r ≡ expressionFields k
+pub expression-And : (k : ExpressionKind) (r : Fields) → k ≡ ExpressionKind.And → r ≡ fields EarlierRow EarlierRow Unused Free → r ≡ expressionFields k
 unfolding expressionFields
 expression-And k r e h = rw e h
 
-pub expression-Unknown : (k : ExpressionKind) (r : Sorts) → k ≡ ExpressionKind.Unknown → fieldsOf r ≡ fields Free Free Free Free → fieldsOf r ≡ expressionFields k
+pub expression-Unknown : (k : ExpressionKind) (r : Fields) → k ≡ ExpressionKind.Unknown → r ≡ fields Free Free Free Free → r ≡ expressionFields k
 unfolding expressionFields
 expression-Unknown k r e h = rw e h
 
 pub ruleset expression-laws = (expression-Constant, expression-ValueAt, expression-Presence, expression-Not, expression-Negate, expression-Add, expression-Subtract, expression-Less, expression-Equal, expression-And, expression-Unknown)
 
-pub behaviour-Nil : (k : BehaviourKind) (r : Sorts) → k ≡ BehaviourKind.Nil → fieldsOf r ≡ fields Unused Unused Unused Unused → fieldsOf r ≡ behaviourFields k
+pub behaviour-Nil : (k : BehaviourKind) (r : Fields) → k ≡ BehaviourKind.Nil → r ≡ fields Unused Unused Unused Unused → r ≡ behaviourFields k
 unfolding behaviourFields
 behaviour-Nil k r e h = rw e h
 
-pub behaviour-OneWay : (k : BehaviourKind) (r : Sorts) → k ≡ BehaviourKind.OneWay → fieldsOf r ≡ fields OperationRow PathRow Unused Unused → fieldsOf r ≡ behaviourFields k
+pub behaviour-OneWay : (k : BehaviourKind) (r : Fields) → k ≡ BehaviourKind.OneWay → r ≡ fields OperationRow PathRow Unused Unused → r ≡ behaviourFields k
 unfolding behaviourFields
 behaviour-OneWay k r e h = rw e h
 
-pub behaviour-RequestResponse : (k : BehaviourKind) (r : Sorts) → k ≡ BehaviourKind.RequestResponse → fieldsOf r ≡ fields OperationRow PathRow PathRow LaterRow → fieldsOf r ≡ behaviourFields k
+pub behaviour-RequestResponse : (k : BehaviourKind) (r : Fields) → k ≡ BehaviourKind.RequestResponse → r ≡ fields OperationRow PathRow PathRow LaterRow → r ≡ behaviourFields k
 unfolding behaviourFields
 behaviour-RequestResponse k r e h = rw e h
 
-pub behaviour-Notification : (k : BehaviourKind) (r : Sorts) → k ≡ BehaviourKind.Notification → fieldsOf r ≡ fields OperationRow ExpressionRow Unused Unused → fieldsOf r ≡ behaviourFields k
+pub behaviour-Notification : (k : BehaviourKind) (r : Fields) → k ≡ BehaviourKind.Notification → r ≡ fields OperationRow ExpressionRow Unused Unused → r ≡ behaviourFields k
 unfolding behaviourFields
 behaviour-Notification k r e h = rw e h
 
-pub behaviour-SolicitResponse : (k : BehaviourKind) (r : Sorts) → k ≡ BehaviourKind.SolicitResponse → fieldsOf r ≡ fields OperationRow ExpressionRow PathRow Unused → fieldsOf r ≡ behaviourFields k
+pub behaviour-SolicitResponse : (k : BehaviourKind) (r : Fields) → k ≡ BehaviourKind.SolicitResponse → r ≡ fields OperationRow ExpressionRow PathRow Unused → r ≡ behaviourFields k
 unfolding behaviourFields
 behaviour-SolicitResponse k r e h = rw e h
 
-pub behaviour-If : (k : BehaviourKind) (r : Sorts) → k ≡ BehaviourKind.If → fieldsOf r ≡ fields ExpressionRow LaterRow LaterRow Unused → fieldsOf r ≡ behaviourFields k
+pub behaviour-If : (k : BehaviourKind) (r : Fields) → k ≡ BehaviourKind.If → r ≡ fields ExpressionRow LaterRow LaterRow Unused → r ≡ behaviourFields k
 unfolding behaviourFields
 behaviour-If k r e h = rw e h
 
-pub behaviour-While : (k : BehaviourKind) (r : Sorts) → k ≡ BehaviourKind.While → fieldsOf r ≡ fields ExpressionRow LaterRow Unused Unused → fieldsOf r ≡ behaviourFields k
+pub behaviour-While : (k : BehaviourKind) (r : Fields) → k ≡ BehaviourKind.While → r ≡ fields ExpressionRow LaterRow Unused Unused → r ≡ behaviourFields k
 unfolding behaviourFields
 behaviour-While k r e h = rw e h
 
-pub behaviour-Sequence : (k : BehaviourKind) (r : Sorts) → k ≡ BehaviourKind.Sequence → fieldsOf r ≡ fields LaterRow LaterRow Unused Unused → fieldsOf r ≡ behaviourFields k
+pub behaviour-Sequence : (k : BehaviourKind) (r : Fields) → k ≡ BehaviourKind.Sequence → r ≡ fields LaterRow LaterRow Unused Unused → r ≡ behaviourFields k
 unfolding behaviourFields
 behaviour-Sequence k r e h = rw e h
 
-pub behaviour-Parallel : (k : BehaviourKind) (r : Sorts) → k ≡ BehaviourKind.Parallel → fieldsOf r ≡ fields LaterRow LaterRow Unused Unused → fieldsOf r ≡ behaviourFields k
+pub behaviour-Parallel : (k : BehaviourKind) (r : Fields) → k ≡ BehaviourKind.Parallel → r ≡ fields LaterRow LaterRow Unused Unused → r ≡ behaviourFields k
 unfolding behaviourFields
 behaviour-Parallel k r e h = rw e h
 
-pub behaviour-Assign : (k : BehaviourKind) (r : Sorts) → k ≡ BehaviourKind.Assign → fieldsOf r ≡ fields PathRow ExpressionRow Unused Unused → fieldsOf r ≡ behaviourFields k
+pub behaviour-Assign : (k : BehaviourKind) (r : Fields) → k ≡ BehaviourKind.Assign → r ≡ fields PathRow ExpressionRow Unused Unused → r ≡ behaviourFields k
 unfolding behaviourFields
 behaviour-Assign k r e h = rw e h
 
-pub behaviour-Choice : (k : BehaviourKind) (r : Sorts) → k ≡ BehaviourKind.Choice → fieldsOf r ≡ fields BranchRun BranchCount Unused Unused → fieldsOf r ≡ behaviourFields k
+pub behaviour-Choice : (k : BehaviourKind) (r : Fields) → k ≡ BehaviourKind.Choice → r ≡ fields BranchRun BranchCount Unused Unused → r ≡ behaviourFields k
 unfolding behaviourFields
 behaviour-Choice k r e h = rw e h
 
-pub behaviour-Branch : (k : BehaviourKind) (r : Sorts) → k ≡ BehaviourKind.Branch → fieldsOf r ≡ fields InputRow LaterRow Unused Unused → fieldsOf r ≡ behaviourFields k
+pub behaviour-Branch : (k : BehaviourKind) (r : Fields) → k ≡ BehaviourKind.Branch → r ≡ fields InputRow LaterRow Unused Unused → r ≡ behaviourFields k
 unfolding behaviourFields
 behaviour-Branch k r e h = rw e h
 
-pub behaviour-Unknown : (k : BehaviourKind) (r : Sorts) → k ≡ BehaviourKind.Unknown → fieldsOf r ≡ fields Free Free Free Free → fieldsOf r ≡ behaviourFields k
+pub behaviour-Unknown : (k : BehaviourKind) (r : Fields) → k ≡ BehaviourKind.Unknown → r ≡ fields Free Free Free Free → r ≡ behaviourFields k
 unfolding behaviourFields
 behaviour-Unknown k r e h = rw e h
 
@@ -296,12 +294,12 @@ pub sorts-are : (s : List ℕ) (r basic : ℕ) (qa qb qc : FieldSort) (at : ℕ)
 unfolding fieldsRule
 sorts-are s r basic qa qb qc at others a b c x y z p q m ea eb ec ex ey ez ep eq em = cc
 
-pub behaviour-is : (s : List ℕ) (r at : ℕ) (k : BehaviourKind) (q : Sorts) (c l f m : Broken) → at ≡ behaviourAt s r → k ≡ kindAt s r →
-    fieldsOf q ≡ behaviourFields k → c ≡ choiceRun s r → l ≡ rule (fieldFits s r 0 (q .d) (u16At s (at + 8)) 0) (at + 8) c →
-    f ≡ fieldsRule s r 0 (fieldsOf q) at l → m ≡ behaviourHead s at f → m ≡ behaviourRow s r
+pub behaviour-is : (s : List ℕ) (r at : ℕ) (k : BehaviourKind) (q : Fields) (c l f m : Broken) → at ≡ behaviourAt s r → k ≡ kindAt s r →
+    q ≡ behaviourFields k → c ≡ choiceRun s r → l ≡ rule (fieldFits s r 0 (q .d) (u16At s (at + 8)) 0) (at + 8) c →
+    f ≡ fieldsRule s r 0 q at l → m ≡ behaviourHead s at f → m ≡ behaviourRow s r
 unfolding behaviourRow
 behaviour-is s r at k q c l f m p e g h i j n =
-    let z : behaviourFields (kindAt s r) ≡ fieldsOf q = cc in
+    let z : behaviourFields (kindAt s r) ≡ q = cc in
     rw (z, sym p, sym h, sym i, sym j) n
 
 pub ruleset rules-laws = (sorts-are, behaviour-is)

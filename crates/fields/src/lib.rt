@@ -6,7 +6,6 @@ ghost use Prim.Native.Nat.{_+_, _<_};
 ghost use Rattle.scalar.specs.Value.{isValue};
 ghost use Rattle.wire.specs.Wire.{part, u16At};
 ghost use Rattle.network.specs.Least.{rule};
-ghost use Rattle.fields.specs.Sorts.{fieldsOf};
 ghost use Rattle.network.specs.declared.FieldSort.the-variants.{Free, Unused};
 ghost use Rattle.network.specs.Kinds.{fields, expressionFields, behaviourFields};
 ghost use Rattle.network.specs.Rows.{fieldA, fieldB, fieldC, fieldD, subFits, inputFits, constantFits, fieldFits, fieldsRule, basicFits, expressionRow, expressionRows};
@@ -19,19 +18,12 @@ use network::BehaviourKind;
 use network::Broken;
 use network::ExpressionKind;
 use network::FieldSort;
+use network::Fields;
 
-// What the fields a, b, c, d of a row are.
-pub struct Sorts {
-    pub a: FieldSort,
-    pub b: FieldSort,
-    pub c: FieldSort,
-    pub d: FieldSort,
-}
-
-fn sorts_of(a: FieldSort, b: FieldSort, c: FieldSort, d: FieldSort) -> Sorts
-    ensures { λ r. ⌜ fieldsOf r ≡ fields a b c d ⌝ }
+fn sorts_of(a: FieldSort, b: FieldSort, c: FieldSort, d: FieldSort) -> Fields
+    ensures { λ r. ⌜ r ≡ fields a b c d ⌝ }
 {
-    Sorts {
+    Fields {
         a: a,
         b: b,
         c: c,
@@ -39,10 +31,10 @@ fn sorts_of(a: FieldSort, b: FieldSort, c: FieldSort, d: FieldSort) -> Sorts
     }
 }
 
-fn operands(a: FieldSort, b: FieldSort) -> Sorts
-    ensures { λ r. ⌜ fieldsOf r ≡ fields a b Unused Free ⌝ }
+fn operands(a: FieldSort, b: FieldSort) -> Fields
+    ensures { λ r. ⌜ r ≡ fields a b Unused Free ⌝ }
 {
-    Sorts {
+    Fields {
         a: a,
         b: b,
         c: FieldSort::Unused,
@@ -50,10 +42,10 @@ fn operands(a: FieldSort, b: FieldSort) -> Sorts
     }
 }
 
-fn three(a: FieldSort, b: FieldSort, c: FieldSort) -> Sorts
-    ensures { λ r. ⌜ fieldsOf r ≡ fields a b c Unused ⌝ }
+fn three(a: FieldSort, b: FieldSort, c: FieldSort) -> Fields
+    ensures { λ r. ⌜ r ≡ fields a b c Unused ⌝ }
 {
-    Sorts {
+    Fields {
         a: a,
         b: b,
         c: c,
@@ -61,10 +53,10 @@ fn three(a: FieldSort, b: FieldSort, c: FieldSort) -> Sorts
     }
 }
 
-fn two(a: FieldSort, b: FieldSort) -> Sorts
-    ensures { λ r. ⌜ fieldsOf r ≡ fields a b Unused Unused ⌝ }
+fn two(a: FieldSort, b: FieldSort) -> Fields
+    ensures { λ r. ⌜ r ≡ fields a b Unused Unused ⌝ }
 {
-    Sorts {
+    Fields {
         a: a,
         b: b,
         c: FieldSort::Unused,
@@ -72,8 +64,8 @@ fn two(a: FieldSort, b: FieldSort) -> Sorts
     }
 }
 
-fn expression_sorts(k: ExpressionKind) -> Sorts
-    ensures { λ r. ⌜ fieldsOf r ≡ expressionFields k ⌝ }
+fn expression_sorts(k: ExpressionKind) -> Fields
+    ensures { λ r. ⌜ r ≡ expressionFields k ⌝ }
 {
     match k {
         ExpressionKind::Constant => operands(FieldSort::ConstantPart, FieldSort::Free),
@@ -95,8 +87,8 @@ fn expression_sorts(k: ExpressionKind) -> Sorts
     }
 }
 
-pub fn behaviour_sorts(k: BehaviourKind) -> Sorts
-    ensures { λ r. ⌜ fieldsOf r ≡ behaviourFields k ⌝ }
+pub fn behaviour_sorts(k: BehaviourKind) -> Fields
+    ensures { λ r. ⌜ r ≡ behaviourFields k ⌝ }
 {
     match k {
         BehaviourKind::Nil => two(FieldSort::Unused, FieldSort::Unused),
@@ -207,9 +199,9 @@ fn sorts_rule(
     rule(field_fits(s, r, basic, qa, a, b), at + 2, m)
 }
 
-fn fields_rule(s: &[u8], r: u16, basic: u8, q: Sorts, at: usize, others: Broken) -> Broken
+fn fields_rule(s: &[u8], r: u16, basic: u8, q: Fields, at: usize, others: Broken) -> Broken
     requires { ⌜ at < 1000000 ⌝ }
-    ensures { λ m. ⌜ m ≡ fieldsRule (now (s .entry)) r basic (fieldsOf q) at others ⌝ }
+    ensures { λ m. ⌜ m ≡ fieldsRule (now (s .entry)) r basic q at others ⌝ }
 {
     let qa = q.a;
     let qb = q.b;
@@ -305,9 +297,9 @@ fn choice_run(s: &[u8], r: u16) -> Broken
     Broken::Nowhere
 }
 
-fn last_rule(s: &[u8], r: u16, q: Sorts, at: usize, others: Broken) -> Broken
+fn last_rule(s: &[u8], r: u16, q: Fields, at: usize, others: Broken) -> Broken
     requires { ⌜ at < 1000000 ⌝ }
-    ensures { λ m. ⌜ m ≡ rule (fieldFits (now (s .entry)) r 0 (fieldsOf q .d) (fieldD (now (s .entry)) at) 0) (at + 8) others ⌝ }
+    ensures { λ m. ⌜ m ≡ rule (fieldFits (now (s .entry)) r 0 (q .d) (fieldD (now (s .entry)) at) 0) (at + 8) others ⌝ }
 {
     let qd = q.d;
     let holds = field_fits(s, r, 0, qd, wire::u16_at(s, at + 8), 0);

@@ -17,9 +17,7 @@ use Rattle.wire.specs.Wire.{byteAt, u16At}
 use Rattle.network.specs.declared.Broken.{Broken}
 use Rattle.network.specs.declared.Broken.the-variants.{At, Nowhere}
 use Rattle.network.specs.declared.ExpressionKind.{ExpressionKind}
-use Rattle.refusal.specs.declared.Refusal.{Refusal}
 use Rattle.refusal.specs.declared.Refusal.the-variants.{FileLayout, SectionCount, BrokenField, TooLarge}
-use Rattle.refusal.specs.declared.Verdict.{Verdict}
 use Rattle.refusal.specs.declared.Verdict.the-variants.{Done, Refused}
 use Rattle.network.specs.declared.FieldSort.the-variants.{EarlierRow}
 use Rattle.network.specs.Least.{least, rule, leastOver}

@@ -3,14 +3,10 @@
 use libc::STDOUT_FILENO;
 use refusal::Verdict;
 
-fn wide(x: u8) -> u64 {
-    x as u64
-}
-
 fn number(v: Verdict) -> u64 {
     match v {
         Verdict::Done => 0,
-        Verdict::Refused(why) => wide(refusal::number_of(why)),
+        Verdict::Refused(why) => refusal::number_of(why) as u64,
     }
 }
 

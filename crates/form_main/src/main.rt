@@ -2,10 +2,6 @@
 use libc::STDOUT_FILENO;
 use refusal::Verdict;
 
-fn wide(x: u8) -> u64 {
-    x as u64
-}
-
 fn print(number: u64, place: usize) {
     io::write_all(STDOUT_FILENO, b" ");
     io::print_decimal(STDOUT_FILENO, number);
@@ -18,7 +14,7 @@ fn answer(s: &[u8]) {
     let v = form::form_of(s);
     match v {
         Verdict::Done => print(0, 0),
-        Verdict::Refused(why) => print(wide(refusal::number_of(why)), refusal::place_of(why)),
+        Verdict::Refused(why) => print(refusal::number_of(why) as u64, refusal::place_of(why)),
     }
 }
 

@@ -21,8 +21,7 @@ use Rattle.network.specs.Layout.{behaviourCount, serviceCount, behaviourAt, ser
 use Rattle.network.specs.declared.BehaviourKind.{BehaviourKind}
 use Rattle.wire.specs.Wire.{u16At}
 use Rattle.network.specs.Kinds.{behaviourFields}
-use Rattle.fields.specs.declared.Sorts.{Sorts}
-use Rattle.fields.specs.Sorts.{fieldsOf}
+use Rattle.network.specs.declared.Fields.{Fields}
 use Rattle.network.specs.Rows.{inRun, kindAt, starterRow, clientRow}
 use Rattle.network.specs.Uses.{one, fieldUses, usesBy, rowUses, serviceUses, usedByRows, used, secondUse, rowUseRule, serviceUseRule, usesRow, usesRows}
 use Rattle.layout.specs.Loops.{clip, clip-below, run-none, Swept, swept-none, swept-more, swept-done}
@@ -328,12 +327,12 @@ sorts-step n qa qb qc qd a b c d l₀ l₁ l₂ l₃ l₄ x y z w p q r f g h k 
 
 pub ruleset sorts-laws = (sorts-step)
 
-pub row-step : (s : List ℕ) (n r at : ℕ) (k : BehaviourKind) (q : Sorts) (a b c d : ℕ) (l m : List ℕ) (x : Bool) → at ≡ behaviourAt s r → k ≡ kindAt s r →
-    fieldsOf q ≡ behaviourFields k → a ≡ u16At s (at + 2) → b ≡ u16At s (at + 4) → c ≡ u16At s (at + 6) → d ≡ u16At s (at + 8) →
+pub row-step : (s : List ℕ) (n r at : ℕ) (k : BehaviourKind) (q : Fields) (a b c d : ℕ) (l m : List ℕ) (x : Bool) → at ≡ behaviourAt s r → k ≡ kindAt s r →
+    q ≡ behaviourFields k → a ≡ u16At s (at + 2) → b ≡ u16At s (at + 4) → c ≡ u16At s (at + 6) → d ≡ u16At s (at + 8) →
     Step n (sortsUse (q .a) (q .b) (q .c) (q .d) a b c d) l m x → Step n (rowUse s r) l m x
 unfolding rowUse rowUses sortsUse
 row-step s n r at k q a b c d l m x p e f ga gb gc gd h =
-    let z : fieldsOf q ≡ behaviourFields (kindAt s r) = f ∙ ap behaviourFields e in
+    let z : q ≡ behaviourFields (kindAt s r) = f ∙ ap behaviourFields e in
     step-alike (λ t o. rw (ga, gb, gc, gd, p) refl ∙ ap (usesBy s t (behaviourAt s r)) z) h
 
 pub ruleset row-laws = (row-step)
