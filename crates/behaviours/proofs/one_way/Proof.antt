@@ -1,0 +1,17 @@
+use Rattle.behaviours.proofs.CheckLaws.{leaf-laws}
+use native.Mathlib.Omega.{arith}
+use borrow.Author.Needs.{needs}
+use Rattle.behaviours.proofs.one_way.Statement.{statement}
+use Rattle.behaviours.proofs.one_way.Tie as tie
+use Rattle.behaviours.proofs.one_way.Reads as reads
+use Rattle.behaviours.proofs.one_way.Lts as lts
+use Rattle.behaviours.proofs.receive.Reads as receive-reads
+
+receive-requires : tie.Need-receive-requires
+receive-requires c κs = search needs
+
+returns : tie.Need-returns
+returns c = search leaf-laws depth 12
+
+pub one-way-spec : {M : Type 1} → statement M
+one-way-spec = tie.close (tie.spec receive-requires returns)

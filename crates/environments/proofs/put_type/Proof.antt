@@ -1,0 +1,74 @@
+use Rattle.environments.proofs.Growing.{put-type-laws, put-type-fits}
+use mathlib.Core.Path.{refl}
+use lib.ListN.{replicate, length-replicate}
+use Prim.Native.Nat.{ℕ}
+use borrow.Author.Needs.{needs}
+use Rattle.environments.proofs.put_type.Statement.{statement}
+use Rattle.environments.proofs.put_type.Tie as tie
+use Rattle.environments.proofs.put_type.Reads as reads
+use Rattle.environments.proofs.put_type.Lts as lts
+use Rattle.environments.proofs.pass.Reads as pass-reads
+use Rattle.environments.proofs.refuse.Reads as refuse-reads
+use Rattle.tree.proofs.within.Reads as within-reads
+use Rattle.tree_edit.proofs.put.Reads as put-reads
+use Rattle.tree_edit.proofs.store.Reads as store-reads
+
+slice-aggregate-put : tie.Need-slice-aggregate-put
+slice-aggregate-put c = search needs
+
+put-requires : tie.Need-put-requires
+put-requires c κs = search needs
+
+slice-aggregate-within : tie.Need-slice-aggregate-within
+slice-aggregate-within c = search needs
+
+within-requires : tie.Need-within-requires
+within-requires c κs = search needs
+
+refuse-requires : tie.Need-refuse-requires
+refuse-requires c κs = search needs
+
+returns : tie.Need-returns
+returns c = search put-type-laws depth 12
+
+refuse-requires-2 : tie.Need-refuse-requires-2
+refuse-requires-2 c κs = search needs
+
+returns-2 : tie.Need-returns-2
+returns-2 c = search put-type-laws depth 12
+
+slice-aggregate-store : tie.Need-slice-aggregate-store
+slice-aggregate-store c = search needs
+
+slice-aggregate-store-2 : tie.Need-slice-aggregate-store-2
+slice-aggregate-store-2 c = search needs
+
+store-requires : tie.Need-store-requires
+store-requires c κs = search needs
+
+pass-requires : tie.Need-pass-requires
+pass-requires c κs = search needs
+
+returns-3 : tie.Need-returns-3
+returns-3 c =
+    let a = c .before .before .before .before .before .before .before .before .before .before .before .before .before .before .args in
+    put-type-fits (a .g .now) (a .ids) (a .m .now) (a .row) _ _ _ _ (c .before .before .before .before .before .before .before .before .before .before .put .ensures) _ (c .before .before .before .before .before .before .before .within .ensures) (c .before .before .before .before .before .before .if1 .left) (replicate {A = ℕ} 512 0) _ (length-replicate {A = ℕ} 512 0)
+    (c .before .before .store .ensures) _ refl (c .pass .ensures)
+
+pub put-type-spec : {M : Type 1} → statement M
+put-type-spec =
+    tie.close
+    (tie.spec
+    slice-aggregate-put
+    put-requires
+    slice-aggregate-within
+    within-requires
+    refuse-requires
+    returns
+    refuse-requires-2
+    returns-2
+    slice-aggregate-store
+    slice-aggregate-store-2
+    store-requires
+    pass-requires
+    returns-3)

@@ -1,0 +1,16 @@
+use Rattle.environments.proofs.Looking.{refuse-is}
+use borrow.Author.Needs.{needs}
+use Rattle.environments.proofs.refuse.Statement.{statement}
+use Rattle.environments.proofs.refuse.Tie as tie
+use Rattle.environments.proofs.refuse.Reads as reads
+use Rattle.environments.proofs.refuse.Lts as lts
+use Rattle.environments.proofs.empty.Reads as empty-reads
+
+empty-requires : tie.Need-empty-requires
+empty-requires c κs = search needs
+
+returns : tie.Need-returns
+returns c = search (refuse-is) depth 12
+
+pub refuse-spec : {M : Type 1} → statement M
+refuse-spec = tie.close (tie.spec empty-requires returns)

@@ -1,0 +1,6 @@
+pub mod Environment
+pub mod Tells
+pub mod Walk
+pub mod Listing
+pub mod EnvironmentLaws
+pub mod UnionLaws

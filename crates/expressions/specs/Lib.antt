@@ -1,0 +1,3 @@
+pub mod Parts
+pub mod Typings
+pub mod SmallLaws

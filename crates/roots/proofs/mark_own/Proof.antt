@@ -1,0 +1,83 @@
+use Rattle.roots.proofs.RootLaws.{own-laws}
+use native.Mathlib.Omega.{arith}
+use borrow.Author.Needs.{needs}
+use Rattle.roots.proofs.mark_own.Statement.{statement}
+use Rattle.roots.proofs.mark_own.Tie as tie
+use Rattle.roots.proofs.mark_own.Reads as reads
+use Rattle.roots.proofs.mark_own.Lts as lts
+use Rattle.roots.proofs.mark_expression.Reads as mark-expression-reads
+use Rattle.roots.proofs.mark_path.Reads as mark-path-reads
+use Rattle.roots.proofs.own_of.Reads as own-of-reads
+
+own-of-requires : tie.Need-own-of-requires
+own-of-requires c κs = search needs
+
+enum-told : tie.Need-enum-told
+enum-told c = search needs
+
+returns : tie.Need-returns
+returns c = search own-laws depth 12
+
+enum-known-p : tie.Need-enum-known-p
+enum-known-p c = search needs
+
+mark-path-requires : tie.Need-mark-path-requires
+mark-path-requires c κs = search needs
+
+returns-2 : tie.Need-returns-2
+returns-2 c = search own-laws depth 12
+
+enum-known-p-2 : tie.Need-enum-known-p-2
+enum-known-p-2 c = search needs
+
+mark-path-requires-2 : tie.Need-mark-path-requires-2
+mark-path-requires-2 c κs = search needs
+
+mark-path-requires-3 : tie.Need-mark-path-requires-3
+mark-path-requires-3 c κs = search needs
+
+returns-3 : tie.Need-returns-3
+returns-3 c = search own-laws depth 12
+
+enum-known-e : tie.Need-enum-known-e
+enum-known-e c = search needs
+
+mark-expression-requires : tie.Need-mark-expression-requires
+mark-expression-requires c κs = search needs
+
+returns-4 : tie.Need-returns-4
+returns-4 c = search own-laws depth 12
+
+enum-known-e-2 : tie.Need-enum-known-e-2
+enum-known-e-2 c = search needs
+
+mark-expression-requires-2 : tie.Need-mark-expression-requires-2
+mark-expression-requires-2 c κs = search needs
+
+mark-path-requires-4 : tie.Need-mark-path-requires-4
+mark-path-requires-4 c κs = search needs
+
+returns-5 : tie.Need-returns-5
+returns-5 c = search own-laws depth 12
+
+pub mark-own-spec : {M : Type 1} → statement M
+mark-own-spec =
+    tie.close
+    (tie.spec
+    own-of-requires
+    enum-told
+    returns
+    enum-known-p
+    mark-path-requires
+    returns-2
+    enum-known-p-2
+    mark-path-requires-2
+    mark-path-requires-3
+    returns-3
+    enum-known-e
+    mark-expression-requires
+    returns-4
+    enum-known-e-2
+    mark-expression-requires-2
+    mark-path-requires-4
+    returns-5)
