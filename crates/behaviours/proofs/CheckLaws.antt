@@ -43,7 +43,7 @@ use Rattle.expressions.specs.SmallLaws.{small-typing}
 use Rattle.operations.specs.Directions.{directionOf}
 use Rattle.behaviours.specs.Rows.{behaviourBy, Sub, BranchSubs, KeptBy}
 use Rattle.behaviours.specs.Checks.{SendsType, Sends, Receives, conditionOf, Conditions, Agrees, LeafChecks, RowChecks, Checks, Sequences, Settles, goOn, Branches}
-use Rattle.behaviours.proofs.KindLaws.{row-is}
+use Rattle.behaviours.specs.KindLaws.{row-is}
 
 -- ---- steps one after another
 

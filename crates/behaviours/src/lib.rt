@@ -133,7 +133,7 @@ fn settle(c: u16, d: Environment, same: bool) -> Step
 }
 
 // "Sequence: a, then b."
-fn sequence(file: &[u8], q: u16, a: u16, b: u16, left: u16, e: Environment) -> Step
+pub fn sequence(file: &[u8], q: u16, a: u16, b: u16, left: u16, e: Environment) -> Step
     ensures { λ s. ⌜ Sequences (now (file .entry)) q a b left e s ⌝ }
 {
     let first = check_row(file, q, a, left, e);

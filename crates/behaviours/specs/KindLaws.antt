@@ -1,4 +1,4 @@
--- B rows by the row that a reader gives: network's behaviour, and what its fields keep to.
+-- Laws of B rows by the row that a reader gives: network's behaviour, and what its fields keep to.
 use Prim.Native.Nat.{ℕ, suc, _+_, _-_, _<_, _≤_}
 use mathlib.Core.Path.{_≡_, refl, sym, _∙_, ap, subst}
 use mathlib.Core.List.{List}

@@ -1,0 +1,387 @@
+-- Laws of starters and clients: one for each way out of the functions.
+use Prim.Native.Nat.{ℕ, zero, suc, _+_, _-_, _<_, _≤_}
+use mathlib.Core.Path.{_≡_, refl, sym, _∙_, ap, subst}
+use mathlib.Core.List.{List, [], _∷_}
+use mathlib.Core.Bool.{Bool, true, false, not, _&&_}
+use native.Mathlib.Omega.{arith}
+use borrow.Author.Tests.{le-leb}
+use Rattle.wire.specs.Wire.{u16At}
+use Rattle.forest.specs.Compare.{T-of, of-T}
+use Rattle.forest.specs.Forest.{end, Rising}
+use Rattle.refusal.specs.declared.Refusal.{Refusal}
+use Rattle.refusal.specs.declared.Refusal.the-variants.{EnvironmentsDiffer, EnvironmentTooLarge}
+use Rattle.refusal.specs.declared.Verdict.{Verdict}
+use Rattle.refusal.specs.declared.Verdict.the-variants.{Done, Refused}
+use Rattle.syntax.specs.Syntax.{Types, Behaviour, sequence, choice}
+use Rattle.syntax.specs.Rows.{rowOf}
+use Rattle.typing.specs.Result.{Result, yields, require, Checked, refused, passed, atRow, next}
+use Rattle.typing.specs.Environment.{within}
+use Rattle.typing.specs.Checker.{limited, check}
+use Rattle.typing.specs.NetworkRules.{OneTypeEach, branchesOf, union, unionOf}
+use Rattle.typing.specs.NetworkLaws.{AllRising, each-one-sound}
+use Rattle.typing.specs.Branches.{unionFrom, oneTypeFrom}
+use Rattle.typing.specs.BranchesLaws.{oneType-in-order, union-in-order}
+use Rattle.typing.specs.NetworkChecker.{checkEach, oneType, oneTypeWith, oneTypeEach, checkStarter, checkClient}
+use Rattle.network.specs.declared.BehaviourKind.{BehaviourKind}
+use Rattle.network.specs.Form.{WellFormed}
+use Rattle.network.specs.Layout.{behaviourCount, behaviourAt}
+use Rattle.network.specs.Rows.{fieldA, fieldB, fieldC, fieldD, kindAt}
+use Rattle.network.specs.Decode.{branchesFrom, behaviourOf}
+use Rattle.rows.specs.declared.BehaviourRow.{BehaviourRow}
+use Rattle.rows.specs.Readers.{behaviourRowAs, behaviourRowOf}
+use Rattle.environments.specs.declared.Environment.{Environment}
+use Rattle.environments.specs.declared.Step.{Step}
+use Rattle.environments.specs.Environment.{standing, Shape, StandsFor, stepOf, Answers}
+use Rattle.environments.specs.EnvironmentLaws.{answers-as, answers-done, answers-refused, answers-refuse, answers-pass, stands-empty}
+use Rattle.environments.specs.UnionLaws.{unionFrom-within, union-within}
+use Rattle.environments.specs.Tells.{OneTyped, Unites}
+use Rattle.behaviours.specs.Rows.{behaviourBy, Sub, BranchSubs, KeptBy}
+use Rattle.behaviours.specs.Checks.{Checks, Sequences}
+use Rattle.behaviours.specs.KindLaws.{row-is}
+use Rattle.outputs.specs.Outputs.{verdictOf}
+use Rattle.starters.specs.Starters.{branchAt, branchList, Run, Gives, Each, Against, OneEach, UnitesAll, Joins, Starts, Clients}
+
+-- ---- runs of branches
+
+one-less : (n : ℕ) → (n ≡ 0 → ⊥) → n ≡ suc (n - 1)
+one-less zero h = absurd (h refl)
+one-less (suc n) h = omega arith
+
+next-at : (s : List ℕ) (r : ℕ) → behaviourAt s r + 10 ≡ behaviourAt s (suc r)
+unfolding behaviourAt
+next-at s r = omega arith
+
+run-next : (file : List ℕ) (at n left j : ℕ) → (n ≡ 0 → ⊥) → Run file at n left j → Run file (at + 10) (n - 1) left (suc j)
+run-next file at n left j z h = record {
+  form = h .form;
+  there = ap (λ (y : ℕ). y + 10) (h .there) ∙ next-at file j;
+  subs = λ k u v. h .subs k (omega arith) (omega (arith, one-less n z)) }
+
+list-none : (file : List ℕ) (j n : ℕ) → n ≡ 0 → branchList file j n ≡ []
+unfolding branchList branchesFrom branchesOf
+list-none file j n z = ap (λ (y : ℕ). branchesOf (branchesFrom file (behaviourOf file) j y)) z
+
+list-suc : (file : List ℕ) (j n : ℕ) → branchList file j (suc n) ≡ branchAt file j ∷ branchList file (suc j) n
+unfolding branchList branchesFrom branchesOf
+list-suc file j zero = refl
+list-suc file j (suc n) = refl
+
+list-more : (file : List ℕ) (j n : ℕ) → (n ≡ 0 → ⊥) → branchList file j n ≡ branchAt file j ∷ branchList file (suc j) (n - 1)
+list-more file j n z = ap (branchList file j) (one-less n z) ∙ list-suc file j (n - 1)
+
+-- ---- one branch
+
+pub gives-branch : (file : List ℕ) (q at left a b : ℕ) {e : Environment} {s : Step} → a ≡ u16At file (at + 2) → b ≡ u16At file (at + 4) → e ≡ standing end
+    → Sequences file q a b left e s → Gives file q at left s
+gives-branch file q at left a b {e} {s} p o z k = record { tells = λ c n j h l.
+    let x = p ∙ ap (λ (y : ℕ). u16At file (y + 2)) (h .there) in
+    let y = o ∙ ap (λ (y : ℕ). u16At file (y + 4)) (h .there) in
+    let d = h .subs j (omega arith) (omega arith) in
+    subst (λ (f : ℕ). Sequences file q f (fieldB file (behaviourAt file j)) left e s) x (subst (λ (f : ℕ). Sequences file q a f left e s) y k)
+    .tells c j end (subst (λ (f : Environment). StandsFor f end) (sym z) stands-empty) (h .form) (d .input) (d .follow) }
+
+pub ruleset branch-laws = (gives-branch)
+
+some-branch : (n : ℕ) → (n ≡ 0 → ⊥) → 0 < n
+some-branch zero z = absurd (z refl)
+some-branch (suc n) z = omega arith
+
+-- ---- each of several
+
+each-more : (q : ℕ) (B : Behaviour) (Bs : List Behaviour) → verdictOf (checkEach q (B ∷ Bs)) ≡ verdictOf (next (check q (rowOf B) B end) (λ Γ. checkEach q Bs))
+unfolding checkEach next
+each-more q B Bs = go (check q (rowOf B) B end) (checkEach q Bs)
+  where
+    go : (x : Checked Types) (y : Checked (List Types)) → verdictOf (next x (λ Γ. next y (λ Γs. passed (Γ ∷ Γs)))) ≡ verdictOf (next x (λ Γ. y))
+    go (refused w) y = refl
+    go (passed Γ) (refused w) = refl
+    go (passed Γ) (passed Γs) = refl
+
+none-given : (q : ℕ) (file : List ℕ) (j n : ℕ) (Γs : List Types) → n ≡ 0 → checkEach q (branchList file j n) ≡ passed Γs → Γs ≡ []
+unfolding checkEach
+none-given q file j n Γs z e = same-list (sym e ∙ ap (checkEach q) (list-none file j n z))
+  where
+    same-list : passed Γs ≡ passed [] → Γs ≡ []
+    same-list f = cc
+
+none-rising : AllRising []
+unfolding AllRising
+none-rising = tt
+
+some-rising : (Γ : Types) (Γs : List Types) → Rising Γ → AllRising Γs → AllRising (Γ ∷ Γs)
+unfolding AllRising
+some-rising Γ Γs a b = (a, b)
+
+rising-tail : (Γ : Types) (Γs : List Types) → AllRising (Γ ∷ Γs) → AllRising Γs
+unfolding AllRising
+rising-tail Γ Γs h = h .1
+
+same-lists : {Γs : List Types} {Γ : Types} {Δs : List Types} → passed (Γ ∷ Δs) ≡ passed Γs → Γs ≡ Γ ∷ Δs
+same-lists e = cc
+
+not-refused : {A : Type 0} {a : A} {why : Refusal} → refused why ≡ passed a → ⊥
+not-refused e = let z : _≡_ {A = ℕ} 0 1 = cc in omega arith
+
+pub each-none : (file : List ℕ) (q at n left : ℕ) → n ≡ 0 → Each file q at n left Done
+unfolding checkEach
+each-none file q at n left z = record {
+  tells = λ j h. sym (ap (λ (y : List Behaviour). verdictOf (checkEach q y)) (list-none file j n z));
+  rises = λ j Γs h e. subst AllRising (sym (none-given q file j n Γs z e)) none-rising }
+
+module _ (file : List ℕ) (q at n left : ℕ) {s : Step} (z : n ≡ 0 → ⊥) (k : Gives file q at left s) where
+  answered : (j : ℕ) → Run file at n left j → Answers s (check q (rowOf (branchAt file j)) (branchAt file j) end)
+  answered j h = k .tells (rowOf (branchAt file j)) n j h (some-branch n z)
+
+  -- Where all pass: the first environment and the others.
+  split : (j : ℕ) (Γs : List Types) → Run file at n left j → checkEach q (branchList file j n) ≡ passed Γs
+      → (Γ : Types) × (Δs : List Types) × (Γs ≡ Γ ∷ Δs) × StandsFor (s .environment) Γ × (checkEach q (branchList file (suc j) (n - 1)) ≡ passed Δs) × (check q (rowOf (branchAt file j)) (branchAt file j) end ≡ passed Γ)
+  unfolding checkEach next stepOf
+  split j Γs h e =
+      go (check q (rowOf (branchAt file j)) (branchAt file j) end) (checkEach q (branchList file (suc j) (n - 1))) refl refl (answered j h)
+      (sym (ap (checkEach q) (list-more file j n z)) ∙ e)
+    where
+      go : (x : Checked Types) (y : Checked (List Types)) → check q (rowOf (branchAt file j)) (branchAt file j) end ≡ x → checkEach q (branchList file (suc j) (n - 1)) ≡ y → Answers s x → next x (λ Γ. next y (λ Δs. passed (Γ ∷ Δs))) ≡ passed Γs
+          → (Γ : Types) × (Δs : List Types) × (Γs ≡ Γ ∷ Δs) × StandsFor (s .environment) Γ × (checkEach q (branchList file (suc j) (n - 1)) ≡ passed Δs) × (check q (rowOf (branchAt file j)) (branchAt file j) end ≡ passed Γ)
+      go (refused w) y o i a f = absurd (not-refused f)
+      go (passed Γ) (refused w) o i a f = absurd (not-refused f)
+      go (passed Γ) (passed Δs) o i a f = (Γ, Δs, same-lists f, record { is = ap (λ (t : Step). t .environment) (a .is); shape = a .shape }, i, o)
+
+  pub each-refused : {why : Refusal} → s .verdict ≡ Refused why → Each file q at n left (s .verdict)
+  unfolding next
+  each-refused {why} v = record { tells = λ j h.
+      v ∙ sym (ap (λ (y : List Behaviour). verdictOf (checkEach q y)) (list-more file j n z) ∙ (each-more q (branchAt file j) (branchList file (suc j) (n - 1))
+      ∙ ap (λ (y : Checked Types). verdictOf (next y (λ Γ. checkEach q (branchList file (suc j) (n - 1))))) (answers-refused (answered j h) why v .0)));
+      rises = λ j Γs h e. let d = split j Γs h e in absurd (not-refused (sym (answers-refused (answered j h) why v .0) ∙ d .5)) }
+
+  pub each-done : {v : Verdict} → s .verdict ≡ Done → Each file q (at + 10) (n - 1) left v → Each file q at n left v
+  unfolding next
+  each-done v d = record { tells = λ j h.
+      d .tells (suc j) (run-next file at n left j z h) ∙ sym (ap (λ (y : List Behaviour). verdictOf (checkEach q y)) (list-more file j n z)
+      ∙ (each-more q (branchAt file j) (branchList file (suc j) (n - 1))
+      ∙ ap (λ (y : Checked Types). verdictOf (next y (λ Γ. checkEach q (branchList file (suc j) (n - 1))))) (answers-done (answered j h) v .1)));
+      rises = λ j Γs h e. let p = split j Γs h e in subst AllRising (sym (p .2)) (some-rising (p .0) (p .1) (p .3 .shape .rising) (d .rises (suc j) (p .1) (run-next file at n left j z h) (p .4))) }
+
+
+pub ruleset each-laws = (each-none, each-refused, each-done)
+
+not-true : (t : Bool) → not t ≡ true → t ≡ false
+not-true true e = sym e
+not-true false e = refl
+
+not-false : (t : Bool) → not t ≡ false → t ≡ true
+not-false true e = refl
+not-false false e = sym e
+
+-- ---- one type in all branches
+
+with-none : (Γ : Types) → true ≡ oneTypeWith Γ []
+unfolding oneTypeWith
+with-none Γ = refl
+
+with-more : (Γ Δ : Types) (Δs : List Types) {t : Bool} → t ≡ oneType Γ Δ → oneTypeWith Γ (Δ ∷ Δs) ≡ t && oneTypeWith Γ Δs
+unfolding oneTypeWith
+with-more Γ Δ Δs e = ap (λ (y : Bool). y && oneTypeWith Γ Δs) (sym e)
+
+each-none-one : true ≡ oneTypeEach []
+unfolding oneTypeEach
+each-none-one = refl
+
+each-more-one : (Γ : Types) (Γs : List Types) {t : Bool} → t ≡ oneTypeWith Γ Γs → oneTypeEach (Γ ∷ Γs) ≡ t && oneTypeEach Γs
+unfolding oneTypeEach
+each-more-one Γ Γs e = ap (λ (y : Bool). y && oneTypeEach Γs) (sym e)
+
+pub against-none : (file : List ℕ) (q : ℕ) (d : Environment) (at n left : ℕ) → n ≡ 0 → Against file q d at n left true
+against-none file q d at n left z = record { tells = λ j Γ Γs g h e. with-none Γ ∙ ap (oneTypeWith Γ) (sym (none-given q file j n Γs z e)) }
+
+pub one-none : (file : List ℕ) (q at n left : ℕ) → n ≡ 0 → OneEach file q at n left true
+one-none file q at n left z = record { tells = λ j Γs h e. each-none-one ∙ ap oneTypeEach (sym (none-given q file j n Γs z e)) }
+
+module _ (file : List ℕ) (q at n left : ℕ) {s : Step} (z : n ≡ 0 → ⊥) (k : Gives file q at left s) where
+  pub against-not : (d : Environment) {t : Bool} → OneTyped d (s .environment) t → not t ≡ true → Against file q d at n left false
+  against-not d {t} o i = record { tells = λ j Γ Γs g h e.
+      let p = split file q at n left z k j Γs h e in
+      ap (λ (y : Bool). y && oneTypeWith Γ (p .1)) (sym (not-true t i)) ∙ (sym (with-more Γ (p .0) (p .1) (o .tells Γ (p .0) g (p .3))) ∙ ap (oneTypeWith Γ) (sym (p .2))) }
+
+  pub against-more : (d : Environment) {t x : Bool} → OneTyped d (s .environment) t → not t ≡ false → Against file q d (at + 10) (n - 1) left x → Against file q d at n left x
+  against-more d {t} {x} o i m = record { tells = λ j Γ Γs g h e.
+      let p = split file q at n left z k j Γs h e in
+      m .tells (suc j) Γ (p .1) g (run-next file at n left j z h) (p .4)
+      ∙ (ap (λ (y : Bool). y && oneTypeWith Γ (p .1)) (sym (not-false t i)) ∙ (sym (with-more Γ (p .0) (p .1) (o .tells Γ (p .0) g (p .3))) ∙ ap (oneTypeWith Γ) (sym (p .2)))) }
+
+  pub one-not : {t : Bool} → Against file q (s .environment) (at + 10) (n - 1) left t → not t ≡ true → OneEach file q at n left false
+  one-not {t} o i = record { tells = λ j Γs h e.
+      let p = split file q at n left z k j Γs h e in
+      ap (λ (y : Bool). y && oneTypeEach (p .1)) (sym (not-true t i))
+      ∙ (sym (each-more-one (p .0) (p .1) (o .tells (suc j) (p .0) (p .1) (p .3) (run-next file at n left j z h) (p .4))) ∙ ap oneTypeEach (sym (p .2))) }
+
+  pub one-more : {t x : Bool} → Against file q (s .environment) (at + 10) (n - 1) left t → not t ≡ false → OneEach file q (at + 10) (n - 1) left x → OneEach file q at n left x
+  one-more {t} {x} o i m = record { tells = λ j Γs h e.
+      let p = split file q at n left z k j Γs h e in
+      m .tells (suc j) (p .1) (run-next file at n left j z h) (p .4) ∙ (ap (λ (y : Bool). y && oneTypeEach (p .1)) (sym (not-false t i))
+      ∙ (sym (each-more-one (p .0) (p .1) (o .tells (suc j) (p .0) (p .1) (p .3) (run-next file at n left j z h) (p .4))) ∙ ap oneTypeEach (sym (p .2)))) }
+
+pub ruleset against-laws = (against-none, against-not, against-more)
+pub ruleset one-laws = (one-none, one-not, one-more)
+
+-- ---- the union
+
+both-true : {a b : Bool} → a ≡ true → b ≡ true → a && b ≡ true
+both-true e f = rw (e, f) refl
+
+shape-within : (Γ : Types) → Shape Γ → within Γ ≡ true
+shape-within Γ h = both-true (le-leb _ _ (h .few)) (le-leb _ _ (h .shallow))
+
+limited-within : (r : ℕ) (Γ : Types) → within Γ ≡ true → passed Γ ≡ atRow r (limited (yields Γ))
+limited-within r Γ e = sym (ap (λ (y : Bool). atRow r (require y EnvironmentTooLarge (yields Γ))) e)
+
+limited-past : (r : ℕ) (Γ : Types) → within Γ ≡ false → refused (EnvironmentTooLarge r) ≡ atRow r (limited (yields Γ))
+limited-past r Γ e = sym (ap (λ (y : Bool). atRow r (require y EnvironmentTooLarge (yields Γ))) e)
+
+limited-given : (r : ℕ) (Γ Δ : Types) → atRow r (limited (yields Γ)) ≡ passed Δ → Γ ≡ Δ
+limited-given r Γ Δ e = go (within Γ) e
+  where
+    go : (t : Bool) → atRow r (require t EnvironmentTooLarge (yields Γ)) ≡ passed Δ → Γ ≡ Δ
+    go true f = cc
+    go false f = absurd (not-refused f)
+
+same-refusal : {v w : Refusal} → _≡_ {A = Checked Types} (refused v) (refused w) → v ≡ w
+same-refusal f = cc
+
+limited-refused : (r : ℕ) (Γ : Types) (why : Refusal) → atRow r (limited (yields Γ)) ≡ refused why → (within Γ ≡ false) × (EnvironmentTooLarge r ≡ why)
+limited-refused r Γ why e = go (within Γ) refl e
+  where
+    go : (t : Bool) → within Γ ≡ t → atRow r (require t EnvironmentTooLarge (yields Γ)) ≡ refused why → (within Γ ≡ false) × (EnvironmentTooLarge r ≡ why)
+    go true o f = absurd (not-refused (sym f))
+    go false o f = (o, same-refusal f)
+
+from-one : (one : Bool) (Γ : Types) (Δs : List Types) → oneTypeFrom one Γ Δs ≡ true → one ≡ true
+unfolding oneTypeFrom
+from-one one Γ [] e = e
+from-one one Γ (Δ ∷ Δs) e = and-first one (oneType Δ Γ) (from-one (one && oneType Δ Γ) (union Δ Γ) Δs e)
+  where
+    and-first : (a b : Bool) → a && b ≡ true → a ≡ true
+    and-first true b f = refl
+    and-first false b f = f
+
+-- The next environment has one type with the union so far; the others follow.
+from-next : (Γ Δ : Types) (Δs : List Types) → oneTypeFrom true Γ (Δ ∷ Δs) ≡ true → (oneType Δ Γ ≡ true) × (oneTypeFrom true (union Δ Γ) Δs ≡ true)
+unfolding oneTypeFrom
+from-next Γ Δ Δs e =
+    let o = from-one (oneType Δ Γ) (union Δ Γ) Δs e in
+    (o, sym (ap (λ (y : Bool). oneTypeFrom y (union Δ Γ) Δs) o) ∙ e)
+
+union-step : (Γ Δ : Types) (Δs : List Types) → unionFrom Γ (Δ ∷ Δs) ≡ unionFrom (union Δ Γ) Δs
+unfolding unionFrom
+union-step Γ Δ Δs = refl
+
+union-end : (Γ : Types) → unionFrom Γ [] ≡ Γ
+unfolding unionFrom
+union-end Γ = refl
+
+not-within : (Γ : Types) (Δs : List Types) → AllRising Δs → oneTypeFrom true Γ Δs ≡ true → within Γ ≡ false → within (unionFrom Γ Δs) ≡ false
+not-within Γ Δs a o e = go (within (unionFrom Γ Δs)) refl
+  where
+    go : (t : Bool) → within (unionFrom Γ Δs) ≡ t → t ≡ false
+    go true f = sym (unionFrom-within true Γ Δs a o f) ∙ e
+    go false f = refl
+
+pub unite-none : (file : List ℕ) (q row at n left : ℕ) (u : Environment) {s : Step} → n ≡ 0 → s ≡ record { environment = u; verdict = Done } → UnitesAll file q row at n left u s
+unite-none file q row at n left u {s} z p = record { tells = λ j Γ Γs g h e a o.
+    answers-as (limited-within row Γ (shape-within Γ (g .shape))
+    ∙ ap (λ (y : Types). atRow row (limited (yields y))) (sym (ap (unionFrom Γ) (none-given q file j n Γs z e) ∙ union-end Γ)))
+    (subst (λ (y : Step). Answers y (passed Γ)) (sym p) (answers-pass g)) }
+
+module _ (file : List ℕ) (q row at n left : ℕ) (u : Environment) {s t : Step} (z : n ≡ 0 → ⊥) (k : Gives file q at left s) (m : Unites (s .environment) u row t) where
+  pub unite-refused : {why : Refusal} → t .verdict ≡ Refused why → UnitesAll file q row at n left u t
+  unite-refused {why} v = record { tells = λ j Γ Γs g h e a o.
+      let p = split file q at n left z k j Γs h e in
+      let f = from-next Γ (p .0) (p .1) (sym (ap (oneTypeFrom true Γ) (p .2)) ∙ o) in
+      let y = answers-refused (m .tells (p .0) Γ (p .3) g (f .0)) why v in
+      let w = limited-refused row (union (p .0) Γ) why (y .0) in
+      let r = rising-tail (p .0) (p .1) (subst AllRising (p .2) a) in
+      answers-as (ap refused (sym (w .1)) ∙ (limited-past row (unionFrom (union (p .0) Γ) (p .1)) (not-within (union (p .0) Γ) (p .1) r (f .1) (w .0))
+      ∙ ap (λ (y : Types). atRow row (limited (yields y))) (sym (ap (unionFrom Γ) (p .2) ∙ union-step Γ (p .0) (p .1))))) (answers-refuse why (y .1)) }
+
+  pub unite-more : {i : Step} → t .verdict ≡ Done → UnitesAll file q row (at + 10) (n - 1) left (t .environment) i → UnitesAll file q row at n left u i
+  unite-more {i} v b = record { tells = λ j Γ Γs g h e a o.
+      let p = split file q at n left z k j Γs h e in
+      let f = from-next Γ (p .0) (p .1) (sym (ap (oneTypeFrom true Γ) (p .2)) ∙ o) in
+      let y = answers-done (m .tells (p .0) Γ (p .3) g (f .0)) v in
+      let w = limited-given row (union (p .0) Γ) (y .0) (y .1) in
+      let r = rising-tail (p .0) (p .1) (subst AllRising (p .2) a) in
+      answers-as (ap (λ (y : Types). atRow row (limited (yields y))) (sym (ap (unionFrom Γ) (p .2) ∙ union-step Γ (p .0) (p .1))))
+      (b .tells (suc j) (union (p .0) Γ) (p .1) (subst (λ (x : Types). StandsFor (t .environment) x) (sym w) (y .2)) (run-next file at n left j z h) (p .4) r (f .1)) }
+
+pub ruleset unite-laws = (unite-none, unite-refused, unite-more)
+
+pub joins-not : (file : List ℕ) (q row at n left : ℕ) {x : Bool} {s : Step} → OneEach file q at n left x → not x ≡ true → s ≡ stepOf (refused (EnvironmentsDiffer row))
+    → Joins file q row at n left s
+joins-not file q row at n left {x} {s} o i p = record { tells = λ j Γs h e a.
+    answers-as (sym (ap (λ (y : Bool). atRow row (require y EnvironmentsDiffer (limited (yields (unionOf Γs))))) (sym (o .tells j Γs h e) ∙ not-true x i)))
+    (answers-refuse (EnvironmentsDiffer row) p) }
+
+pub joins-union : (file : List ℕ) (q row at n left : ℕ) {x : Bool} {u : Environment} {s : Step} → OneEach file q at n left x → not x ≡ false → u ≡ standing end
+    → UnitesAll file q row at n left u s → Joins file q row at n left s
+joins-union file q row at n left {x} {u} {s} o i p m = record { tells = λ j Γs h e a.
+    let t = sym (o .tells j Γs h e) ∙ not-false x i in
+    answers-as (ap (λ (y : Types). atRow row (limited (yields y))) (union-in-order Γs a (each-one-sound Γs (T-of t)))
+    ∙ sym (ap (λ (y : Bool). atRow row (require y EnvironmentsDiffer (limited (yields (unionOf Γs))))) t))
+    (m .tells j end Γs (subst (λ (f : Environment). StandsFor f end) (sym p) stands-empty) h e a (oneType-in-order Γs a ∙ t)) }
+
+pub ruleset join-laws = (joins-not, joins-union)
+
+-- ---- starters and clients
+
+choice-row : (file : List ℕ) (r : ℕ) → kindAt file r ≡ BehaviourKind.Choice
+    → behaviourRowOf file r ≡ BehaviourRow.Choice (fieldA file (behaviourAt file r)) (fieldB file (behaviourAt file r))
+unfolding behaviourRowOf behaviourRowAs
+choice-row file r e =
+    ap (λ (y : BehaviourKind). behaviourRowAs y (fieldA file (behaviourAt file r)) (fieldB file (behaviourAt file r)) (fieldC file (behaviourAt file r)) (fieldD file (behaviourAt file r))) e
+
+branches-listed : (q r first n : ℕ) (file : List ℕ) → checkStarter q (choice r (branchesFrom file (behaviourOf file) first n))
+    ≡ next (checkEach q (branchList file first n)) (λ Γs. atRow r (require (oneTypeEach Γs) EnvironmentsDiffer (limited (yields (unionOf Γs)))))
+unfolding branchList branchesOf rowOf
+branches-listed q r first n file = refl
+
+module _ (file : List ℕ) (q r : ℕ) {left row first n at : ℕ} {v : Verdict} (a : left ≡ behaviourCount file) (b : row ≡ behaviourAt file r) (c : first ≡ u16At file (row + 2))
+    (d : n ≡ u16At file (row + 4)) (e : at ≡ behaviourAt file first) (k : Each file q at n left v) where
+  kept : WellFormed file → r < behaviourCount file → kindAt file r ≡ BehaviourKind.Choice
+      → (checkStarter q (behaviourOf file r) ≡ next (checkEach q (branchList file first n)) (λ Γs. atRow r (require (oneTypeEach Γs) EnvironmentsDiffer (limited (yields (unionOf Γs))))))
+      × Run file at n left first
+  kept w l i =
+      let x = c ∙ ap (λ (y : ℕ). u16At file (y + 2)) b in
+      let y = d ∙ ap (λ (y : ℕ). u16At file (y + 4)) b in
+      let h = row-is file w r left (record { exists = l; enough = omega arith }) refl (choice-row file r i ∙ (ap (λ (z : ℕ). BehaviourRow.Choice z (fieldB file (behaviourAt file r))) (sym x)
+      ∙ ap (BehaviourRow.Choice first) (sym y))) in
+      (ap (checkStarter q) (h .0) ∙ branches-listed q r first n file, record { form = w; there = e; subs = h .1 .1 })
+
+  pub starts-refused : {why : Refusal} {s : Step} → v ≡ Refused why → s ≡ stepOf (refused why) → Starts file q r s
+  unfolding next
+  starts-refused {why} {s} f p = record { tells = λ w l i.
+      let h = kept w l i in
+      answers-as (sym (h .0 ∙ ap (λ (y : Checked (List Types)). next y (λ Γs. atRow r (require (oneTypeEach Γs) EnvironmentsDiffer (limited (yields (unionOf Γs))))))
+      (all-refused (checkEach q (branchList file first n)) (sym (k .tells first (h .1)) ∙ f)))) (answers-refuse why p) }
+    where
+      all-refused : (x : Checked (List Types)) → verdictOf x ≡ Refused why → x ≡ refused why
+      all-refused (refused w) g = cc
+      all-refused (passed Γs) g = absurd (let z : _≡_ {A = ℕ} 0 1 = cc in omega arith)
+
+  pub starts-joined : {s : Step} → v ≡ Done → Joins file q r at n left s → Starts file q r s
+  unfolding next
+  starts-joined {s} f m = record { tells = λ w l i.
+      let h = kept w l i in
+      let g = all-passed (checkEach q (branchList file first n)) (sym (k .tells first (h .1)) ∙ f) in
+      answers-as (sym (h .0 ∙ ap (λ (y : Checked (List Types)). next y (λ Γs. atRow r (require (oneTypeEach Γs) EnvironmentsDiffer (limited (yields (unionOf Γs)))))) (g .1)))
+      (m .tells first (g .0) (h .1) (g .1) (k .rises first (g .0) (h .1) (g .1))) }
+    where
+      all-passed : (x : Checked (List Types)) → verdictOf x ≡ Done → (Γs : List Types) × (x ≡ passed Γs)
+      all-passed (refused w) g = absurd (let z : _≡_ {A = ℕ} 0 1 = cc in omega arith)
+      all-passed (passed Γs) g = (Γs, refl)
+
+pub ruleset start-laws = (starts-refused, starts-joined)
+
+pub client-checks : (file : List ℕ) (q r : ℕ) {left : ℕ} {e : Environment} {s : Step} → left ≡ behaviourCount file → e ≡ standing end → Checks file q r left e s → Clients file q r s
+client-checks file q r {left} {e} a p k = record { tells = λ w l.
+    k .tells (rowOf (behaviourOf file r)) end (subst (λ (f : Environment). StandsFor f end) (sym p) stands-empty) w (record { exists = l; enough = omega arith }) }
+
+pub ruleset client-laws = (client-checks)

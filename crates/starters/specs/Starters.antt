@@ -1,0 +1,68 @@
+-- What the functions of this crate tell, for every file that none of 2 to 5 refuses; on other bytes they end and say nothing.
+use mathlib.Core.Path.{_≡_}
+use mathlib.Core.List.{List}
+use mathlib.Core.Bool.{Bool, true}
+use Prim.Native.Nat.{ℕ, _+_, _<_, _≤_}
+use Rattle.refusal.specs.declared.Verdict.{Verdict}
+use Rattle.forest.specs.Forest.{end}
+use Rattle.syntax.specs.Syntax.{Types, Behaviour, sequence}
+use Rattle.typing.specs.Result.{yields, require, Checked, passed, atRow}
+use Rattle.typing.specs.Checker.{limited, check}
+use Rattle.typing.specs.NetworkRules.{branchesOf, unionOf}
+use Rattle.typing.specs.NetworkLaws.{AllRising}
+use Rattle.refusal.specs.declared.Refusal.the-variants.{EnvironmentsDiffer}
+use Rattle.typing.specs.Branches.{unionFrom, oneTypeFrom}
+use Rattle.typing.specs.NetworkChecker.{checkEach, oneTypeWith, oneTypeEach, checkStarter, checkClient}
+use Rattle.network.specs.declared.BehaviourKind.{BehaviourKind}
+use Rattle.network.specs.Form.{WellFormed}
+use Rattle.network.specs.Layout.{behaviourCount, behaviourAt}
+use Rattle.network.specs.Rows.{fieldA, fieldB, kindAt}
+use Rattle.network.specs.Decode.{branchesFrom, behaviourOf}
+use Rattle.environments.specs.declared.Environment.{Environment}
+use Rattle.environments.specs.declared.Step.{Step}
+use Rattle.environments.specs.Environment.{StandsFor, Answers}
+use Rattle.behaviours.specs.Rows.{BranchSubs}
+use Rattle.outputs.specs.Outputs.{verdictOf}
+
+-- The branch at row j, and the n branches from row j on, as behaviours.
+abbrev pub branchAt : List ℕ → ℕ → Behaviour
+branchAt file j = sequence j (behaviourOf file (fieldA file (behaviourAt file j))) (behaviourOf file (fieldB file (behaviourAt file j)))
+
+unfoldable pub branchList : List ℕ → ℕ → ℕ → List Behaviour
+branchList file j n = branchesOf (branchesFrom file (behaviourOf file) j n)
+
+-- The parts of each of the n branches from row j on are rows of the file.
+pub record Run (file : List ℕ) (at n left j : ℕ) : Type 0 where
+  pub form : WellFormed file
+  pub there : at ≡ behaviourAt file j
+  pub subs : (k : ℕ) → j ≤ k → k < j + n → BranchSubs file left k
+
+-- What the branch at `at` gives.
+pub record Gives (file : List ℕ) (q at left : ℕ) (s : Step) : Type 0 where
+  pub tells : (c n j : ℕ) → Run file at n left j → 0 < n → Answers s (check q c (branchAt file j) end)
+
+pub record Each (file : List ℕ) (q at n left : ℕ) (v : Verdict) : Type 0 where
+  pub tells : (j : ℕ) → Run file at n left j → v ≡ verdictOf (checkEach q (branchList file j n))
+  pub rises : (j : ℕ) (Γs : List Types) → Run file at n left j → checkEach q (branchList file j n) ≡ passed Γs → AllRising Γs
+
+-- Where the branches pass with the environments Γs: 10, and the union.
+pub record Against (file : List ℕ) (q : ℕ) (d : Environment) (at n left : ℕ) (x : Bool) : Type 0 where
+  pub tells : (j : ℕ) (Γ : Types) (Γs : List Types) → StandsFor d Γ → Run file at n left j → checkEach q (branchList file j n) ≡ passed Γs → x ≡ oneTypeWith Γ Γs
+
+pub record OneEach (file : List ℕ) (q at n left : ℕ) (x : Bool) : Type 0 where
+  pub tells : (j : ℕ) (Γs : List Types) → Run file at n left j → checkEach q (branchList file j n) ≡ passed Γs → x ≡ oneTypeEach Γs
+
+pub record UnitesAll (file : List ℕ) (q row at n left : ℕ) (u : Environment) (s : Step) : Type 0 where
+  pub tells : (j : ℕ) (Γ : Types) (Γs : List Types) → StandsFor u Γ → Run file at n left j → checkEach q (branchList file j n) ≡ passed Γs → AllRising Γs
+      → oneTypeFrom true Γ Γs ≡ true → Answers s (atRow row (limited (yields (unionFrom Γ Γs))))
+
+pub record Joins (file : List ℕ) (q row at n left : ℕ) (s : Step) : Type 0 where
+  pub tells : (j : ℕ) (Γs : List Types) → Run file at n left j → checkEach q (branchList file j n) ≡ passed Γs → AllRising Γs
+      → Answers s (atRow row (require (oneTypeEach Γs) EnvironmentsDiffer (limited (yields (unionOf Γs)))))
+
+-- The starter of row r, a choice; the client of row r.
+pub record Starts (file : List ℕ) (q r : ℕ) (s : Step) : Type 0 where
+  pub tells : WellFormed file → r < behaviourCount file → kindAt file r ≡ BehaviourKind.Choice → Answers s (checkStarter q (behaviourOf file r))
+
+pub record Clients (file : List ℕ) (q r : ℕ) (s : Step) : Type 0 where
+  pub tells : WellFormed file → r < behaviourCount file → Answers s (checkClient q (behaviourOf file r))

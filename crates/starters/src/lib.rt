@@ -1,0 +1,117 @@
+// Starters and clients: "Starter branches and clients start from empty Γ; a root bound by two branches has one type, else 10; the starter's
+// environment is their union." Branches are checked again where their environments are compared and united, so none is kept.
+ghost use Prim.Native.Nat.{ℕ, _+_, _*_, _<_};
+ghost use Rattle.starters.specs.Starters.{Gives, Each, Against, OneEach, UnitesAll, Joins, Starts, Clients};
+
+use environments::Environment;
+use environments::Step;
+use refusal::Refusal;
+use refusal::Verdict;
+
+// The branch whose row stands at `at`, from the empty environment.
+fn branch(file: &[u8], q: u16, at: usize, left: u16) -> Step
+    requires { ⌜ at < 2000000 ⌝ }
+    ensures { λ s. ⌜ Gives (now (file .entry)) q at left s ⌝ }
+{
+    behaviours::sequence(file, q, wire::u16_at(file, at + 2), wire::u16_at(file, at + 4), left, environments::empty())
+}
+
+// The n branches whose rows stand from `at` on, one after the other: the first refusal.
+fn each(file: &[u8], q: u16, at: usize, n: u16, left: u16) -> Verdict
+    requires { ⌜ at + 10 * n < 2000000 ⌝ }
+    ensures { λ v. ⌜ Each (now (file .entry)) q at n left v ⌝ }
+{
+    if n == 0 {
+        return Verdict::Done;
+    }
+    let one = branch(file, q, at, left);
+    let v = one.verdict;
+    let Verdict::Done = v else {
+        return v;
+    };
+    each(file, q, at + 10, n - 1, left)
+}
+
+// Has each root of d one type in all of the n branches?
+fn against(file: &[u8], q: u16, d: Environment, at: usize, n: u16, left: u16) -> bool
+    requires { ⌜ at + 10 * n < 2000000 ⌝ }
+    ensures { λ x. ⌜ Against (now (file .entry)) q d at n left x ⌝ }
+{
+    if n == 0 {
+        return true;
+    }
+    let one = branch(file, q, at, left);
+    let e = one.environment;
+    if !environments::one_type(d, e) {
+        return false;
+    }
+    against(file, q, d, at + 10, n - 1, left)
+}
+
+// Has each root one type in the n branches?
+fn one_each(file: &[u8], q: u16, at: usize, n: u16, left: u16) -> bool
+    requires { ⌜ at + 10 * n < 2000000 ⌝ }
+    ensures { λ x. ⌜ OneEach (now (file .entry)) q at n left x ⌝ }
+{
+    if n == 0 {
+        return true;
+    }
+    let one = branch(file, q, at, left);
+    let d = one.environment;
+    if !against(file, q, d, at + 10, n - 1, left) {
+        return false;
+    }
+    one_each(file, q, at + 10, n - 1, left)
+}
+
+// The union of u and the environments of the n branches, or 12 at the row.
+fn unite_all(file: &[u8], q: u16, row: u16, at: usize, n: u16, left: u16, u: Environment) -> Step
+    requires { ⌜ at + 10 * n < 2000000 ⌝ }
+    ensures { λ s. ⌜ UnitesAll (now (file .entry)) q row at n left u s ⌝ }
+{
+    if n == 0 {
+        return environments::pass(u);
+    }
+    let one = branch(file, q, at, left);
+    let d = one.environment;
+    let both = environments::unite(d, u, row);
+    let v = both.verdict;
+    let Verdict::Done = v else {
+        return both;
+    };
+    let more = both.environment;
+    unite_all(file, q, row, at + 10, n - 1, left, more)
+}
+
+// The n branches pass: 10 and then 12 at the starter's row.
+fn join(file: &[u8], q: u16, row: u16, at: usize, n: u16, left: u16) -> Step
+    requires { ⌜ at + 10 * n < 2000000 ⌝ }
+    ensures { λ s. ⌜ Joins (now (file .entry)) q row at n left s ⌝ }
+{
+    if !one_each(file, q, at, n, left) {
+        return environments::refuse(Refusal::EnvironmentsDiffer(row));
+    }
+    unite_all(file, q, row, at, n, left, environments::empty())
+}
+
+// The starter of the service row q, whose row r is a choice.
+pub fn check_starter(file: &[u8], q: u16, r: u16) -> Step
+    ensures { λ s. ⌜ Starts (now (file .entry)) q r s ⌝ }
+{
+    let left = layout::behaviour_count(file);
+    let row = layout::behaviour_at(file, r);
+    let first = wire::u16_at(file, row + 2);
+    let n = wire::u16_at(file, row + 4);
+    let at = layout::behaviour_at(file, first);
+    match each(file, q, at, n, left) {
+        Verdict::Refused(why) => environments::refuse(why),
+        Verdict::Done => join(file, q, r, at, n, left),
+    }
+}
+
+// The client of the service row q.
+pub fn check_client(file: &[u8], q: u16, r: u16) -> Step
+    ensures { λ s. ⌜ Clients (now (file .entry)) q r s ⌝ }
+{
+    behaviours::check_row(file, q, r, layout::behaviour_count(file), environments::empty())
+}
