@@ -30,7 +30,7 @@ use Rattle.outputs.specs.Outputs.{verdictOf, Outputs}
 use Rattle.checker.specs.declared.Pair.{Pair}
 use Rattle.checker.specs.declared.One.{One}
 use Rattle.checker.specs.declared.Answer.{Answer}
-use Rattle.checker.specs.FileChecker.{afterForm, checkFile}
+use Rattle.checking.specs.FileChecker.{afterForm, checkFile}
 use Rattle.checker.specs.Answer.{environmentOf, pairOf, emptyPair, pairAt, refusedWith, answerOf, withFirst, partOf, oneOf, checkService, StarterGives, ClientGives, ServiceGives, ServicesGive}
 
 -- ---- a starter or client

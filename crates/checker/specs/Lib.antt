@@ -1,3 +1,1 @@
-pub mod FileChecker
-pub mod FileCheckerLaws
 pub mod Answer

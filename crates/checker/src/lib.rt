@@ -1,7 +1,7 @@
 // The checker of network files: refusals 2 to 13, or the environments of every service.
 ghost use mathlib.Core.Path.{_≡_};
 ghost use Prim.Native.Nat.{ℕ, _+_, _≤_};
-ghost use Rattle.checker.specs.FileChecker.{checkFile};
+ghost use Rattle.checking.specs.FileChecker.{checkFile};
 ghost use Rattle.checker.specs.Answer.{emptyPair, refusedWith, withFirst, answerOf, StarterGives, ClientGives, ServiceGives, ServicesGive};
 
 use environments::Environment;

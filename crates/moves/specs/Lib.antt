@@ -3,3 +3,4 @@ pub mod Evaluation
 pub mod Targets
 pub mod Moves
 pub mod Step
+pub mod Fresh

@@ -26,8 +26,8 @@ use Rattle.typing.specs.Rules.{sameBool, sameDirection, permits, Derives}
 use Rattle.typing.specs.NetworkRules.{branchesOf, DerivesEach, DerivesStarter, DerivesClient, IfThere, Environments, DerivesServices, Meets, MeetsOne}
 use Rattle.typing.specs.NetworkRules.{first, later, MeetsAt, OutputsMeet, DerivesNetwork}
 use Rattle.typing.specs.Result.{passed}
-use Rattle.checker.specs.FileChecker.{checkFile}
-use Rattle.checker.specs.FileCheckerLaws.{accepted-derived}
+use Rattle.checking.specs.FileChecker.{checkFile}
+use Rattle.checking.specs.FileCheckerLaws.{accepted-derived}
 use Rattle.tree.specs.Encode.{Octets}
 use Rattle.state.specs.Shape.{behaviourIn, serviceAt, clientOf, starterOf}
 use Rattle.soundness.specs.Parts.{branchAt}

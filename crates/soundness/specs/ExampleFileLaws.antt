@@ -38,10 +38,11 @@ use Rattle.network.specs.Rows.{clientFits, locationRule, serviceRow, pathRows, 
 use Rattle.network.specs.Sizes.{rowsSum, rowsAll, levelsWithin, nodesTo, typeWithin, depthWithin, typeLarge, expressionLarge, typeSizes}
 use Rattle.network.specs.Sizes.{expressionSizes, large}
 use Rattle.network.specs.Uses.{fieldUses, rowUses, serviceUses, usedByRows, used, secondUse, rowUseRule, serviceUseRule, usesRow, usesRows, broken}
-use Rattle.checker.specs.FileChecker.{checkFile}
+use Rattle.checking.specs.FileChecker.{checkFile}
 use Rattle.tree.specs.Encode.{Octets}
 use Rattle.moves.specs.Moves.{Move, local, receive, send, reply, close}
-use Rattle.soundness.specs.Property3.{Turn, Given, AllGiven, AcceptedFile, Property3, NumberFits, freshBytes}
+use Rattle.moves.specs.Fresh.{freshBytes}
+use Rattle.soundness.specs.Property3.{Turn, Given, AllGiven, AcceptedFile, Property3, NumberFits}
 use Rattle.soundness.specs.Property3Laws.{property3}
 use Rattle.state.specs.Bytes.{zeros}
 use Rattle.soundness.specs.Runs.{numbersOnBytes, AllRoomy}

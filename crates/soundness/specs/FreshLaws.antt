@@ -13,7 +13,7 @@ use Rattle.network.specs.Layout.{behaviourCount}
 use Rattle.network.specs.Decode.{networkOf}
 use Rattle.typing.specs.Result.{passed}
 use Rattle.typing.specs.NetworkRules.{Environments}
-use Rattle.checker.specs.FileChecker.{checkFile}
+use Rattle.checking.specs.FileChecker.{checkFile}
 use Rattle.tree.specs.Encode.{Octets}
 use Rattle.state.specs.Session.{Session, free, live}
 use Rattle.state.specs.Shape.{HasShape, serviceAt, clientOf, freshSlot, freshState}

@@ -20,7 +20,7 @@ use Rattle.tree.specs.Encode.{Octets}
 use Rattle.refusal.specs.Refusal.{number}
 use Rattle.typing.specs.Result.{passed}
 use Rattle.typing.specs.NetworkRules.{Environments}
-use Rattle.checker.specs.FileChecker.{checkFile}
+use Rattle.checking.specs.FileChecker.{checkFile}
 use Rattle.network.specs.Layout.{behaviourCount}
 use Rattle.network.specs.Decode.{networkOf}
 use Rattle.state.specs.Session.{Progress, Progresses, undone, done, waits, received, taken, Queued, Session, live, State}
@@ -29,6 +29,7 @@ use Rattle.state.specs.Shape.{isUndone, behaviourIn, operationAt, decodeState, 
 use Rattle.moves.specs.Readiness.{isDone, reached, reach, rest}
 use Rattle.moves.specs.Moves.{Move, local, receive, send, reply, outside, outsideReply, close}
 use Rattle.moves.specs.Step.{step}
+use Rattle.moves.specs.Fresh.{freshBytes}
 
 -- "each queued message fits its operation's request type"
 pub record FitsOperation (N : Network) (m : Queued) : Type 0 where
@@ -125,10 +126,6 @@ after file s (t ∷ l) = after file (step file s (t .out) (t .move) (t .bytes) .
 
 abbrev pub numberOfNext : List ℕ → List ℕ → Turn → ℕ
 numberOfNext file s t = number (step file s (t .out) (t .move) (t .bytes) .outcome)
-
--- Fresh: "clients live in session 0, all else free".
-abbrev pub freshBytes : List ℕ → List ℕ
-freshBytes file = stateBytes (freshState (networkOf file))
 
 abbrev pub sendsOrReplies : Move → Bool
 sendsOrReplies (local q n r) = false

@@ -11,7 +11,7 @@ use Rattle.scalar.specs.Value.{pick}
 use Rattle.syntax.specs.Syntax.{Optional, some, Network, Behaviour, nil, oneWay, requestResponse, notification, solicitResponse, ifThenElse, whileDo}
 use Rattle.syntax.specs.Syntax.{sequence, parallel, assign, choice, branch, lastBranch, waiting, answering}
 use Rattle.refusal.specs.declared.Refusal.the-variants.{BufferSize, MoveNotAllowed}
-use Rattle.refusal.specs.Refusal.{number}
+use Rattle.refusal.specs.Refusal.{number, doneWith}
 use Rattle.typing.specs.TypedLaws.{within-before}
 use Rattle.typing.specs.DerivesLaws.{typed-derives}
 use Rattle.tree.specs.Encode.{Octets}
@@ -40,12 +40,13 @@ use Rattle.soundness.specs.ResultLaws.{Keeps, Goes}
 use Rattle.soundness.specs.LocalLaws.{local-move, receive-move, close-move, assign-goes, if-goes, while-goes, again-goes}
 use Rattle.soundness.specs.SendLaws.{send-move, outside-move}
 use Rattle.soundness.specs.ReplyLaws.{reply-move, outside-reply-move}
-use Rattle.checker.specs.FileCheckerLaws.{accepted-derived}
+use Rattle.checking.specs.FileCheckerLaws.{accepted-derived}
 use Rattle.soundness.specs.AcceptedLaws.{accepted}
 use Rattle.soundness.specs.FreshLaws.{fresh-sound}
 use Rattle.soundness.specs.ShapeLaws.{sound-shape}
 use Rattle.soundness.specs.Property3.{QueueFits, LiveWellTyped, isTaken, isReadyLocal, Ready, Turn, NumberFits, Given, AllGiven, after}
-use Rattle.soundness.specs.Property3.{numberOfNext, freshBytes, sendsOrReplies, Holds, AcceptedFile, Property3}
+use Rattle.moves.specs.Fresh.{freshBytes, fresh}
+use Rattle.soundness.specs.Property3.{numberOfNext, sendsOrReplies, Holds, AcceptedFile, Property3}
 
 is-undone : (s : Progress) → T (isUndone s) → s ≡ undone
 is-undone undone t = refl
@@ -265,3 +266,9 @@ module _ (file : List ℕ) (acc : AcceptedFile file) where
   -- Property 3.
   pub property3 : (l : List Turn) → AllGiven l → Property3 file l
   property3 l g = holds (after file (freshBytes file) l) (after-standing l g (freshBytes file) fresh-standing)
+
+-- Of an accepted file, fresh writes the state that the list of moves starts from.
+pub fresh-writes : (file state : List ℕ) → AcceptedFile file → length state ≡ 65536
+    → fresh file state ≡ record { outcome = doneWith 0; state = freshBytes file }
+unfolding fresh
+fresh-writes file state acc e = rw (e, acc .passes)

@@ -17,7 +17,8 @@ use Rattle.moves.specs.Moves.{Result, refused, moved, move}
 use Rattle.moves.specs.Step.{Step, refuse, finish, step}
 use Rattle.soundness.specs.ResultLaws.{Keeps}
 use Rattle.soundness.specs.FreshLaws.{fresh-sound}
-use Rattle.soundness.specs.Property3.{Turn, Given, AllGiven, AcceptedFile, numberOfNext, freshBytes, sendsOrReplies}
+use Rattle.moves.specs.Fresh.{freshBytes}
+use Rattle.soundness.specs.Property3.{Turn, Given, AllGiven, AcceptedFile, numberOfNext, sendsOrReplies}
 use Rattle.soundness.specs.Property3Laws.{network, Standing, step-is, kept}
 use Rattle.soundness.specs.Runs.{given, stateAfter, numbers, numbersOnBytes, AllRoomy}
 

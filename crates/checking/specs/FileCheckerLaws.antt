@@ -17,7 +17,7 @@ use Rattle.typing.specs.Result.{Checked, refused, passed}
 use Rattle.typing.specs.NetworkRules.{Environments, DerivesNetwork, WellSortedIfThere, WellSortedServices, RisingOperations, WellSortedNetwork}
 use Rattle.typing.specs.NetworkChecker.{checkNetwork}
 use Rattle.typing.specs.NetworkLaws.{checked-derived, derived-checked}
-use Rattle.checker.specs.FileChecker.{afterForm, checkFile}
+use Rattle.checking.specs.FileChecker.{afterForm, checkFile}
 
 operation-rising : (o : Operation) → OperationShape o → RisingOperation o
 operation-rising o h = (h .request .shape .rising, h .reply .shape .rising)

@@ -1,0 +1,2 @@
+pub mod FileChecker
+pub mod FileCheckerLaws

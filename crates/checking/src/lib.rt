@@ -1,0 +1,1 @@
+// The checker of network files as a definition: specs/ alone.
