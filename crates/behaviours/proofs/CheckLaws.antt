@@ -164,23 +164,32 @@ module _ (file : List ℕ) (r x t : ℕ) (e : Environment) {ty : Typing} (h : Ty
       go false = answers-refuse (OperandType r) refl
 
   pub condition-at : {at b : ℕ} {s : Step} → ty ≡ Typing.At at b → s ≡ conditionOf r b e → Conditions file r x e s
-  condition-at p z = record { tells = λ Γ g w l.
-      let a = subst (λ (y : Typing). TypedAs e y (typed.typeOf Γ (expressionOf file x))) p (h .tells Γ g w l) in
-      condition-basic Γ (a .there) g (a .is) (a .basic) z }
+  condition-at p z = record {
+    tells = λ Γ g w l.
+        let a = subst (λ (y : Typing). TypedAs e y (typed.typeOf Γ (expressionOf file x))) p (h .tells Γ g w l) in
+        condition-basic Γ (a .there) g (a .is) (a .basic) z;
+  }
 
   pub condition-leaf : {b : ℕ} {s : Step} → ty ≡ Typing.Leaf b → s ≡ conditionOf r b e → Conditions file r x e s
-  condition-leaf {b} p z = record { tells = λ Γ g w l.
-      condition-basic Γ (leaf b) g (subst (λ (y : Typing). TypedAs e y (typed.typeOf Γ (expressionOf file x))) p (h .tells Γ g w l)) refl z }
+  condition-leaf {b} p z = record {
+    tells = λ Γ g w l.
+        condition-basic Γ (leaf b) g (subst (λ (y : Typing). TypedAs e y (typed.typeOf Γ (expressionOf file x))) p (h .tells Γ g w l)) refl z;
+  }
 
   pub condition-missing : {s : Step} → ty ≡ Typing.PathNotFirm → s ≡ stepOf (refused (PathNotFirm r)) → Conditions file r x e s
-  condition-missing p z = record { tells = λ Γ g w l. answers-as (sym (ap (atRow r) (found-fails (λ m. require (eqb (rootBasic m) bool) OperandType (yields Γ))
-      (subst (λ (y : Typing). TypedAs e y (typed.typeOf Γ (expressionOf file x))) p (h .tells Γ g w l))))) (answers-refuse (PathNotFirm r) z) }
+  condition-missing p z = record {
+    tells = λ Γ g w l. answers-as (sym (ap (atRow r) (found-fails (λ m. require (eqb (rootBasic m) bool) OperandType (yields Γ))
+        (subst (λ (y : Typing). TypedAs e y (typed.typeOf Γ (expressionOf file x))) p (h .tells Γ g w l))))) (answers-refuse (PathNotFirm r) z);
+  }
 
   pub condition-wrong : {s : Step} → ty ≡ Typing.OperandType → s ≡ stepOf (refused (OperandType r)) → Conditions file r x e s
-  condition-wrong p z = record { tells = λ Γ g w l. answers-as (sym (ap (atRow r) (found-fails (λ m. require (eqb (rootBasic m) bool) OperandType (yields Γ))
-      (subst (λ (y : Typing). TypedAs e y (typed.typeOf Γ (expressionOf file x))) p (h .tells Γ g w l))))) (answers-refuse (OperandType r) z) }
+  condition-wrong p z = record {
+    tells = λ Γ g w l. answers-as (sym (ap (atRow r) (found-fails (λ m. require (eqb (rootBasic m) bool) OperandType (yields Γ))
+        (subst (λ (y : Typing). TypedAs e y (typed.typeOf Γ (expressionOf file x))) p (h .tells Γ g w l))))) (answers-refuse (OperandType r) z);
+  }
 
 pub ruleset send-type-laws = (sent-at, sent-at-not, sent-leaf, sent-leaf-not, sent-missing, sent-wrong)
+
 pub ruleset condition-laws = (condition-at, condition-leaf, condition-missing, condition-wrong)
 
 pub bool-is : (r b : ℕ) (e : Environment) {s : Step} → b ≡ 0 → s ≡ record { environment = e; verdict = Done } → s ≡ conditionOf r b e
@@ -203,19 +212,25 @@ module _ (file : List ℕ) (q r p x : ℕ) (e : Environment) {ty : Typing} (h : 
       ∙ sym (ap (λ (f : Result MessageType). atRow r (andThen f (λ i. limited (assignTo (pathOf file p) (rootBasic i) Γ)))) a)) (k .tells Γ g w l y)
 
   pub assigned-at : {at b : ℕ} {s : Step} → ty ≡ Typing.At at b → Assigns file e p b r s → LeafChecks file q r (BehaviourRow.Assign p x) e s
-  assigned-at z k = record { tells = λ c left Γ g w l.
-      let a = subst (λ (y : Typing). TypedAs e y (typed.typeOf Γ (expressionOf file x))) z (h .tells Γ g w (l .1)) in
-      assigned-basic c Γ (a .there) g w (l .0) (l .1) (a .is) (a .basic) k }
+  assigned-at z k = record {
+    tells = λ c left Γ g w l.
+        let a = subst (λ (y : Typing). TypedAs e y (typed.typeOf Γ (expressionOf file x))) z (h .tells Γ g w (l .1)) in
+        assigned-basic c Γ (a .there) g w (l .0) (l .1) (a .is) (a .basic) k;
+  }
 
   pub assigned-leaf : {b : ℕ} {s : Step} → ty ≡ Typing.Leaf b → Assigns file e p b r s → LeafChecks file q r (BehaviourRow.Assign p x) e s
-  assigned-leaf {b} z k = record { tells = λ c left Γ g w l.
-      assigned-basic c Γ (leaf b) g w (l .0) (l .1) (subst (λ (y : Typing). TypedAs e y (typed.typeOf Γ (expressionOf file x))) z (h .tells Γ g w (l .1))) refl k }
+  assigned-leaf {b} z k = record {
+    tells = λ c left Γ g w l.
+        assigned-basic c Γ (leaf b) g w (l .0) (l .1) (subst (λ (y : Typing). TypedAs e y (typed.typeOf Γ (expressionOf file x))) z (h .tells Γ g w (l .1))) refl k;
+  }
 
   not-assigned : {s : Step} (why : ℕ → Refusal) → ((Γ : Types) → StandsFor e Γ → WellFormed file → x < expressionCount file → typed.typeOf Γ (expressionOf file x) ≡ fails why)
       → s ≡ stepOf (refused (why r)) → LeafChecks file q r (BehaviourRow.Assign p x) e s
   unfolding check
-  not-assigned why k z = record { tells = λ c left Γ g w l.
-      answers-as (sym (ap (atRow r) (found-fails (λ i. limited (assignTo (pathOf file p) (rootBasic i) Γ)) (k Γ g w (l .1))))) (answers-refuse (why r) z) }
+  not-assigned why k z = record {
+    tells = λ c left Γ g w l.
+        answers-as (sym (ap (atRow r) (found-fails (λ i. limited (assignTo (pathOf file p) (rootBasic i) Γ)) (k Γ g w (l .1))))) (answers-refuse (why r) z);
+  }
 
   pub assigned-missing : {s : Step} → ty ≡ Typing.PathNotFirm → s ≡ stepOf (refused (PathNotFirm r)) → LeafChecks file q r (BehaviourRow.Assign p x) e s
   assigned-missing z k = not-assigned PathNotFirm (λ Γ g w l. subst (λ (y : Typing). TypedAs e y (typed.typeOf Γ (expressionOf file x))) z (h .tells Γ g w l)) k
@@ -243,27 +258,35 @@ require-met t why x r e = sym (ap (λ (y : Bool). atRow r (require y why x)) e)
 
 pub sends-not : (file : List ℕ) (q r o x : ℕ) (two : Bool) (e : Environment) {t : Bool} {s : Step} → t ≡ permits q (directionOf false) two (operationOf file o) → not t ≡ true
     → s ≡ stepOf (refused (WrongOperation r)) → Sends file q r o x two e s
-sends-not file q r o x two e {t} p n z = record { tells = λ Γ g w l m.
-    answers-as (require-not (permits q output two (operationOf file o)) WrongOperation (sends Γ (expressionOf file x) (operationOf file o .request)) r (sym p ∙ not-true t n)) (answers-refuse (WrongOperation r) z) }
+sends-not file q r o x two e {t} p n z = record {
+  tells = λ Γ g w l m.
+      answers-as (require-not (permits q output two (operationOf file o)) WrongOperation (sends Γ (expressionOf file x) (operationOf file o .request)) r (sym p ∙ not-true t n)) (answers-refuse (WrongOperation r) z);
+}
 
 pub sends-then : (file : List ℕ) (q r o x : ℕ) (two : Bool) (e : Environment) {t : Bool} {u : ℕ} {s : Step} → t ≡ permits q (directionOf false) two (operationOf file o)
     → not t ≡ false → u ≡ requestType file o → SendsType file r x u e s → Sends file q r o x two e s
-sends-then file q r o x two e {t} {u} {s} p n v k = record { tells = λ Γ g w l m.
-    let d = request-row file w o l in
-    answers-as (ap (λ (y : MessageType). atRow r (sends Γ (expressionOf file x) y)) (sym (d .0)) ∙ require-met (permits q output two (operationOf file o)) WrongOperation (sends Γ (expressionOf file x) (operationOf file o .request)) r (sym p ∙ not-false t n))
-    (subst (λ (y : ℕ). SendsType file r x y e s) v k .tells Γ g w m (d .1)) }
+sends-then file q r o x two e {t} {u} {s} p n v k = record {
+  tells = λ Γ g w l m.
+      let d = request-row file w o l in
+      answers-as (ap (λ (y : MessageType). atRow r (sends Γ (expressionOf file x) y)) (sym (d .0)) ∙ require-met (permits q output two (operationOf file o)) WrongOperation (sends Γ (expressionOf file x) (operationOf file o .request)) r (sym p ∙ not-false t n))
+      (subst (λ (y : ℕ). SendsType file r x y e s) v k .tells Γ g w m (d .1));
+}
 
 pub receives-not : (file : List ℕ) (q r o x : ℕ) (two : Bool) (e : Environment) {t : Bool} {s : Step} → t ≡ permits q (directionOf true) two (operationOf file o) → not t ≡ true
     → s ≡ stepOf (refused (WrongOperation r)) → Receives file q r o x two e s
-receives-not file q r o x two e {t} p n z = record { tells = λ Γ g w l m.
-    answers-as (require-not (permits q input two (operationOf file o)) WrongOperation (limited (place (pathOf file x) (operationOf file o .request) Γ)) r (sym p ∙ not-true t n)) (answers-refuse (WrongOperation r) z) }
+receives-not file q r o x two e {t} p n z = record {
+  tells = λ Γ g w l m.
+      answers-as (require-not (permits q input two (operationOf file o)) WrongOperation (limited (place (pathOf file x) (operationOf file o .request) Γ)) r (sym p ∙ not-true t n)) (answers-refuse (WrongOperation r) z);
+}
 
 pub receives-then : (file : List ℕ) (q r o p : ℕ) (two : Bool) (e : Environment) {t : Bool} {u : ℕ} {s : Step} → t ≡ permits q (directionOf true) two (operationOf file o)
     → not t ≡ false → u ≡ requestType file o → Places file e p u r s → Receives file q r o p two e s
-receives-then file q r o p two e {t} {u} {s} h n v k = record { tells = λ Γ g w l m.
-    let d = request-row file w o l in
-    answers-as (ap (λ (y : MessageType). atRow r (limited (place (pathOf file p) y Γ))) (sym (d .0)) ∙ require-met (permits q input two (operationOf file o)) WrongOperation (limited (place (pathOf file p) (operationOf file o .request) Γ)) r (sym h ∙ not-false t n))
-    (subst (λ (y : ℕ). Places file e p y r s) v k .tells Γ g w m (d .1)) }
+receives-then file q r o p two e {t} {u} {s} h n v k = record {
+  tells = λ Γ g w l m.
+      let d = request-row file w o l in
+      answers-as (ap (λ (y : MessageType). atRow r (limited (place (pathOf file p) y Γ))) (sym (d .0)) ∙ require-met (permits q input two (operationOf file o)) WrongOperation (limited (place (pathOf file p) (operationOf file o .request) Γ)) r (sym h ∙ not-false t n))
+      (subst (λ (y : ℕ). Places file e p y r s) v k .tells Γ g w m (d .1));
+}
 
 pub ruleset operation-laws = (sends-not, sends-then, receives-not, receives-then)
 
@@ -283,12 +306,14 @@ solicit-refused file q r o x p e k v = record { tells = λ c left Γ g w l. next
 pub solicit-done : (file : List ℕ) (q r o x p : ℕ) (e : Environment) {s t : Step} {u : ℕ} → Sends file q r o x true e s → s .verdict ≡ Done → u ≡ replyType file o
     → Places file e p u r t → LeafChecks file q r (BehaviourRow.SolicitResponse o x p) e t
 unfolding check
-solicit-done file q r o x p e {s} {t} {u} k v z m = record { tells = λ c left Γ g w l.
-    next-done _ (k .tells Γ g w (l .0) (l .1)) v (λ Δ d i.
-    let y = reply-row file w o (l .0) (two-way q output (operationOf file o)
-    (required r (permits q output true (operationOf file o)) WrongOperation (sends Γ (expressionOf file x) (operationOf file o .request)) Δ i)) in
-    answers-as (ap (λ (n : MessageType). atRow r (limited (place (pathOf file p) n Γ))) (sym (y .0)))
-    (subst (λ (n : ℕ). Places file e p n r t) z m .tells Γ g w (l .2) (y .1))) }
+solicit-done file q r o x p e {s} {t} {u} k v z m = record {
+  tells = λ c left Γ g w l.
+      next-done _ (k .tells Γ g w (l .0) (l .1)) v (λ Δ d i.
+      let y = reply-row file w o (l .0) (two-way q output (operationOf file o)
+      (required r (permits q output true (operationOf file o)) WrongOperation (sends Γ (expressionOf file x) (operationOf file o .request)) Δ i)) in
+      answers-as (ap (λ (n : MessageType). atRow r (limited (place (pathOf file p) n Γ))) (sym (y .0)))
+      (subst (λ (n : ℕ). Places file e p n r t) z m .tells Γ g w (l .2) (y .1)));
+}
 
 pub ruleset leaf-laws = (one-way-checks, notification-checks, solicit-refused, solicit-done)
 
@@ -325,14 +350,18 @@ sequence-done file q a b left e k v n = record { tells = λ c i Γ g w l m. next
 pub parallel-not : (file : List ℕ) (q r a b left : ℕ) (e : Environment) {t : Bool} {s : Step} → t ≡ noSharedRoot (behaviourOf file a) (behaviourOf file b) → not t ≡ true
     → s ≡ stepOf (refused (SharedRoot r)) → RowChecks file q r (BehaviourRow.Parallel a b) left e s
 unfolding check next
-parallel-not file q r a b left e {t} p n z = record { tells = λ c Γ g w l.
-    answers-as (ap (λ (y : Bool). next (atRow r (require y SharedRoot (yields Γ))) (λ Γ0. next (check q c (behaviourOf file a) Γ) (λ Γ1. check q c (behaviourOf file b) Γ1))) (sym (sym p ∙ not-true t n))) (answers-refuse (SharedRoot r) z) }
+parallel-not file q r a b left e {t} p n z = record {
+  tells = λ c Γ g w l.
+      answers-as (ap (λ (y : Bool). next (atRow r (require y SharedRoot (yields Γ))) (λ Γ0. next (check q c (behaviourOf file a) Γ) (λ Γ1. check q c (behaviourOf file b) Γ1))) (sym (sym p ∙ not-true t n))) (answers-refuse (SharedRoot r) z);
+}
 
 pub parallel-done : (file : List ℕ) (q r a b left : ℕ) (e : Environment) {t : Bool} {s : Step} → t ≡ noSharedRoot (behaviourOf file a) (behaviourOf file b) → not t ≡ false
     → Sequences file q a b left e s → RowChecks file q r (BehaviourRow.Parallel a b) left e s
 unfolding check next
-parallel-done file q r a b left e {t} p n k = record { tells = λ c Γ g w l.
-    answers-as (ap (λ (y : Bool). next (atRow r (require y SharedRoot (yields Γ))) (λ Γ0. next (check q c (behaviourOf file a) Γ) (λ Γ1. check q c (behaviourOf file b) Γ1))) (sym (sym p ∙ not-false t n))) (k .tells c r Γ g w (l .0) (l .1)) }
+parallel-done file q r a b left e {t} p n k = record {
+  tells = λ c Γ g w l.
+      answers-as (ap (λ (y : Bool). next (atRow r (require y SharedRoot (yields Γ))) (λ Γ0. next (check q c (behaviourOf file a) Γ) (λ Γ1. check q c (behaviourOf file b) Γ1))) (sym (sym p ∙ not-false t n))) (k .tells c r Γ g w (l .0) (l .1));
+}
 
 pub response-refused : (file : List ℕ) (q r o p i d left : ℕ) (e : Environment) {s : Step} {why : Refusal} → Receives file q r o p true e s → s .verdict ≡ Refused why
     → RowChecks file q r (BehaviourRow.RequestResponse o p i d) left e s
@@ -342,19 +371,23 @@ response-refused file q r o p i d left e k v = record { tells = λ c Γ g w l. n
 pub response-body : (file : List ℕ) (q r o p i d left : ℕ) (e : Environment) {s t : Step} {why : Refusal} → Receives file q r o p true e s → s .verdict ≡ Done
     → Checks file q d left (s .environment) t → t .verdict ≡ Refused why → RowChecks file q r (BehaviourRow.RequestResponse o p i d) left e t
 unfolding check
-response-body file q r o p i d left e k v n u = record { tells = λ c Γ g w l.
-    next-done _ (k .tells Γ g w (l .0) (l .1)) v (λ Δ y z. next-refused _ (n .tells c Δ y w (l .3)) u) }
+response-body file q r o p i d left e k v n u = record {
+  tells = λ c Γ g w l.
+      next-done _ (k .tells Γ g w (l .0) (l .1)) v (λ Δ y z. next-refused _ (n .tells c Δ y w (l .3)) u);
+}
 
 pub response-done : (file : List ℕ) (q r o p i d left : ℕ) (e : Environment) {s t f : Step} {u : ℕ} → Receives file q r o p true e s → s .verdict ≡ Done
     → Checks file q d left (s .environment) t → t .verdict ≡ Done → u ≡ replyType file o → Asks file (t .environment) i u r f
     → RowChecks file q r (BehaviourRow.RequestResponse o p i d) left e f
 unfolding check
-response-done file q r o p i d left e {s} {t} {f} {u} k v n x m a = record { tells = λ c Γ g w l.
-    next-done _ (k .tells Γ g w (l .0) (l .1)) v (λ Δ y z. next-done _ (n .tells c Δ y w (l .3)) x (λ Θ b j.
-    let h = reply-row file w o (l .0) (two-way q input (operationOf file o)
-    (required r (permits q input true (operationOf file o)) WrongOperation (limited (place (pathOf file p) (operationOf file o .request) Γ)) Δ z)) in
-    answers-as (ap (λ (n : MessageType). atRow r (answers (pathOf file i) Θ n)) (sym (h .0)))
-    (subst (λ (n : ℕ). Asks file (t .environment) i n r f) m a .tells Θ b w (l .2) (h .1)))) }
+response-done file q r o p i d left e {s} {t} {f} {u} k v n x m a = record {
+  tells = λ c Γ g w l.
+      next-done _ (k .tells Γ g w (l .0) (l .1)) v (λ Δ y z. next-done _ (n .tells c Δ y w (l .3)) x (λ Θ b j.
+      let h = reply-row file w o (l .0) (two-way q input (operationOf file o)
+      (required r (permits q input true (operationOf file o)) WrongOperation (limited (place (pathOf file p) (operationOf file o .request) Γ)) Δ z)) in
+      answers-as (ap (λ (n : MessageType). atRow r (answers (pathOf file i) Θ n)) (sym (h .0)))
+      (subst (λ (n : ℕ). Asks file (t .environment) i n r f) m a .tells Θ b w (l .2) (h .1))));
+}
 
 pub if-refused : (file : List ℕ) (q r x a b left : ℕ) (e : Environment) {s : Step} {why : Refusal} → Conditions file r x e s → s .verdict ≡ Refused why
     → RowChecks file q r (BehaviourRow.If x a b) left e s
@@ -364,22 +397,28 @@ if-refused file q r x a b left e k v = record { tells = λ c Γ g w l. next-refu
 pub if-then : (file : List ℕ) (q r x a b left : ℕ) (e : Environment) {s t : Step} {why : Refusal} → Conditions file r x e s → s .verdict ≡ Done
     → Checks file q a left e t → t .verdict ≡ Refused why → RowChecks file q r (BehaviourRow.If x a b) left e t
 unfolding check
-if-then file q r x a b left e k v n u = record { tells = λ c Γ g w l.
-    next-done _ (k .tells Γ g w (l .0)) v (λ Δ y z. next-refused _ (n .tells c Γ g w (l .1)) u) }
+if-then file q r x a b left e k v n u = record {
+  tells = λ c Γ g w l.
+      next-done _ (k .tells Γ g w (l .0)) v (λ Δ y z. next-refused _ (n .tells c Γ g w (l .1)) u);
+}
 
 pub if-else : (file : List ℕ) (q r x a b left : ℕ) (e : Environment) {s t f : Step} {why : Refusal} → Conditions file r x e s → s .verdict ≡ Done
     → Checks file q a left e t → t .verdict ≡ Done → Checks file q b left e f → f .verdict ≡ Refused why → RowChecks file q r (BehaviourRow.If x a b) left e f
 unfolding check
-if-else file q r x a b left e k v n u m o = record { tells = λ c Γ g w l.
-    next-done _ (k .tells Γ g w (l .0)) v (λ Δ y z. next-done _ (n .tells c Γ g w (l .1)) u (λ Θ i j. next-refused _ (m .tells c Γ g w (l .2)) o)) }
+if-else file q r x a b left e k v n u m o = record {
+  tells = λ c Γ g w l.
+      next-done _ (k .tells Γ g w (l .0)) v (λ Δ y z. next-done _ (n .tells c Γ g w (l .1)) u (λ Θ i j. next-refused _ (m .tells c Γ g w (l .2)) o));
+}
 
 pub if-done : (file : List ℕ) (q r x a b left : ℕ) (e : Environment) {s t f h : Step} → Conditions file r x e s → s .verdict ≡ Done
     → Checks file q a left e t → t .verdict ≡ Done → Checks file q b left e f → f .verdict ≡ Done → Agrees r (f .environment) (t .environment) h
     → RowChecks file q r (BehaviourRow.If x a b) left e h
 unfolding check
-if-done file q r x a b left e k v n u m o d = record { tells = λ c Γ g w l.
-    next-done _ (k .tells Γ g w (l .0)) v (λ Δ y z. next-done _ (n .tells c Γ g w (l .1)) u (λ Θ i j.
-    next-done _ (m .tells c Γ g w (l .2)) o (λ Ψ p z. d .tells Ψ Θ p i))) }
+if-done file q r x a b left e k v n u m o d = record {
+  tells = λ c Γ g w l.
+      next-done _ (k .tells Γ g w (l .0)) v (λ Δ y z. next-done _ (n .tells c Γ g w (l .1)) u (λ Θ i j.
+      next-done _ (m .tells c Γ g w (l .2)) o (λ Ψ p z. d .tells Ψ Θ p i)));
+}
 
 pub while-refused : (file : List ℕ) (q r x b left : ℕ) (e : Environment) {s : Step} {why : Refusal} → Conditions file r x e s → s .verdict ≡ Refused why
     → RowChecks file q r (BehaviourRow.While x b) left e s
@@ -389,14 +428,18 @@ while-refused file q r x b left e k v = record { tells = λ c Γ g w l. next-ref
 pub while-body : (file : List ℕ) (q r x b left : ℕ) (e : Environment) {s t : Step} {why : Refusal} → Conditions file r x e s → s .verdict ≡ Done
     → Checks file q b left e t → t .verdict ≡ Refused why → RowChecks file q r (BehaviourRow.While x b) left e t
 unfolding check
-while-body file q r x b left e k v n u = record { tells = λ c Γ g w l.
-    next-done _ (k .tells Γ g w (l .0)) v (λ Δ y z. next-refused _ (n .tells c Γ g w (l .1)) u) }
+while-body file q r x b left e k v n u = record {
+  tells = λ c Γ g w l.
+      next-done _ (k .tells Γ g w (l .0)) v (λ Δ y z. next-refused _ (n .tells c Γ g w (l .1)) u);
+}
 
 pub while-done : (file : List ℕ) (q r x b left : ℕ) (e : Environment) {s t h : Step} → Conditions file r x e s → s .verdict ≡ Done
     → Checks file q b left e t → t .verdict ≡ Done → Agrees r (t .environment) e h → RowChecks file q r (BehaviourRow.While x b) left e h
 unfolding check
-while-done file q r x b left e k v n u d = record { tells = λ c Γ g w l.
-    next-done _ (k .tells Γ g w (l .0)) v (λ Δ y z. next-done _ (n .tells c Γ g w (l .1)) u (λ Θ i j. d .tells Θ Γ i g)) }
+while-done file q r x b left e k v n u d = record {
+  tells = λ c Γ g w l.
+      next-done _ (k .tells Γ g w (l .0)) v (λ Δ y z. next-done _ (n .tells c Γ g w (l .1)) u (λ Θ i j. d .tells Θ Γ i g));
+}
 
 -- ---- branches
 
@@ -433,8 +476,10 @@ next-at s r = omega arith
 
 pub branches-end : (file : List ℕ) (q c at n left : ℕ) (e d : Environment) (same : Bool) {s : Step} → n ≡ 0 → Settles c d same s → Branches file q c at n left e d same s
 unfolding goOn
-branches-end file q c at n left e d same {s} z k = record { tells = λ Γ Δ j g h w i l.
-    subst (λ (y : ℕ). Answers s (goOn q c file Γ Δ same j y)) (sym z) (k .tells Δ h) }
+branches-end file q c at n left e d same {s} z k = record {
+  tells = λ Γ Δ j g h w i l.
+      subst (λ (y : ℕ). Answers s (goOn q c file Γ Δ same j y)) (sym z) (k .tells Δ h);
+}
 
 module _ (file : List ℕ) (q c at n left : ℕ) (e : Environment) {a b : ℕ} {s : Step} (z : n ≡ 0 → ⊥) (p : a ≡ u16At file (at + 2)) (o : b ≡ u16At file (at + 4))
     (k : Sequences file q a b left e s) where
@@ -448,34 +493,42 @@ module _ (file : List ℕ) (q c at n left : ℕ) (e : Environment) {a b : ℕ} {
       .tells i j Γ g w (l .input) (l .follow)
 
   pub branches-refused : (d : Environment) (same : Bool) {why : Refusal} → s .verdict ≡ Refused why → Branches file q c at n left e d same s
-  branches-refused d same v = record { tells = λ Γ Δ j g h w i l.
-      answers-as (sym (ap (goOn q c file Γ Δ same j) (one-less n z) ∙ go-on q c file Γ Δ same j (n - 1)))
-      (next-refused _ (branch-first c j Γ g w i (l j (omega arith) (omega (arith, one-less n z)))) v) }
+  branches-refused d same v = record {
+    tells = λ Γ Δ j g h w i l.
+        answers-as (sym (ap (goOn q c file Γ Δ same j) (one-less n z) ∙ go-on q c file Γ Δ same j (n - 1)))
+        (next-refused _ (branch-first c j Γ g w i (l j (omega arith) (omega (arith, one-less n z)))) v);
+  }
 
   pub branches-more : (d : Environment) (same : Bool) {t u : Bool} {f : Step} → s .verdict ≡ Done → SameEnvironments (s .environment) d t → u ≡ (same && t)
       → Branches file q c (at + 10) (n - 1) left e d u f → Branches file q c at n left e d same f
-  branches-more d same {t} {u} {f} v x y m = record { tells = λ Γ Δ j g h w i l.
-      answers-as (sym (ap (goOn q c file Γ Δ same j) (one-less n z) ∙ go-on q c file Γ Δ same j (n - 1)))
-      (next-done _ (branch-first c j Γ g w i (l j (omega arith) (omega (arith, one-less n z)))) v (λ Θ b r.
-      subst (λ (y : Bool). Answers f (goOn q c file Γ Δ y (suc j) (n - 1))) (y ∙ ap (λ (y : Bool). same && y) (x .tells Θ Δ b h))
-      (m .tells Γ Δ (suc j) g h w (ap (λ (y : ℕ). y + 10) i ∙ next-at file j) (λ k u v. l k (omega arith) (omega (arith, one-less n z)))))) }
+  branches-more d same {t} {u} {f} v x y m = record {
+    tells = λ Γ Δ j g h w i l.
+        answers-as (sym (ap (goOn q c file Γ Δ same j) (one-less n z) ∙ go-on q c file Γ Δ same j (n - 1)))
+        (next-done _ (branch-first c j Γ g w i (l j (omega arith) (omega (arith, one-less n z)))) v (λ Θ b r.
+        subst (λ (y : Bool). Answers f (goOn q c file Γ Δ y (suc j) (n - 1))) (y ∙ ap (λ (y : Bool). same && y) (x .tells Θ Δ b h))
+        (m .tells Γ Δ (suc j) g h w (ap (λ (y : ℕ). y + 10) i ∙ next-at file j) (λ k u v. l k (omega arith) (omega (arith, one-less n z))))));
+  }
 
 pub choice-none : (file : List ℕ) (q r first n left : ℕ) (e : Environment) (s : Step) → n ≡ 0 → RowChecks file q r (BehaviourRow.Choice first n) left e s
 choice-none file q r first n left e s z = record { tells = λ c Γ g w l. let k = l .0 in absurd (omega arith) }
 
 pub choice-refused : (file : List ℕ) (q r first n left at : ℕ) (e : Environment) {a b : ℕ} {s : Step} {why : Refusal} → (n ≡ 0 → ⊥) → at ≡ behaviourAt file first
     → a ≡ u16At file (at + 2) → b ≡ u16At file (at + 4) → Sequences file q a b left e s → s .verdict ≡ Refused why → RowChecks file q r (BehaviourRow.Choice first n) left e s
-choice-refused file q r first n left at e z i p o k v = record { tells = λ c Γ g w l.
-    answers-as (sym (ap (λ (y : ℕ). check q c (choice r (branchesFrom file (behaviourOf file) first y)) Γ) (one-less n z) ∙ choice-starts q c r file Γ first (n - 1)))
-    (next-refused _ (branch-first file q r at n left e z p o k r first Γ g w i (l .1 first (omega arith) (omega (arith, one-less n z)))) v) }
+choice-refused file q r first n left at e z i p o k v = record {
+  tells = λ c Γ g w l.
+      answers-as (sym (ap (λ (y : ℕ). check q c (choice r (branchesFrom file (behaviourOf file) first y)) Γ) (one-less n z) ∙ choice-starts q c r file Γ first (n - 1)))
+      (next-refused _ (branch-first file q r at n left e z p o k r first Γ g w i (l .1 first (omega arith) (omega (arith, one-less n z)))) v);
+}
 
 pub choice-done : (file : List ℕ) (q r first n left at : ℕ) (e : Environment) {a b : ℕ} {s f : Step} → (n ≡ 0 → ⊥) → at ≡ behaviourAt file first
     → a ≡ u16At file (at + 2) → b ≡ u16At file (at + 4) → Sequences file q a b left e s → s .verdict ≡ Done
     → Branches file q r (at + 10) (n - 1) left e (s .environment) true f → RowChecks file q r (BehaviourRow.Choice first n) left e f
-choice-done file q r first n left at e z i p o k v m = record { tells = λ c Γ g w l.
-    answers-as (sym (ap (λ (y : ℕ). check q c (choice r (branchesFrom file (behaviourOf file) first y)) Γ) (one-less n z) ∙ choice-starts q c r file Γ first (n - 1)))
-    (next-done _ (branch-first file q r at n left e z p o k r first Γ g w i (l .1 first (omega arith) (omega (arith, one-less n z)))) v (λ Δ b y.
-    m .tells Γ Δ (suc first) g b w (ap (λ (y : ℕ). y + 10) i ∙ next-at file first) (λ k u v. l .1 k (omega arith) (omega (arith, one-less n z))))) }
+choice-done file q r first n left at e z i p o k v m = record {
+  tells = λ c Γ g w l.
+      answers-as (sym (ap (λ (y : ℕ). check q c (choice r (branchesFrom file (behaviourOf file) first y)) Γ) (one-less n z) ∙ choice-starts q c r file Γ first (n - 1)))
+      (next-done _ (branch-first file q r at n left e z p o k r first Γ g w i (l .1 first (omega arith) (omega (arith, one-less n z)))) v (λ Δ b y.
+      m .tells Γ Δ (suc first) g b w (ap (λ (y : ℕ). y + 10) i ∙ next-at file first) (λ k u v. l .1 k (omega arith) (omega (arith, one-less n z)))));
+}
 
 -- ---- rows
 
@@ -487,15 +540,19 @@ sub-less file left r z l = subst (λ (y : ℕ). Sub file y r) (one-less left z) 
 
 pub leaf-row : (file : List ℕ) (q r left : ℕ) (e : Environment) {x y : BehaviourRow} {s : Step} → (left ≡ 0 → ⊥) → x ≡ behaviourRowOf file r → x ≡ y
     → LeafChecks file q r y e s → Checks file q r left e s
-leaf-row file q r left e {x} {y} {s} z p o k = record { tells = λ c Γ g w l.
-    let d = row-is file w r (left - 1) (sub-less file left r z l) p o in
-    answers-as (ap (λ (b : Behaviour). check q c b Γ) (sym (d .0))) (k .tells c (left - 1) Γ g w (d .1)) }
+leaf-row file q r left e {x} {y} {s} z p o k = record {
+  tells = λ c Γ g w l.
+      let d = row-is file w r (left - 1) (sub-less file left r z l) p o in
+      answers-as (ap (λ (b : Behaviour). check q c b Γ) (sym (d .0))) (k .tells c (left - 1) Γ g w (d .1));
+}
 
 pub deep-row : (file : List ℕ) (q r left : ℕ) (e : Environment) {x y : BehaviourRow} {s : Step} → (left ≡ 0 → ⊥) → x ≡ behaviourRowOf file r → x ≡ y
     → RowChecks file q r y (left - 1) e s → Checks file q r left e s
-deep-row file q r left e {x} {y} {s} z p o k = record { tells = λ c Γ g w l.
-    let d = row-is file w r (left - 1) (sub-less file left r z l) p o in
-    answers-as (ap (λ (b : Behaviour). check q c b Γ) (sym (d .0))) (k .tells c Γ g w (d .1)) }
+deep-row file q r left e {x} {y} {s} z p o k = record {
+  tells = λ c Γ g w l.
+      let d = row-is file w r (left - 1) (sub-less file left r z l) p o in
+      answers-as (ap (λ (b : Behaviour). check q c b Γ) (sym (d .0))) (k .tells c Γ g w (d .1));
+}
 
 pub sequence-row : (file : List ℕ) (q r left : ℕ) (e : Environment) {x : BehaviourRow} {a b : ℕ} {s : Step} → (left ≡ 0 → ⊥) → x ≡ behaviourRowOf file r
     → x ≡ BehaviourRow.Sequence a b → Sequences file q a b (left - 1) e s → Checks file q r left e s
@@ -519,10 +576,17 @@ pub unknown-row : (file : List ℕ) (q r left : ℕ) (e : Environment) {x : Beha
 unknown-row file q r left e z p o k = leaf-row file q r left e z p o (nil-checks file q r BehaviourRow.Unknown e refl k)
 
 pub ruleset sequence-laws = (sequence-refused, sequence-done)
+
 pub ruleset parallel-laws = (parallel-not, parallel-done)
+
 pub ruleset response-laws = (response-refused, response-body, response-done)
+
 pub ruleset if-laws = (if-refused, if-then, if-else, if-done)
+
 pub ruleset while-laws = (while-refused, while-body, while-done)
+
 pub ruleset branches-laws = (branches-end, branches-refused, branches-more)
+
 pub ruleset choice-laws = (choice-none, choice-refused, choice-done)
+
 pub ruleset row-laws = (no-rows, nil-row, branch-row, unknown-row, leaf-row, deep-row, sequence-row)

@@ -38,8 +38,10 @@ branch-subs : (s : List ℕ) → WellFormed s → (left r j : ℕ) → behaviour
 branch-subs s w left r j h k =
     let b = branch-kept s w r j k in
     let l = k .child .later in
-    record { input = later-sub s left r j (fieldA s (behaviourAt s j)) h (omega arith) (b .0 .child)
-           ; follow = later-sub s left r j (fieldB s (behaviourAt s j)) h (omega arith) (b .1 .child) }
+    record {
+      input = later-sub s left r j (fieldA s (behaviourAt s j)) h (omega arith) (b .0 .child);
+      follow = later-sub s left r j (fieldB s (behaviourAt s j)) h (omega arith) (b .1 .child);
+    }
 
 kept-kind : (s : List ℕ) → WellFormed s → (left r at : ℕ) → behaviourCount s ≤ r + suc left → (k : BehaviourKind) → RowKept s r at k
     → KeptBy s left (behaviourRowAs k (fieldA s at) (fieldB s at) (fieldC s at) (fieldD s at))
@@ -66,6 +68,7 @@ pub row-is : (s : List ℕ) → WellFormed s → (r left : ℕ) → Sub s (suc l
     → (behaviourOf s r ≡ behaviourBy s r y) × KeptBy s left y
 unfolding behaviourRowOf
 row-is s w r left h e f =
-    let g = sym e ∙ f in
-    (behaviour-row s w r (h .exists) ∙ (kind-is s r (behaviourAt s r) (kindAt s r) ∙ ap (behaviourBy s r) g),
-    subst (KeptBy s left) g (kept-kind s w left r (behaviourAt s r) (h .enough) (kindAt s r) (behaviour-kept s w r (h .exists))))
+    let g = sym e ∙ f in (
+      behaviour-row s w r (h .exists) ∙ (kind-is s r (behaviourAt s r) (kindAt s r) ∙ ap (behaviourBy s r) g),
+      subst (KeptBy s left) g (kept-kind s w left r (behaviourAt s r) (h .enough) (kindAt s r) (behaviour-kept s w r (h .exists))),
+    )

@@ -4,7 +4,6 @@ ghost use mathlib.Core.Path.{_≡_};
 ghost use Prim.Native.Nat.{ℕ, _+_, _*_, _<_};
 ghost use Rattle.rows.specs.declared.BehaviourRow.{BehaviourRow};
 ghost use Rattle.behaviours.specs.Checks.{Sends, SendsType, Receives, conditionOf, Conditions, Agrees, LeafChecks, RowChecks, Checks, Sequences, Settles, Branches};
-
 use environments::Environment;
 use environments::Step;
 use expressions::Typing;
@@ -156,7 +155,17 @@ fn parallel(file: &[u8], q: u16, r: u16, a: u16, b: u16, left: u16, e: Environme
 }
 
 // "Request-response places it, types the body, then the reply path stands firm and is ≤ the reply type."
-fn request_response(file: &[u8], q: u16, r: u16, o: u16, p: u16, c: u16, body: u16, left: u16, e: Environment) -> Step
+fn request_response(
+    file: &[u8],
+    q: u16,
+    r: u16,
+    o: u16,
+    p: u16,
+    c: u16,
+    body: u16,
+    left: u16,
+    e: Environment,
+) -> Step
     ensures { λ s. ⌜ RowChecks (now (file .entry)) q r (BehaviourRow.RequestResponse o p c body) left e s ⌝ }
 {
     let received = receive(file, q, r, o, p, true, e);
@@ -175,7 +184,16 @@ fn request_response(file: &[u8], q: u16, r: u16, o: u16, p: u16, c: u16, body: u
 }
 
 // "If: a bool; both sides give equal Γ."
-fn if_then_else(file: &[u8], q: u16, r: u16, x: u16, a: u16, b: u16, left: u16, e: Environment) -> Step
+fn if_then_else(
+    file: &[u8],
+    q: u16,
+    r: u16,
+    x: u16,
+    a: u16,
+    b: u16,
+    left: u16,
+    e: Environment,
+) -> Step
     ensures { λ s. ⌜ RowChecks (now (file .entry)) q r (BehaviourRow.If x a b) left e s ⌝ }
 {
     let tested = condition(file, r, x, e);
@@ -217,14 +235,31 @@ fn while_do(file: &[u8], q: u16, r: u16, x: u16, b: u16, left: u16, e: Environme
 }
 
 // The n further branches of the choice c, whose rows stand from `at` on; the first gave d, all so far the same or not.
-fn branches(file: &[u8], q: u16, c: u16, at: usize, n: u16, left: u16, e: Environment, d: Environment, same: bool) -> Step
+fn branches(
+    file: &[u8],
+    q: u16,
+    c: u16,
+    at: usize,
+    n: u16,
+    left: u16,
+    e: Environment,
+    d: Environment,
+    same: bool,
+) -> Step
     requires { ⌜ at + 10 * n < 2000000 ⌝ }
     ensures { λ s. ⌜ Branches (now (file .entry)) q c at n left e d same s ⌝ }
 {
     if n == 0 {
         return settle(c, d, same);
     }
-    let one = sequence(file, q, wire::u16_at(file, at + 2), wire::u16_at(file, at + 4), left, e);
+    let one = sequence(
+        file,
+        q,
+        wire::u16_at(file, at + 2),
+        wire::u16_at(file, at + 4),
+        left,
+        e,
+    );
     let v = one.verdict;
     let Verdict::Done = v else {
         return one;
@@ -242,7 +277,14 @@ fn choice(file: &[u8], q: u16, r: u16, first: u16, n: u16, left: u16, e: Environ
         return environments::pass(e);
     }
     let at = layout::behaviour_at(file, first);
-    let one = sequence(file, q, wire::u16_at(file, at + 2), wire::u16_at(file, at + 4), left, e);
+    let one = sequence(
+        file,
+        q,
+        wire::u16_at(file, at + 2),
+        wire::u16_at(file, at + 4),
+        left,
+        e,
+    );
     let v = one.verdict;
     let Verdict::Done = v else {
         return one;
@@ -261,7 +303,17 @@ pub fn check_row(file: &[u8], q: u16, r: u16, left: u16, e: Environment) -> Step
     match rows::behaviour_row(file, r) {
         BehaviourRow::Nil => environments::pass(e),
         BehaviourRow::OneWay(o, p) => one_way(file, q, r, o, p, e),
-        BehaviourRow::RequestResponse(o, p, c, d) => request_response(file, q, r, o, p, c, d, left - 1, e),
+        BehaviourRow::RequestResponse(o, p, c, d) => request_response(
+            file,
+            q,
+            r,
+            o,
+            p,
+            c,
+            d,
+            left - 1,
+            e,
+        ),
         BehaviourRow::Notification(o, x) => notification(file, q, r, o, x, e),
         BehaviourRow::SolicitResponse(o, x, p) => solicit_response(file, q, r, o, x, p, e),
         BehaviourRow::If(x, a, b) => if_then_else(file, q, r, x, a, b, left - 1, e),

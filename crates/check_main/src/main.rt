@@ -1,135 +1,121 @@
-// The program `check`: what the checker says of the network file on standard input. 01: "`check` reads standard input and prints
-// `accepted`, then per node in preorder, by service, S(tarter) first: service row, S or C(lient), path, `!` (mandatory) or `?`, basic type
-// .. Otherwise it prints `refused N P`."
-use checker::Answer;
+// The program `check`: reads a network file from standard input and prints the environments of its services, or the refusal. 01, end of
+// Proved cases: "`accepted`, then per node in preorder, by service, S(tarter) first: service row, S or C(lient), path, `!` (mandatory) or
+// `?`, basic type", otherwise "`refused N P`".
+ghost use Prim.Native.Nat.{_<_};
 use checker::Pair;
-use environments::Entry;
 use environments::Environment;
 use libc::STDOUT_FILENO;
 use refusal::Refusal;
 use refusal::Verdict;
 
-fn text(s: &[u8]) {
-    io::write_all(STDOUT_FILENO, s);
+fn write(text: &[u8]) {
+    io::write_all(STDOUT_FILENO, text);
 }
 
-fn number(x: u64) {
-    io::print_decimal(STDOUT_FILENO, x);
+fn number(n: u64) {
+    io::print_decimal(STDOUT_FILENO, n);
 }
 
-fn byte(x: u8) -> u64 {
-    x as u64
+fn refused(why: Refusal) {
+    write(b"refused ");
+    number(refusal::number_of(why) as u64);
+    write(b" ");
+    number(refusal::place_of(why) as u64);
+    write(b"\n");
 }
 
-fn wide(x: u16) -> u64 {
-    x as u64
-}
-
-fn place(x: usize) -> u64 {
-    x as u64
-}
-
-fn print_basic(basic: u8) {
+fn word(basic: u8) {
     match basic {
-        0 => text(b"bool"),
-        1 => text(b"int"),
-        2 => text(b"double"),
-        3 => text(b"long"),
-        4 => text(b"string"),
-        5 => text(b"raw"),
-        _ => text(b"void"),
+        0 => write(b"bool\n"),
+        1 => write(b"int\n"),
+        2 => write(b"double\n"),
+        3 => write(b"long\n"),
+        4 => write(b"string\n"),
+        5 => write(b"raw\n"),
+        _ => write(b"void\n"),
     }
 }
 
-// One id of a path, after a dot if it is not the first.
-fn print_id(ids: [u16; 6], depth: usize, k: usize) {
-    if 6 <= k {
-        return;
-    }
-    if depth <= k {
-        return;
-    }
-    if 0 < k {
-        text(b".");
-    }
-    number(wide(ids[k]));
-}
-
-fn print_path(ids: [u16; 6], depth: usize) {
-    print_id(ids, depth, 0);
-    print_id(ids, depth, 1);
-    print_id(ids, depth, 2);
-    print_id(ids, depth, 3);
-    print_id(ids, depth, 4);
-    print_id(ids, depth, 5);
-}
-
-fn print_node(service: u64, role: &[u8], n: Entry) {
-    number(service);
-    text(role);
-    let ids = n.ids;
-    let depth = n.depth;
-    print_path(ids, depth);
-    let mandatory = n.mandatory;
-    if mandatory {
-        text(b" ! ");
-    } else {
-        text(b" ? ");
-    }
-    let basic = n.basic;
-    print_basic(basic);
-    text(b"\n");
-}
-
-fn print_environment(service: u64, role: &[u8], e: Environment) {
+// A path's ids down to the node, each in its place by level.
+fn print_path(ids: [u16; 8], level: usize)
+    requires { ⌜ level < 8 ⌝ }
+{
     let mut i: usize = 0;
-    while i < 48 {
-        let n = environments::node_at(e, i);
-        let there = n.there;
-        if !there {
-            return;
-        }
-        print_node(service, role, n);
+    while i < level {
+        number(wire::index(ids[i]) as u64);
+        write(b".");
         i += 1;
     }
+    number(wire::index(ids[level]) as u64);
 }
 
-fn print_pair(service: u64, p: Pair) {
-    let s = p.starter;
-    print_environment(service, b" S ", s);
-    let c = p.client;
-    print_environment(service, b" C ", c);
-}
-
-fn print_refused(why: Refusal) {
-    text(b"refused ");
-    number(byte(refusal::number_of(why)));
-    text(b" ");
-    number(place(refusal::place_of(why)));
-    text(b"\n");
-}
-
-fn print_answer(x: Answer) {
-    let verdict = x.verdict;
-    match verdict {
-        Verdict::Done => {
-            text(b"accepted\n");
-            let a = x.first;
-            print_pair(0, a);
-            let b = x.second;
-            print_pair(1, b);
-            let c = x.third;
-            print_pair(2, c);
-            let d = x.fourth;
-            print_pair(3, d);
-        }
-        Verdict::Refused(why) => print_refused(why),
+fn mark(mandatory: bool) {
+    if mandatory {
+        write(b" ! ");
+        return;
     }
+    write(b" ? ");
 }
 
-// One byte more than a file may have tells a long one, which gives `refused 2 0`.
+// The n siblings at `at`, whose path's ids above are the first `level` of `ids`; gives the place past them.
+fn nodes(s: &[u8], q: u64, role: &[u8], ids: [u16; 8], level: usize, at: usize, n: u8) -> usize {
+    if n == 0 {
+        return at;
+    }
+    if 7 < level {
+        return at;
+    }
+    let types::TypeHead::Node(id, mandatory, basic, count, mid) = types::type_head(s, at, false)
+    else {
+        return at;
+    };
+    let mut down = ids;
+    down[level] = id;
+    number(q);
+    write(role);
+    print_path(down, level);
+    mark(mandatory);
+    word(basic);
+    let end = nodes(s, q, role, down, level + 1, mid, count);
+    nodes(s, q, role, ids, level, end, n - 1)
+}
+
+fn environment(q: u64, role: &[u8], e: Environment) {
+    let s = e.bytes;
+    let tree::Head::Node(_, _, count, mid) = tree::head_at(&s, 0) else {
+        return;
+    };
+    nodes(&s, q, role, [0u16; 8], 0, mid, count);
+}
+
+fn service(q: u64, p: Pair) {
+    let a = p.starter;
+    environment(q, b" S ", a);
+    let b = p.client;
+    environment(q, b" C ", b);
+}
+
+fn answer(file: &[u8]) {
+    let x = checker::check(file);
+    let v = x.verdict;
+    if let Verdict::Refused(why) = v {
+        refused(why);
+        return;
+    }
+    write(b"accepted\n");
+    let a = x.first;
+    service(0, a);
+    let b = x.second;
+    service(1, b);
+    let c = x.third;
+    service(2, c);
+    let d = x.fourth;
+    service(3, d);
+}
+
+// One byte more than a file may have tells a long one.
 fn main() {
     let mut buf = [0u8; 32769];
     let n = io::read_full(0, &mut buf);
-    print_answer(checker::check(&buf[..n]));
+    answer(&buf[..n]);
 }

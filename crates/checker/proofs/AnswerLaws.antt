@@ -102,26 +102,34 @@ module _ (file : List ℕ) (q : ℕ) where
 
   pub starter-absent : {r : ℕ} {e : Environment} {s : Step} → r ≡ starterRow file q → r ≡ 65535 → e ≡ standing end → s ≡ record { environment = e; verdict = Done }
       → StarterGives file q s
-  starter-absent {r} {e} {s} a b p k = record { tells = λ w l.
-      k ∙ (ap (λ (y : Environment). record { environment = y; verdict = Done }) p ∙ (sym none-is ∙ ap (λ (y : Optional Behaviour). partOf (ifThere (checkStarter q) y)) (sym (starter-none (sym a ∙ b))))) }
+  starter-absent {r} {e} {s} a b p k = record {
+    tells = λ w l.
+        k ∙ (ap (λ (y : Environment). record { environment = y; verdict = Done }) p ∙ (sym none-is ∙ ap (λ (y : Optional Behaviour). partOf (ifThere (checkStarter q) y)) (sym (starter-none (sym a ∙ b)))));
+  }
 
   pub starter-given : {r : ℕ} {s : Step} → r ≡ starterRow file q → (r ≡ 65535 → ⊥) → Starts file q r s → StarterGives file q s
-  starter-given {r} {s} a b k = record { tells = λ w l.
-      let z : starterRow file q ≡ noRow → ⊥ = λ e. b (a ∙ e) in
-      let h = starter-there w l z in
-      subst (λ (y : ℕ). Starts file q y s) a k .tells w (h .0) (h .1) .is
-      ∙ (sym (there (checkStarter q (behaviourOf file (starterRow file q)))) ∙ ap (λ (y : Optional Behaviour). partOf (ifThere (checkStarter q) y)) (sym (starter-some z))) }
+  starter-given {r} {s} a b k = record {
+    tells = λ w l.
+        let z : starterRow file q ≡ noRow → ⊥ = λ e. b (a ∙ e) in
+        let h = starter-there w l z in
+        subst (λ (y : ℕ). Starts file q y s) a k .tells w (h .0) (h .1) .is
+        ∙ (sym (there (checkStarter q (behaviourOf file (starterRow file q)))) ∙ ap (λ (y : Optional Behaviour). partOf (ifThere (checkStarter q) y)) (sym (starter-some z)));
+  }
 
   pub client-absent : {r : ℕ} {e : Environment} {s : Step} → r ≡ clientRow file q → r ≡ 65535 → e ≡ standing end → s ≡ record { environment = e; verdict = Done }
       → ClientGives file q s
-  client-absent {r} {e} {s} a b p k = record { tells = λ w l.
-      k ∙ (ap (λ (y : Environment). record { environment = y; verdict = Done }) p ∙ (sym none-is ∙ ap (λ (y : Optional Behaviour). partOf (ifThere (checkClient q) y)) (sym (client-none (sym a ∙ b))))) }
+  client-absent {r} {e} {s} a b p k = record {
+    tells = λ w l.
+        k ∙ (ap (λ (y : Environment). record { environment = y; verdict = Done }) p ∙ (sym none-is ∙ ap (λ (y : Optional Behaviour). partOf (ifThere (checkClient q) y)) (sym (client-none (sym a ∙ b)))));
+  }
 
   pub client-given : {r : ℕ} {s : Step} → r ≡ clientRow file q → (r ≡ 65535 → ⊥) → Clients file q r s → ClientGives file q s
-  client-given {r} {s} a b k = record { tells = λ w l.
-      let z : clientRow file q ≡ noRow → ⊥ = λ e. b (a ∙ e) in
-      subst (λ (y : ℕ). Clients file q y s) a k .tells w (client-there w l z) .is
-      ∙ (sym (there (checkClient q (behaviourOf file (clientRow file q)))) ∙ ap (λ (y : Optional Behaviour). partOf (ifThere (checkClient q) y)) (sym (client-some z))) }
+  client-given {r} {s} a b k = record {
+    tells = λ w l.
+        let z : clientRow file q ≡ noRow → ⊥ = λ e. b (a ∙ e) in
+        subst (λ (y : ℕ). Clients file q y s) a k .tells w (client-there w l z) .is
+        ∙ (sym (there (checkClient q (behaviourOf file (clientRow file q)))) ∙ ap (λ (y : Optional Behaviour). partOf (ifThere (checkClient q) y)) (sym (client-some z)));
+  }
 
 pub ruleset role-laws = (starter-absent, starter-given, client-absent, client-given)
 
@@ -140,31 +148,37 @@ part-done (passed E) e f = (E, refl, ap (λ (t : Step). t .environment) e)
 pub service-starter : (file : List ℕ) (q : ℕ) {s : Step} {why : Refusal} {p : Pair} → StarterGives file q s → s .verdict ≡ Refused why → p ≡ emptyPair
     → ServiceGives file q (record { verdict = s .verdict; pair = p })
 unfolding checkService next oneOf
-service-starter file q {s} {why} {p} k v e = record { tells = λ w l.
-    let x = part-refused (ifThere (checkStarter q) (serviceOf file q .starter)) (k .tells w l) v in
-    ap (λ (y : Pair). record { verdict = s .verdict; pair = y }) e ∙ (ap (λ (y : Verdict). record { verdict = y; pair = emptyPair }) v
-    ∙ sym (ap (λ (y : Checked (Optional Types)). oneOf (next y (λ Γ. next (ifThere (checkClient q) (serviceOf file q .client)) (λ Δ. passed (record { starter = Γ; client = Δ }))))) x)) }
+service-starter file q {s} {why} {p} k v e = record {
+  tells = λ w l.
+      let x = part-refused (ifThere (checkStarter q) (serviceOf file q .starter)) (k .tells w l) v in
+      ap (λ (y : Pair). record { verdict = s .verdict; pair = y }) e ∙ (ap (λ (y : Verdict). record { verdict = y; pair = emptyPair }) v
+      ∙ sym (ap (λ (y : Checked (Optional Types)). oneOf (next y (λ Γ. next (ifThere (checkClient q) (serviceOf file q .client)) (λ Δ. passed (record { starter = Γ; client = Δ }))))) x));
+}
 
 pub service-client : (file : List ℕ) (q : ℕ) {s t : Step} {why : Refusal} {p : Pair} → StarterGives file q s → s .verdict ≡ Done → ClientGives file q t → t .verdict ≡ Refused why
     → p ≡ emptyPair → ServiceGives file q (record { verdict = t .verdict; pair = p })
 unfolding checkService next oneOf
-service-client file q {s} {t} {why} {p} k u m v e = record { tells = λ w l.
-    let x = part-done (ifThere (checkStarter q) (serviceOf file q .starter)) (k .tells w l) u in
-    let y = part-refused (ifThere (checkClient q) (serviceOf file q .client)) (m .tells w l) v in
-    ap (λ (y : Pair). record { verdict = t .verdict; pair = y }) e ∙ (ap (λ (y : Verdict). record { verdict = y; pair = emptyPair }) v
-    ∙ sym (ap (λ (z : Checked (Optional Types)). oneOf (next z (λ Γ. next (ifThere (checkClient q) (serviceOf file q .client)) (λ Δ. passed (record { starter = Γ; client = Δ }))))) (x .1)
-    ∙ ap (λ (z : Checked (Optional Types)). oneOf (next z (λ Δ. passed (record { starter = x .0; client = Δ })))) y)) }
+service-client file q {s} {t} {why} {p} k u m v e = record {
+  tells = λ w l.
+      let x = part-done (ifThere (checkStarter q) (serviceOf file q .starter)) (k .tells w l) u in
+      let y = part-refused (ifThere (checkClient q) (serviceOf file q .client)) (m .tells w l) v in
+      ap (λ (y : Pair). record { verdict = t .verdict; pair = y }) e ∙ (ap (λ (y : Verdict). record { verdict = y; pair = emptyPair }) v
+      ∙ sym (ap (λ (z : Checked (Optional Types)). oneOf (next z (λ Γ. next (ifThere (checkClient q) (serviceOf file q .client)) (λ Δ. passed (record { starter = Γ; client = Δ }))))) (x .1)
+      ∙ ap (λ (z : Checked (Optional Types)). oneOf (next z (λ Δ. passed (record { starter = x .0; client = Δ })))) y));
+}
 
 pub service-done : (file : List ℕ) (q : ℕ) {s t : Step} → StarterGives file q s → s .verdict ≡ Done → ClientGives file q t → t .verdict ≡ Done
     → ServiceGives file q (record { verdict = Done; pair = record { starter = s .environment; client = t .environment } })
 unfolding checkService next oneOf
-service-done file q {s} {t} k u m v = record { tells = λ w l.
-    let x = part-done (ifThere (checkStarter q) (serviceOf file q .starter)) (k .tells w l) u in
-    let y = part-done (ifThere (checkClient q) (serviceOf file q .client)) (m .tells w l) v in
-    ap (λ (z : Environment). record { verdict = Done; pair = record { starter = z; client = t .environment } }) (x .2)
-    ∙ (ap (λ (z : Environment). record { verdict = Done; pair = record { starter = environmentOf (x .0); client = z } }) (y .2)
-    ∙ sym (ap (λ (z : Checked (Optional Types)). oneOf (next z (λ Γ. next (ifThere (checkClient q) (serviceOf file q .client)) (λ Δ. passed (record { starter = Γ; client = Δ }))))) (x .1)
-    ∙ ap (λ (z : Checked (Optional Types)). oneOf (next z (λ Δ. passed (record { starter = x .0; client = Δ })))) (y .1))) }
+service-done file q {s} {t} k u m v = record {
+  tells = λ w l.
+      let x = part-done (ifThere (checkStarter q) (serviceOf file q .starter)) (k .tells w l) u in
+      let y = part-done (ifThere (checkClient q) (serviceOf file q .client)) (m .tells w l) v in
+      ap (λ (z : Environment). record { verdict = Done; pair = record { starter = z; client = t .environment } }) (x .2)
+      ∙ (ap (λ (z : Environment). record { verdict = Done; pair = record { starter = environmentOf (x .0); client = z } }) (y .2)
+      ∙ sym (ap (λ (z : Checked (Optional Types)). oneOf (next z (λ Γ. next (ifThere (checkClient q) (serviceOf file q .client)) (λ Δ. passed (record { starter = Γ; client = Δ }))))) (x .1)
+      ∙ ap (λ (z : Checked (Optional Types)). oneOf (next z (λ Δ. passed (record { starter = x .0; client = Δ })))) (y .1)));
+}
 
 pub ruleset service-laws = (service-starter, service-client, service-done)
 
@@ -231,35 +245,44 @@ services-none file q n z e = record { tells = λ w l. e ∙ (sym empty-answer �
 pub services-first : (file : List ℕ) (q n : ℕ) {o : One} {x : Answer} {why : Refusal} → (n ≡ 0 → ⊥) → ServiceGives file q o → o .verdict ≡ Refused why → x ≡ refusedWith (o .verdict)
     → ServicesGive file q n x
 unfolding next
-services-first file q n {o} {x} {why} z k v e = record { tells = λ w l.
-    refused-answer x (o .verdict) why e v ∙ sym (ap answerOf (services-step file q n z
-    ∙ ap (λ (y : Checked Environments). next y (λ E. next (checkServices (q + 1) (rowsFrom (serviceOf file) (q + 1) (n - 1))) (λ Es. passed (E ∷ Es))))
-    (one-refused (checkService q (serviceOf file q)) (k .tells w (omega (arith, one-less n z))) v))) }
+services-first file q n {o} {x} {why} z k v e = record {
+  tells = λ w l.
+      refused-answer x (o .verdict) why e v ∙ sym (ap answerOf (services-step file q n z
+      ∙ ap (λ (y : Checked Environments). next y (λ E. next (checkServices (q + 1) (rowsFrom (serviceOf file) (q + 1) (n - 1))) (λ Es. passed (E ∷ Es))))
+      (one-refused (checkService q (serviceOf file q)) (k .tells w (omega (arith, one-less n z))) v)));
+}
 
 module _ (file : List ℕ) (q n : ℕ) {o : One} {a : Answer} (z : n ≡ 0 → ⊥) (k : ServiceGives file q o) (u : o .verdict ≡ Done) (m : ServicesGive file (q + 1) (n - 1) a) where
   after-first : WellFormed file → q + n ≤ serviceCount file → (E : Environments) × (o .pair ≡ pairOf E)
       × (checkServices q (rowsFrom (serviceOf file) q n) ≡ next (checkServices (q + 1) (rowsFrom (serviceOf file) (q + 1) (n - 1))) (λ Es. passed (E ∷ Es)))
   unfolding next
   after-first w l =
-      let p = one-done (checkService q (serviceOf file q)) (k .tells w (omega (arith, one-less n z))) u in
-      (p .0, p .2, services-step file q n z
-      ∙ ap (λ (y : Checked Environments). next y (λ E. next (checkServices (q + 1) (rowsFrom (serviceOf file) (q + 1) (n - 1))) (λ Es. passed (E ∷ Es)))) (p .1))
+      let p = one-done (checkService q (serviceOf file q)) (k .tells w (omega (arith, one-less n z))) u in (
+        p .0,
+        p .2,
+        services-step file q n z
+            ∙ ap (λ (y : Checked Environments). next y (λ E. next (checkServices (q + 1) (rowsFrom (serviceOf file) (q + 1) (n - 1))) (λ Es. passed (E ∷ Es)))) (p .1),
+      )
 
   pub services-later : {x : Answer} {why : Refusal} → a .verdict ≡ Refused why → x ≡ refusedWith (a .verdict) → ServicesGive file q n x
   unfolding next
-  services-later {x} {why} v e = record { tells = λ w l.
-      let p = after-first w l in
-      refused-answer x (a .verdict) why e v ∙ sym (ap answerOf (p .2
-      ∙ ap (λ (y : Checked (List Environments)). next y (λ Es. passed (p .0 ∷ Es)))
-      (all-refused (checkServices (q + 1) (rowsFrom (serviceOf file) (q + 1) (n - 1))) (m .tells w (omega (arith, one-less n z))) v))) }
+  services-later {x} {why} v e = record {
+    tells = λ w l.
+        let p = after-first w l in
+        refused-answer x (a .verdict) why e v ∙ sym (ap answerOf (p .2
+        ∙ ap (λ (y : Checked (List Environments)). next y (λ Es. passed (p .0 ∷ Es)))
+        (all-refused (checkServices (q + 1) (rowsFrom (serviceOf file) (q + 1) (n - 1))) (m .tells w (omega (arith, one-less n z))) v)));
+  }
 
   pub services-done : {x : Answer} → a .verdict ≡ Done → x ≡ withFirst (o .pair) a → ServicesGive file q n x
   unfolding next
-  services-done {x} v e = record { tells = λ w l.
-      let p = after-first w l in
-      let d = all-done (checkServices (q + 1) (rowsFrom (serviceOf file) (q + 1) (n - 1))) (m .tells w (omega (arith, one-less n z))) v in
-      e ∙ (ap (λ (y : Pair). withFirst y a) (p .1) ∙ (ap (withFirst (pairOf (p .0))) (d .2) ∙ (first-answer (p .0) (d .0)
-      ∙ sym (ap answerOf (p .2 ∙ ap (λ (y : Checked (List Environments)). next y (λ Es. passed (p .0 ∷ Es))) (d .1)))))) }
+  services-done {x} v e = record {
+    tells = λ w l.
+        let p = after-first w l in
+        let d = all-done (checkServices (q + 1) (rowsFrom (serviceOf file) (q + 1) (n - 1))) (m .tells w (omega (arith, one-less n z))) v in
+        e ∙ (ap (λ (y : Pair). withFirst y a) (p .1) ∙ (ap (withFirst (pairOf (p .0))) (d .2) ∙ (first-answer (p .0) (d .0)
+        ∙ sym (ap answerOf (p .2 ∙ ap (λ (y : Checked (List Environments)). next y (λ Es. passed (p .0 ∷ Es))) (d .1))))));
+  }
 
 pub ruleset services-laws = (services-none, services-first, services-later, services-done)
 
@@ -293,9 +316,12 @@ module _ (file : List ℕ) {v : Verdict} {n : ℕ} {a : Answer} (f : v ≡ formO
       × (checkFile file ≡ next (checkOutputs (networkOf file .services) (networkOf file .operations) (networkOf file .operations)) (λ u. passed Es))
   unfolding checkNetwork next
   after-services u =
-      let d = all-done (checkServices 0 (networkOf file .services)) given u in
-      (d .0, d .2, well file wellFormed
-      ∙ ap (λ (y : Checked (List Environments)). next y (λ Es. next (checkOutputs (networkOf file .services) (networkOf file .operations) (networkOf file .operations)) (λ u. passed Es))) (d .1))
+      let d = all-done (checkServices 0 (networkOf file .services)) given u in (
+        d .0,
+        d .2,
+        well file wellFormed
+            ∙ ap (λ (y : Checked (List Environments)). next y (λ Es. next (checkOutputs (networkOf file .services) (networkOf file .operations) (networkOf file .operations)) (λ u. passed Es))) (d .1),
+      )
 
   pub file-outputs : {w : Verdict} {x : Answer} {why : Refusal} → a .verdict ≡ Done → Outputs file w → w ≡ Refused why → x ≡ refusedWith w → x ≡ answerOf (checkFile file)
   unfolding next

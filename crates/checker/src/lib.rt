@@ -3,7 +3,6 @@ ghost use mathlib.Core.Path.{_≡_};
 ghost use Prim.Native.Nat.{ℕ, _+_, _≤_};
 ghost use Rattle.checking.specs.FileChecker.{checkFile};
 ghost use Rattle.checker.specs.Answer.{emptyPair, refusedWith, withFirst, answerOf, StarterGives, ClientGives, ServiceGives, ServicesGive};
-
 use environments::Environment;
 use environments::Step;
 use refusal::Refusal;
@@ -34,14 +33,23 @@ pub struct Answer {
 fn empty_pair() -> Pair
     ensures { λ p. ⌜ p ≡ emptyPair ⌝ }
 {
-    Pair { starter: environments::empty(), client: environments::empty() }
+    Pair {
+        starter: environments::empty(),
+        client: environments::empty(),
+    }
 }
 
 // The verdict alone.
 fn verdict_only(v: Verdict) -> Answer
     ensures { λ x. ⌜ x ≡ refusedWith v ⌝ }
 {
-    Answer { verdict: v, first: empty_pair(), second: empty_pair(), third: empty_pair(), fourth: empty_pair() }
+    Answer {
+        verdict: v,
+        first: empty_pair(),
+        second: empty_pair(),
+        third: empty_pair(),
+        fourth: empty_pair(),
+    }
 }
 
 // The starter of S row q, if there is one.
@@ -73,16 +81,28 @@ fn service(file: &[u8], q: u16) -> One
     let a = starter(file, q);
     let v = a.verdict;
     let Verdict::Done = v else {
-        return One { verdict: v, pair: empty_pair() };
+        return One {
+            verdict: v,
+            pair: empty_pair(),
+        };
     };
     let b = client(file, q);
     let w = b.verdict;
     let Verdict::Done = w else {
-        return One { verdict: w, pair: empty_pair() };
+        return One {
+            verdict: w,
+            pair: empty_pair(),
+        };
     };
     let x = a.environment;
     let y = b.environment;
-    One { verdict: Verdict::Done, pair: Pair { starter: x, client: y } }
+    One {
+        verdict: Verdict::Done,
+        pair: Pair {
+            starter: x,
+            client: y,
+        },
+    }
 }
 
 // The pair before those of the services that follow.
@@ -92,7 +112,13 @@ fn with_first(p: Pair, x: Answer) -> Answer
     let a = x.first;
     let b = x.second;
     let c = x.third;
-    Answer { verdict: Verdict::Done, first: p, second: a, third: b, fourth: c }
+    Answer {
+        verdict: Verdict::Done,
+        first: p,
+        second: a,
+        third: b,
+        fourth: c,
+    }
 }
 
 // The n services from row q on.

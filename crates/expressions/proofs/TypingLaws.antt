@@ -172,9 +172,11 @@ pub unary-typed : (s : List ℕ) (e : Environment) (r : ℕ) {x : Part} {o : Una
 unfolding typeOf
 unary-typed s e r {x} {o} {a} {y} {z} m n v k = subst (λ (t : Typing). Typed s e r t) (sym k) (typed-as s e r (λ Γ g w l.
     let u = part-is s w r l m n in
-    let i = u .1 in
-    (unary (unaryOf o) (expressionOf s a), u .0,
-    after-operand e y (typeOf Γ (expressionOf s a)) (unaryTyping o) (unaryType (unaryOf o)) (v .tells Γ g w (omega arith)) (unary-right e o))))
+    let i = u .1 in (
+      unary (unaryOf o) (expressionOf s a),
+      u .0,
+      after-operand e y (typeOf Γ (expressionOf s a)) (unaryTyping o) (unaryType (unaryOf o)) (v .tells Γ g w (omega arith)) (unary-right e o),
+    )))
 
 pub binary-typed : (s : List ℕ) (e : Environment) (r : ℕ) {x : Part} {o : BinaryOperator} {a b : ℕ} {y t z : Typing} → x ≡ partOf s r → x ≡ Part.Binary o a b
     → Typed s e a y → Typed s e b t → z ≡ binaryTyped o y t → Typed s e r z
@@ -182,11 +184,13 @@ unfolding typeOf
 binary-typed s e r {x} {o} {a} {b} {y} {t} {z} m n v v₂ k = subst (λ (c : Typing). Typed s e r c) (sym k) (typed-as s e r (λ Γ g w l.
     let u = part-is s w r l m n in
     let i = u .1 in
-    let j = u .2 in
-    (binary (binaryOf o) (expressionOf s a) (expressionOf s b), u .0,
-    after-operand e y (typeOf Γ (expressionOf s a)) (λ c. besideTyped o c t)
-    (λ c. andThen (typeOf Γ (expressionOf s b)) (λ d. binaryType (binaryOf o) c (rootBasic d))) (v .tells Γ g w (omega arith))
-    (λ c. after-operand e t (typeOf Γ (expressionOf s b)) (binaryTyping o c) (binaryType (binaryOf o) c) (v₂ .tells Γ g w (omega arith)) (binary-right e o c)))))
+    let j = u .2 in (
+      binary (binaryOf o) (expressionOf s a) (expressionOf s b),
+      u .0,
+      after-operand e y (typeOf Γ (expressionOf s a)) (λ c. besideTyped o c t)
+          (λ c. andThen (typeOf Γ (expressionOf s b)) (λ d. binaryType (binaryOf o) c (rootBasic d))) (v .tells Γ g w (omega arith))
+          (λ c. after-operand e t (typeOf Γ (expressionOf s b)) (binaryTyping o c) (binaryType (binaryOf o) c) (v₂ .tells Γ g w (omega arith)) (binary-right e o c)),
+    )))
 
 pub broken-typed : (s : List ℕ) (e : Environment) (r : ℕ) {x : Part} (y : Typing) → x ≡ partOf s r → x ≡ Part.Broken → Typed s e r y
 broken-typed s e r y p q = record { tells = λ Γ g w l. absurd (part-is s w r l p q) }

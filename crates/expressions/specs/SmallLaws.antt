@@ -31,8 +31,15 @@ not-both e = let z : _≡_ {A = ℕ} 0 1 = cc in omega arith
 value-none : (b : ℕ) (v : List ℕ) → 6 < b → isValue b v ≡ false
 unfolding isValue
 value-none b v h =
-    rw (ne-eqb b 0 (λ e. omega arith), ne-eqb b 1 (λ e. omega arith), ne-eqb b 2 (λ e. omega arith), ne-eqb b 3 (λ e. omega arith),
-    ne-eqb b 4 (λ e. omega arith), ne-eqb b 5 (λ e. omega arith), ne-eqb b 6 (λ e. omega arith)) refl
+    rw (
+      ne-eqb b 0 (λ e. omega arith),
+      ne-eqb b 1 (λ e. omega arith),
+      ne-eqb b 2 (λ e. omega arith),
+      ne-eqb b 3 (λ e. omega arith),
+      ne-eqb b 4 (λ e. omega arith),
+      ne-eqb b 5 (λ e. omega arith),
+      ne-eqb b 6 (λ e. omega arith),
+    ) refl
 
 value-small : (b : ℕ) (v : List ℕ) → isValue b v ≡ true → b ≤ lastBasic
 value-small b v e = go (compare b 7)

@@ -4,7 +4,6 @@ ghost use mathlib.Core.Path.{_≡_};
 ghost use Rattle.typing.specs.ExpressionTyping.{numeric};
 ghost use Rattle.expressions.specs.Parts.{unaryPart, binaryPart, partAs, partOf};
 ghost use Rattle.expressions.specs.Typings.{resultOf, unaryTyping, binaryTyping, unaryTyped, binaryTyped, besideTyped, ValueTyped, PresenceTyped, Typed};
-
 use environments::Environment;
 use environments::Reading;
 use layout::both;

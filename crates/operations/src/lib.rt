@@ -3,7 +3,6 @@ ghost use mathlib.Core.Path.{_≡_};
 ghost use Rattle.network.specs.Decode.{operationOf};
 ghost use Rattle.typing.specs.Rules.{sameBool, permits};
 ghost use Rattle.operations.specs.Directions.{directionOf};
-
 use layout::both;
 
 fn same(a: bool, b: bool) -> bool

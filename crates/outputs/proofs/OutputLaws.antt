@@ -85,8 +85,10 @@ module _ (file : List ℕ) (q o i : ℕ) {tw : ℕ} {p : Bool} (a : tw ≡ opera
 
     pub meets-other-id : (x ≡ y → ⊥) → Meets file q o i false
     unfolding operationOf
-    meets-other-id z = record { tells = λ w l m. second-fails (permits q input (operationOf file o .twoWay) (operationOf file i)) (eqb (operationId file i) (operationId file o)) _ allowed
-        (ne-eqb (operationId file i) (operationId file o) (λ e. z (c ∙ (e ∙ sym d)))) }
+    meets-other-id z = record {
+      tells = λ w l m. second-fails (permits q input (operationOf file o .twoWay) (operationOf file i)) (eqb (operationId file i) (operationId file o)) _ allowed
+          (ne-eqb (operationId file i) (operationId file o) (λ e. z (c ∙ (e ∙ sym d))));
+    }
 
     module _ (z : x ≡ y) {t u : ℕ} {v : Bool} (e : t ≡ requestType file o) (f : u ≡ requestType file i) (r : RowsOrder file t u v) where
       same-id : eqb (operationId file i) (operationId file o) ≡ true
@@ -99,29 +101,35 @@ module _ (file : List ℕ) (q o i : ℕ) {tw : ℕ} {p : Bool} (a : tw ≡ opera
 
       pub meets-request : not v ≡ true → Meets file q o i false
       unfolding operationOf
-      meets-request k = record { tells = λ w l m.
-          third-fails (permits q input (operationOf file o .twoWay) (operationOf file i)) (eqb (operationId file i) (operationId file o))
-          (isSubtype (typeOf file (requestType file o)) (typeOf file (requestType file i))) _ allowed same-id (sym (request-order w l m) ∙ not-true v k) }
+      meets-request k = record {
+        tells = λ w l m.
+            third-fails (permits q input (operationOf file o .twoWay) (operationOf file i)) (eqb (operationId file i) (operationId file o))
+            (isSubtype (typeOf file (requestType file o)) (typeOf file (requestType file i))) _ allowed same-id (sym (request-order w l m) ∙ not-true v k);
+      }
 
       pub meets-one-way : not v ≡ false → not (eqb tw 1) ≡ true → Meets file q o i true
       unfolding operationOf
-      meets-one-way k g = record { tells = λ w l m.
-          sym (ap (λ (y : Bool). implies y (isSubtype (operationOf file i .reply) (operationOf file o .reply))) (sym (ap (λ (y : ℕ). eqb y 1) a) ∙ not-true (eqb tw 1) g))
-          ∙ three-hold (permits q input (operationOf file o .twoWay) (operationOf file i)) (eqb (operationId file i) (operationId file o))
-          (isSubtype (typeOf file (requestType file o)) (typeOf file (requestType file i))) _ allowed same-id (sym (request-order w l m) ∙ not-false v k) }
+      meets-one-way k g = record {
+        tells = λ w l m.
+            sym (ap (λ (y : Bool). implies y (isSubtype (operationOf file i .reply) (operationOf file o .reply))) (sym (ap (λ (y : ℕ). eqb y 1) a) ∙ not-true (eqb tw 1) g))
+            ∙ three-hold (permits q input (operationOf file o .twoWay) (operationOf file i)) (eqb (operationId file i) (operationId file o))
+            (isSubtype (typeOf file (requestType file o)) (typeOf file (requestType file i))) _ allowed same-id (sym (request-order w l m) ∙ not-false v k);
+      }
 
       pub meets-two-way : not v ≡ false → not (eqb tw 1) ≡ false → {g₂ h₂ : ℕ} {x₂ : Bool} → g₂ ≡ replyType file i → h₂ ≡ replyType file o → RowsOrder file g₂ h₂ x₂
           → Meets file q o i x₂
       unfolding operationOf
-      meets-two-way k g {g₂} {h₂} {x₂} s₁ s₂ s₃ = record { tells = λ w l m.
-          let yes : eqb (operationTwoWay file o) 1 ≡ true = sym (ap (λ (y : ℕ). eqb y 1) a) ∙ not-false (eqb tw 1) g in
-          let ro = reply-row file w o l yes in
-          let ri = reply-row file w i m (two-way q (eqb (operationTwoWay file o) 1) (operationOf file i) allowed yes) in
-          let order : x₂ ≡ isSubtype (typeOf file (replyType file i)) (typeOf file (replyType file o)) =
-              subst (λ (n : ℕ). RowsOrder file (replyType file i) n x₂) s₂ (subst (λ (n : ℕ). RowsOrder file n h₂ x₂) s₁ s₃) .tells w (ri .1) (ro .1) in
-          (order ∙ replies (operationOf file o .twoWay) (operationOf file i .reply) (operationOf file o .reply) yes (ri .0) (ro .0))
-          ∙ three-hold (permits q input (operationOf file o .twoWay) (operationOf file i)) (eqb (operationId file i) (operationId file o))
-          (isSubtype (typeOf file (requestType file o)) (typeOf file (requestType file i))) _ allowed same-id (sym (request-order w l m) ∙ not-false v k) }
+      meets-two-way k g {g₂} {h₂} {x₂} s₁ s₂ s₃ = record {
+        tells = λ w l m.
+            let yes : eqb (operationTwoWay file o) 1 ≡ true = sym (ap (λ (y : ℕ). eqb y 1) a) ∙ not-false (eqb tw 1) g in
+            let ro = reply-row file w o l yes in
+            let ri = reply-row file w i m (two-way q (eqb (operationTwoWay file o) 1) (operationOf file i) allowed yes) in
+            let order : x₂ ≡ isSubtype (typeOf file (replyType file i)) (typeOf file (replyType file o)) =
+            subst (λ (n : ℕ). RowsOrder file (replyType file i) n x₂) s₂ (subst (λ (n : ℕ). RowsOrder file n h₂ x₂) s₁ s₃) .tells w (ri .1) (ro .1) in
+            (order ∙ replies (operationOf file o .twoWay) (operationOf file i .reply) (operationOf file o .reply) yes (ri .0) (ro .0))
+            ∙ three-hold (permits q input (operationOf file o .twoWay) (operationOf file i)) (eqb (operationId file i) (operationId file o))
+            (isSubtype (typeOf file (requestType file o)) (typeOf file (requestType file i))) _ allowed same-id (sym (request-order w l m) ∙ not-false v k);
+      }
         where
           replies : (t : Bool) (x y : MessageType) → t ≡ true → x ≡ typeOf file (replyType file i) → y ≡ typeOf file (replyType file o)
               → isSubtype (typeOf file (replyType file i)) (typeOf file (replyType file o)) ≡ implies t (isSubtype x y)
@@ -149,15 +157,19 @@ from-none file q o i n z = record { tells = λ w l m. sym (ap (meetsOne q (opera
 
 pub from-first : (file : List ℕ) (q o i n : ℕ) {x : Bool} → (n ≡ 0 → ⊥) → Meets file q o i x → x ≡ true → MeetsFrom file q o i n true
 unfolding meetsOne
-from-first file q o i n z k e = record { tells = λ w l m.
-    sym (ap (meetsOne q (operationOf file o)) (rows-more (operationOf file) i n z)
-    ∙ ap (λ (y : Bool). y || meetsOne q (operationOf file o) (rowsFrom (operationOf file) (i + 1) (n - 1))) (sym (k .tells w l (omega (arith, one-less n z))) ∙ e)) }
+from-first file q o i n z k e = record {
+  tells = λ w l m.
+      sym (ap (meetsOne q (operationOf file o)) (rows-more (operationOf file) i n z)
+      ∙ ap (λ (y : Bool). y || meetsOne q (operationOf file o) (rowsFrom (operationOf file) (i + 1) (n - 1))) (sym (k .tells w l (omega (arith, one-less n z))) ∙ e));
+}
 
 pub from-later : (file : List ℕ) (q o i n : ℕ) {x y : Bool} → (n ≡ 0 → ⊥) → Meets file q o i x → x ≡ false → MeetsFrom file q o (i + 1) (n - 1) y → MeetsFrom file q o i n y
 unfolding meetsOne
-from-later file q o i n z k e h = record { tells = λ w l m.
-    h .tells w l (omega (arith, one-less n z)) ∙ sym (ap (meetsOne q (operationOf file o)) (rows-more (operationOf file) i n z)
-    ∙ ap (λ (y : Bool). y || meetsOne q (operationOf file o) (rowsFrom (operationOf file) (i + 1) (n - 1))) (sym (k .tells w l (omega (arith, one-less n z))) ∙ e)) }
+from-later file q o i n z k e h = record {
+  tells = λ w l m.
+      h .tells w l (omega (arith, one-less n z)) ∙ sym (ap (meetsOne q (operationOf file o)) (rows-more (operationOf file) i n z)
+      ∙ ap (λ (y : Bool). y || meetsOne q (operationOf file o) (rowsFrom (operationOf file) (i + 1) (n - 1))) (sym (k .tells w l (omega (arith, one-less n z))) ∙ e));
+}
 
 pub ruleset from-laws = (from-none, from-first, from-later)
 
@@ -165,16 +177,20 @@ pub ruleset from-laws = (from-none, from-first, from-later)
 
 pub located-elsewhere : (file : List ℕ) (q o : ℕ) {x y : ℕ} → x ≡ serviceLocation file q → y ≡ operationLocation file o → (x ≡ y → ⊥) → Located file q o true
 unfolding serviceOf operationOf
-located-elsewhere file q o a b z = record { tells = λ w l.
-    sym (ap (λ (y : Bool). implies y (meetsOne q (operationOf file o) (networkOf file .operations))) (ne-eqb (serviceLocation file q) (operationLocation file o) (λ e. z (a ∙ (e ∙ sym b))))) }
+located-elsewhere file q o a b z = record {
+  tells = λ w l.
+      sym (ap (λ (y : Bool). implies y (meetsOne q (operationOf file o) (networkOf file .operations))) (ne-eqb (serviceLocation file q) (operationLocation file o) (λ e. z (a ∙ (e ∙ sym b)))));
+}
 
 pub located-here : (file : List ℕ) (q o : ℕ) {x y n : ℕ} {v : Bool} → x ≡ serviceLocation file q → y ≡ operationLocation file o → x ≡ y → n ≡ operationCount file
     → MeetsFrom file q o 0 n v → Located file q o v
 unfolding serviceOf operationOf networkOf
-located-here file q o {x} {y} {n} {v} a b z c k = record { tells = λ w l.
-    subst (λ (m : ℕ). MeetsFrom file q o 0 m v) c k .tells w l (omega arith)
-    ∙ sym (ap (λ (y : Bool). implies y (meetsOne q (operationOf file o) (rowsFrom (operationOf file) 0 (operationCount file))))
-    (eq-eqb (serviceLocation file q) (operationLocation file o) (sym a ∙ (z ∙ b)))) }
+located-here file q o {x} {y} {n} {v} a b z c k = record {
+  tells = λ w l.
+      subst (λ (m : ℕ). MeetsFrom file q o 0 m v) c k .tells w l (omega arith)
+      ∙ sym (ap (λ (y : Bool). implies y (meetsOne q (operationOf file o) (rowsFrom (operationOf file) 0 (operationCount file))))
+      (eq-eqb (serviceLocation file q) (operationLocation file o) (sym a ∙ (z ∙ b))));
+}
 
 pub ruleset located-laws = (located-elsewhere, located-here)
 
@@ -192,15 +208,19 @@ services-step file o q n z =
     && meetsAt (networkOf file .operations) (operationOf file o) k (rowsFrom (serviceOf file) (q + 1) (n - 1))) (sym (add-one q))
 
 pub services-first : (file : List ℕ) (o q n : ℕ) {x : Bool} → (n ≡ 0 → ⊥) → Located file q o x → not x ≡ true → MeetsServices file o q n false
-services-first file o q n {x} z k e = record { tells = λ w l.
-    sym (services-step file o q n z ∙ ap (λ (y : Bool). y && meetsAt (networkOf file .operations) (operationOf file o) (q + 1) (rowsFrom (serviceOf file) (q + 1) (n - 1)))
-    (sym (k .tells w l) ∙ not-true x e)) }
+services-first file o q n {x} z k e = record {
+  tells = λ w l.
+      sym (services-step file o q n z ∙ ap (λ (y : Bool). y && meetsAt (networkOf file .operations) (operationOf file o) (q + 1) (rowsFrom (serviceOf file) (q + 1) (n - 1)))
+      (sym (k .tells w l) ∙ not-true x e));
+}
 
 pub services-later : (file : List ℕ) (o q n : ℕ) {x y : Bool} → (n ≡ 0 → ⊥) → Located file q o x → not x ≡ false → MeetsServices file o (q + 1) (n - 1) y
     → MeetsServices file o q n y
-services-later file o q n {x} z k e h = record { tells = λ w l.
-    h .tells w l ∙ sym (services-step file o q n z ∙ ap (λ (y : Bool). y && meetsAt (networkOf file .operations) (operationOf file o) (q + 1) (rowsFrom (serviceOf file) (q + 1) (n - 1)))
-    (sym (k .tells w l) ∙ not-false x e)) }
+services-later file o q n {x} z k e h = record {
+  tells = λ w l.
+      h .tells w l ∙ sym (services-step file o q n z ∙ ap (λ (y : Bool). y && meetsAt (networkOf file .operations) (operationOf file o) (q + 1) (rowsFrom (serviceOf file) (q + 1) (n - 1)))
+      (sym (k .tells w l) ∙ not-false x e));
+}
 
 pub ruleset services-laws = (services-none, services-first, services-later)
 
@@ -212,24 +232,30 @@ direction-is false = refl
 
 pub output-input : (file : List ℕ) (o : ℕ) {x : ℕ} → x ≡ operationDirection file o → x ≡ 0 → Output file o true
 unfolding operationOf
-output-input file o a z = record { tells = λ w l.
-    sym (ap (λ (y : Bool). implies y (meetsAt (networkOf file .operations) (operationOf file o) 0 (networkOf file .services)))
-    (direction-is (eqb (operationDirection file o) 0) ∙ ap not (eq-eqb (operationDirection file o) 0 (sym a ∙ z)))) }
+output-input file o a z = record {
+  tells = λ w l.
+      sym (ap (λ (y : Bool). implies y (meetsAt (networkOf file .operations) (operationOf file o) 0 (networkOf file .services)))
+      (direction-is (eqb (operationDirection file o) 0) ∙ ap not (eq-eqb (operationDirection file o) 0 (sym a ∙ z))));
+}
 
 pub output-meets : (file : List ℕ) (o : ℕ) {x n : ℕ} {v : Bool} → x ≡ operationDirection file o → (x ≡ 0 → ⊥) → n ≡ serviceCount file → MeetsServices file o 0 n v
     → Output file o v
 unfolding operationOf networkOf
-output-meets file o {x} {n} {v} a z c k = record { tells = λ w l.
-    subst (λ (m : ℕ). MeetsServices file o 0 m v) c k .tells w l
-    ∙ sym (ap (λ (y : Bool). implies y (meetsAt (rowsFrom (operationOf file) 0 (operationCount file)) (operationOf file o) 0 (rowsFrom (serviceOf file) 0 (serviceCount file))))
-    (direction-is (eqb (operationDirection file o) 0) ∙ ap not (ne-eqb (operationDirection file o) 0 (λ e. z (a ∙ e))))) }
+output-meets file o {x} {n} {v} a z c k = record {
+  tells = λ w l.
+      subst (λ (m : ℕ). MeetsServices file o 0 m v) c k .tells w l
+      ∙ sym (ap (λ (y : Bool). implies y (meetsAt (rowsFrom (operationOf file) 0 (operationCount file)) (operationOf file o) 0 (rowsFrom (serviceOf file) 0 (serviceCount file))))
+      (direction-is (eqb (operationDirection file o) 0) ∙ ap not (ne-eqb (operationDirection file o) 0 (λ e. z (a ∙ e)))));
+}
 
 pub ruleset output-laws = (output-input, output-meets)
 
 pub outputs-none : (file : List ℕ) (o n : ℕ) → n ≡ 0 → OutputsFrom file o n Done
 unfolding checkOutputs
-outputs-none file o n z = record { tells = λ w l.
-    sym (ap (λ (y : List Operation). verdictOf (checkOutputs (networkOf file .services) (networkOf file .operations) y)) (rows-none (operationOf file) o n z)) }
+outputs-none file o n z = record {
+  tells = λ w l.
+      sym (ap (λ (y : List Operation). verdictOf (checkOutputs (networkOf file .services) (networkOf file .operations) y)) (rows-none (operationOf file) o n z));
+}
 
 outputs-step : (file : List ℕ) (o n : ℕ) (t : Bool) → (n ≡ 0 → ⊥)
     → t ≡ implies (sameDirection (operationOf file o .direction) output) (meetsAt (networkOf file .operations) (operationOf file o) 0 (networkOf file .services))
@@ -243,15 +269,19 @@ outputs-step file o n t z e =
 
 pub outputs-first : (file : List ℕ) (o n : ℕ) {x : Bool} → (n ≡ 0 → ⊥) → Output file o x → not x ≡ true → OutputsFrom file o n (Refused (OutputMismatch o))
 unfolding next
-outputs-first file o n {x} z k e = record { tells = λ w l.
-    sym (ap (verdictOf {A = Unit {0}}) (outputs-step file o n false z (sym (not-true x e) ∙ k .tells w (omega (arith, one-less n z))))) }
+outputs-first file o n {x} z k e = record {
+  tells = λ w l.
+      sym (ap (verdictOf {A = Unit {0}}) (outputs-step file o n false z (sym (not-true x e) ∙ k .tells w (omega (arith, one-less n z)))));
+}
 
 pub outputs-later : (file : List ℕ) (o n : ℕ) {x : Bool} {v : Verdict} → (n ≡ 0 → ⊥) → Output file o x → not x ≡ false → OutputsFrom file (o + 1) (n - 1) v
     → OutputsFrom file o n v
 unfolding next
-outputs-later file o n {x} z k e h = record { tells = λ w l.
-    h .tells w (omega (arith, one-less n z))
-    ∙ sym (ap (verdictOf {A = Unit {0}}) (outputs-step file o n true z (sym (not-false x e) ∙ k .tells w (omega (arith, one-less n z))))) }
+outputs-later file o n {x} z k e h = record {
+  tells = λ w l.
+      h .tells w (omega (arith, one-less n z))
+      ∙ sym (ap (verdictOf {A = Unit {0}}) (outputs-step file o n true z (sym (not-false x e) ∙ k .tells w (omega (arith, one-less n z)))));
+}
 
 pub outputs-all : (file : List ℕ) {n : ℕ} {v : Verdict} → n ≡ operationCount file → OutputsFrom file 0 n v → Outputs file v
 unfolding networkOf

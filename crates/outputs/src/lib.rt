@@ -3,7 +3,6 @@
 ghost use mathlib.Core.Path.{_≡_};
 ghost use Prim.Native.Nat.{_+_, _≤_};
 ghost use Rattle.outputs.specs.Outputs.{Meets, MeetsFrom, Located, MeetsServices, Output, OutputsFrom, Outputs};
-
 use refusal::Refusal;
 use refusal::Verdict;
 
@@ -18,7 +17,11 @@ fn meets(file: &[u8], q: u16, o: u16, i: u16) -> bool
     if rows::operation_id(file, i) != rows::operation_id(file, o) {
         return false;
     }
-    if !types::row_order(file, rows::request_type(file, o), rows::request_type(file, i)) {
+    if !types::row_order(
+        file,
+        rows::request_type(file, o),
+        rows::request_type(file, i),
+    ) {
         return false;
     }
     if !two {

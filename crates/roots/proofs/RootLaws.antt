@@ -54,6 +54,7 @@ pub subs-by : {x y : BehaviourRow} {z : Subs} → x ≡ y → z ≡ subsIn y →
 subs-by e f = f ∙ sym (ap subsIn e)
 
 pub ruleset kind-laws = (operands-by, own-by, subs-by)
+
 pub ruleset part-laws = (operands-are, own-are, subs-of-row)
 
 -- ---- tests
@@ -86,8 +87,11 @@ pub adds-as : {l o : List ℕ} (f g : ℕ → Bool) → ((i : ℕ) → f i ≡ g
 adds-as {l} {o} f g e h = record { keeps = h .keeps; adds = λ n i. h .adds n i ∙ ap (λ (x : Bool). marked l i || x) (e i) }
 
 pub adds-both : {l m o : List ℕ} (f g h : ℕ → Bool) → Adds f l m → Adds g m o → ((i : ℕ) → h i ≡ f i || g i) → Adds h l o
-adds-both {l} {m} {o} f g h x y e = record { keeps = λ n. y .keeps (x .keeps n); adds = λ n i.
-    y .adds (x .keeps n) i ∙ (ap (λ (z : Bool). z || g i) (x .adds n i) ∙ (or-assoc (marked l i) (f i) (g i) ∙ ap (λ (z : Bool). marked l i || z) (sym (e i)))) }
+adds-both {l} {m} {o} f g h x y e = record {
+  keeps = λ n. y .keeps (x .keeps n);
+  adds = λ n i.
+      y .adds (x .keeps n) i ∙ (ap (λ (z : Bool). z || g i) (x .adds n i) ∙ (or-assoc (marked l i) (f i) (g i) ∙ ap (λ (z : Bool). marked l i || z) (sym (e i))));
+}
 
 -- ---- one path
 
@@ -104,8 +108,11 @@ set-marks l p i h = go (compare p i)
 
 pub path-marked : (s l : List ℕ) (p at v i : ℕ) → at ≡ pathAt s p → v ≡ u16At s at → i ≡ v → i < 65536 → Adds (pathRoot s p) l (set l i 1)
 unfolding pathRoot pathOf
-path-marked s l p at v i e f g h = record { keeps = λ n. length-set l i 1 ∙ n; adds = λ n j.
-    (set-marks l i j (omega arith) ∙ ap (λ (z : ℕ). marked l j || eqb j z) (g ∙ (f ∙ ap (u16At s) e))) }
+path-marked s l p at v i e f g h = record {
+  keeps = λ n. length-set l i 1 ∙ n;
+  adds = λ n j.
+      (set-marks l i j (omega arith) ∙ ap (λ (z : ℕ). marked l j || eqb j z) (g ∙ (f ∙ ap (u16At s) e)));
+}
 
 -- ---- expressions
 
@@ -164,6 +171,7 @@ two-operands s l m o d r {x} {a} {b} h e f y z =
     adds-both (expressionRoots s (d - 1) a) (expressionRoots s (d - 1) b) (expressionRoots s d r) y z (λ i. sym (parts-of s d r h e f i))
 
 pub ruleset path-laws = (path-marked)
+
 pub ruleset expression-laws = (no-levels, no-operand, path-operand, one-operand, two-operands)
 
 -- ---- a row's own paths and expression
@@ -275,13 +283,15 @@ next-at s r = omega arith
 
 pub more-branches : (s l m o p : List ℕ) (at n d a b : ℕ) → (n ≡ 0 → ⊥) → a ≡ u16At s (at + 2) → Adds (behaviourRoots s d a) l m
     → b ≡ u16At s (at + 4) → Adds (behaviourRoots s d b) m o → AddsBranches s (at + 10) (n - 1) d o p → AddsBranches s at n d l p
-more-branches s l m o p at n d a b h e x f y z = record { adds = λ r g.
-    let u = subst (λ (w : ℕ). Adds (behaviourRoots s d w) l m) (e ∙ ap (λ (w : ℕ). u16At s (w + 2)) g) x in
-    let v = subst (λ (w : ℕ). Adds (behaviourRoots s d w) m o) (f ∙ ap (λ (w : ℕ). u16At s (w + 4)) g) y in
-    let k : at + 10 ≡ behaviourAt s (suc r) = ap (λ (w : ℕ). w + 10) g ∙ next-at s r in
-    adds-both (both-of r) (branchRoots s d (suc r) (n - 1)) (branchRoots s d r n)
-    (adds-both (behaviourRoots s d (fieldA s (behaviourAt s r))) (behaviourRoots s d (fieldB s (behaviourAt s r))) (both-of r) u v (λ i. refl))
-    (z .adds (suc r) k) (λ i. ap (λ (w : ℕ). branchRoots s d r w i) (one-less n h) ∙ branch-parts s d r (n - 1) i) }
+more-branches s l m o p at n d a b h e x f y z = record {
+  adds = λ r g.
+      let u = subst (λ (w : ℕ). Adds (behaviourRoots s d w) l m) (e ∙ ap (λ (w : ℕ). u16At s (w + 2)) g) x in
+      let v = subst (λ (w : ℕ). Adds (behaviourRoots s d w) m o) (f ∙ ap (λ (w : ℕ). u16At s (w + 4)) g) y in
+      let k : at + 10 ≡ behaviourAt s (suc r) = ap (λ (w : ℕ). w + 10) g ∙ next-at s r in
+      adds-both (both-of r) (branchRoots s d (suc r) (n - 1)) (branchRoots s d r n)
+      (adds-both (behaviourRoots s d (fieldA s (behaviourAt s r))) (behaviourRoots s d (fieldB s (behaviourAt s r))) (both-of r) u v (λ i. refl))
+      (z .adds (suc r) k) (λ i. ap (λ (w : ℕ). branchRoots s d r w i) (one-less n h) ∙ branch-parts s d r (n - 1) i);
+}
   where
     both-of : ℕ → ℕ → Bool
     both-of r i = behaviourRoots s d (fieldA s (behaviourAt s r)) i || behaviourRoots s d (fieldB s (behaviourAt s r)) i
@@ -340,6 +350,7 @@ none-both a b i h k = record { found = λ e. absurd (not-both e refl); none = λ
     go n j x y (gt l) = past j (omega arith) x
 
 pub ruleset share-laws = (found-both, none-both)
+
 pub ruleset again-laws = (apart-next)
 
 -- ---- the test

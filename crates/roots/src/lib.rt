@@ -6,7 +6,6 @@ ghost use Rattle.network.specs.Decode.{behaviourOf};
 ghost use Rattle.typing.specs.Occurs.{noSharedRoot};
 ghost use Rattle.roots.specs.Parts.{operandsIn, operandsOf, ownIn, ownOf, subsIn, subsOf};
 ghost use Rattle.roots.specs.Marks.{Adds, pathRoot, expressionRoots, ownRoots, behaviourRoots, AddsBranches, Shares};
-
 use rows::BehaviourRow;
 use rows::ExpressionRow;
 

@@ -55,7 +55,8 @@ run-next : (file : List ℕ) (at n left j : ℕ) → (n ≡ 0 → ⊥) → Run f
 run-next file at n left j z h = record {
   form = h .form;
   there = ap (λ (y : ℕ). y + 10) (h .there) ∙ next-at file j;
-  subs = λ k u v. h .subs k (omega arith) (omega (arith, one-less n z)) }
+  subs = λ k u v. h .subs k (omega arith) (omega (arith, one-less n z));
+}
 
 list-none : (file : List ℕ) (j n : ℕ) → n ≡ 0 → branchList file j n ≡ []
 unfolding branchList branchesFrom branchesOf
@@ -73,12 +74,14 @@ list-more file j n z = ap (branchList file j) (one-less n z) ∙ list-suc file j
 
 pub gives-branch : (file : List ℕ) (q at left a b : ℕ) {e : Environment} {s : Step} → a ≡ u16At file (at + 2) → b ≡ u16At file (at + 4) → e ≡ standing end
     → Sequences file q a b left e s → Gives file q at left s
-gives-branch file q at left a b {e} {s} p o z k = record { tells = λ c n j h l.
-    let x = p ∙ ap (λ (y : ℕ). u16At file (y + 2)) (h .there) in
-    let y = o ∙ ap (λ (y : ℕ). u16At file (y + 4)) (h .there) in
-    let d = h .subs j (omega arith) (omega arith) in
-    subst (λ (f : ℕ). Sequences file q f (fieldB file (behaviourAt file j)) left e s) x (subst (λ (f : ℕ). Sequences file q a f left e s) y k)
-    .tells c j end (subst (λ (f : Environment). StandsFor f end) (sym z) stands-empty) (h .form) (d .input) (d .follow) }
+gives-branch file q at left a b {e} {s} p o z k = record {
+  tells = λ c n j h l.
+      let x = p ∙ ap (λ (y : ℕ). u16At file (y + 2)) (h .there) in
+      let y = o ∙ ap (λ (y : ℕ). u16At file (y + 4)) (h .there) in
+      let d = h .subs j (omega arith) (omega arith) in
+      subst (λ (f : ℕ). Sequences file q f (fieldB file (behaviourAt file j)) left e s) x (subst (λ (f : ℕ). Sequences file q a f left e s) y k)
+      .tells c j end (subst (λ (f : Environment). StandsFor f end) (sym z) stands-empty) (h .form) (d .input) (d .follow);
+}
 
 pub ruleset branch-laws = (gives-branch)
 
@@ -126,7 +129,8 @@ pub each-none : (file : List ℕ) (q at n left : ℕ) → n ≡ 0 → Each file 
 unfolding checkEach
 each-none file q at n left z = record {
   tells = λ j h. sym (ap (λ (y : List Behaviour). verdictOf (checkEach q y)) (list-none file j n z));
-  rises = λ j Γs h e. subst AllRising (sym (none-given q file j n Γs z e)) none-rising }
+  rises = λ j Γs h e. subst AllRising (sym (none-given q file j n Γs z e)) none-rising;
+}
 
 module _ (file : List ℕ) (q at n left : ℕ) {s : Step} (z : n ≡ 0 → ⊥) (k : Gives file q at left s) where
   answered : (j : ℕ) → Run file at n left j → Answers s (check q (rowOf (branchAt file j)) (branchAt file j) end)
@@ -148,19 +152,22 @@ module _ (file : List ℕ) (q at n left : ℕ) {s : Step} (z : n ≡ 0 → ⊥) 
 
   pub each-refused : {why : Refusal} → s .verdict ≡ Refused why → Each file q at n left (s .verdict)
   unfolding next
-  each-refused {why} v = record { tells = λ j h.
-      v ∙ sym (ap (λ (y : List Behaviour). verdictOf (checkEach q y)) (list-more file j n z) ∙ (each-more q (branchAt file j) (branchList file (suc j) (n - 1))
-      ∙ ap (λ (y : Checked Types). verdictOf (next y (λ Γ. checkEach q (branchList file (suc j) (n - 1))))) (answers-refused (answered j h) why v .0)));
-      rises = λ j Γs h e. let d = split j Γs h e in absurd (not-refused (sym (answers-refused (answered j h) why v .0) ∙ d .5)) }
+  each-refused {why} v = record {
+    tells = λ j h.
+        v ∙ sym (ap (λ (y : List Behaviour). verdictOf (checkEach q y)) (list-more file j n z) ∙ (each-more q (branchAt file j) (branchList file (suc j) (n - 1))
+        ∙ ap (λ (y : Checked Types). verdictOf (next y (λ Γ. checkEach q (branchList file (suc j) (n - 1))))) (answers-refused (answered j h) why v .0)));
+    rises = λ j Γs h e. let d = split j Γs h e in absurd (not-refused (sym (answers-refused (answered j h) why v .0) ∙ d .5));
+  }
 
   pub each-done : {v : Verdict} → s .verdict ≡ Done → Each file q (at + 10) (n - 1) left v → Each file q at n left v
   unfolding next
-  each-done v d = record { tells = λ j h.
-      d .tells (suc j) (run-next file at n left j z h) ∙ sym (ap (λ (y : List Behaviour). verdictOf (checkEach q y)) (list-more file j n z)
-      ∙ (each-more q (branchAt file j) (branchList file (suc j) (n - 1))
-      ∙ ap (λ (y : Checked Types). verdictOf (next y (λ Γ. checkEach q (branchList file (suc j) (n - 1))))) (answers-done (answered j h) v .1)));
-      rises = λ j Γs h e. let p = split j Γs h e in subst AllRising (sym (p .2)) (some-rising (p .0) (p .1) (p .3 .shape .rising) (d .rises (suc j) (p .1) (run-next file at n left j z h) (p .4))) }
-
+  each-done v d = record {
+    tells = λ j h.
+        d .tells (suc j) (run-next file at n left j z h) ∙ sym (ap (λ (y : List Behaviour). verdictOf (checkEach q y)) (list-more file j n z)
+        ∙ (each-more q (branchAt file j) (branchList file (suc j) (n - 1))
+        ∙ ap (λ (y : Checked Types). verdictOf (next y (λ Γ. checkEach q (branchList file (suc j) (n - 1))))) (answers-done (answered j h) v .1)));
+    rises = λ j Γs h e. let p = split j Γs h e in subst AllRising (sym (p .2)) (some-rising (p .0) (p .1) (p .3 .shape .rising) (d .rises (suc j) (p .1) (run-next file at n left j z h) (p .4)));
+  }
 
 pub ruleset each-laws = (each-none, each-refused, each-done)
 
@@ -198,29 +205,38 @@ one-none file q at n left z = record { tells = λ j Γs h e. each-none-one ∙ a
 
 module _ (file : List ℕ) (q at n left : ℕ) {s : Step} (z : n ≡ 0 → ⊥) (k : Gives file q at left s) where
   pub against-not : (d : Environment) {t : Bool} → OneTyped d (s .environment) t → not t ≡ true → Against file q d at n left false
-  against-not d {t} o i = record { tells = λ j Γ Γs g h e.
-      let p = split file q at n left z k j Γs h e in
-      ap (λ (y : Bool). y && oneTypeWith Γ (p .1)) (sym (not-true t i)) ∙ (sym (with-more Γ (p .0) (p .1) (o .tells Γ (p .0) g (p .3))) ∙ ap (oneTypeWith Γ) (sym (p .2))) }
+  against-not d {t} o i = record {
+    tells = λ j Γ Γs g h e.
+        let p = split file q at n left z k j Γs h e in
+        ap (λ (y : Bool). y && oneTypeWith Γ (p .1)) (sym (not-true t i)) ∙ (sym (with-more Γ (p .0) (p .1) (o .tells Γ (p .0) g (p .3))) ∙ ap (oneTypeWith Γ) (sym (p .2)));
+  }
 
   pub against-more : (d : Environment) {t x : Bool} → OneTyped d (s .environment) t → not t ≡ false → Against file q d (at + 10) (n - 1) left x → Against file q d at n left x
-  against-more d {t} {x} o i m = record { tells = λ j Γ Γs g h e.
-      let p = split file q at n left z k j Γs h e in
-      m .tells (suc j) Γ (p .1) g (run-next file at n left j z h) (p .4)
-      ∙ (ap (λ (y : Bool). y && oneTypeWith Γ (p .1)) (sym (not-false t i)) ∙ (sym (with-more Γ (p .0) (p .1) (o .tells Γ (p .0) g (p .3))) ∙ ap (oneTypeWith Γ) (sym (p .2)))) }
+  against-more d {t} {x} o i m = record {
+    tells = λ j Γ Γs g h e.
+        let p = split file q at n left z k j Γs h e in
+        m .tells (suc j) Γ (p .1) g (run-next file at n left j z h) (p .4)
+        ∙ (ap (λ (y : Bool). y && oneTypeWith Γ (p .1)) (sym (not-false t i)) ∙ (sym (with-more Γ (p .0) (p .1) (o .tells Γ (p .0) g (p .3))) ∙ ap (oneTypeWith Γ) (sym (p .2))));
+  }
 
   pub one-not : {t : Bool} → Against file q (s .environment) (at + 10) (n - 1) left t → not t ≡ true → OneEach file q at n left false
-  one-not {t} o i = record { tells = λ j Γs h e.
-      let p = split file q at n left z k j Γs h e in
-      ap (λ (y : Bool). y && oneTypeEach (p .1)) (sym (not-true t i))
-      ∙ (sym (each-more-one (p .0) (p .1) (o .tells (suc j) (p .0) (p .1) (p .3) (run-next file at n left j z h) (p .4))) ∙ ap oneTypeEach (sym (p .2))) }
+  one-not {t} o i = record {
+    tells = λ j Γs h e.
+        let p = split file q at n left z k j Γs h e in
+        ap (λ (y : Bool). y && oneTypeEach (p .1)) (sym (not-true t i))
+        ∙ (sym (each-more-one (p .0) (p .1) (o .tells (suc j) (p .0) (p .1) (p .3) (run-next file at n left j z h) (p .4))) ∙ ap oneTypeEach (sym (p .2)));
+  }
 
   pub one-more : {t x : Bool} → Against file q (s .environment) (at + 10) (n - 1) left t → not t ≡ false → OneEach file q (at + 10) (n - 1) left x → OneEach file q at n left x
-  one-more {t} {x} o i m = record { tells = λ j Γs h e.
-      let p = split file q at n left z k j Γs h e in
-      m .tells (suc j) (p .1) (run-next file at n left j z h) (p .4) ∙ (ap (λ (y : Bool). y && oneTypeEach (p .1)) (sym (not-false t i))
-      ∙ (sym (each-more-one (p .0) (p .1) (o .tells (suc j) (p .0) (p .1) (p .3) (run-next file at n left j z h) (p .4))) ∙ ap oneTypeEach (sym (p .2)))) }
+  one-more {t} {x} o i m = record {
+    tells = λ j Γs h e.
+        let p = split file q at n left z k j Γs h e in
+        m .tells (suc j) (p .1) (run-next file at n left j z h) (p .4) ∙ (ap (λ (y : Bool). y && oneTypeEach (p .1)) (sym (not-false t i))
+        ∙ (sym (each-more-one (p .0) (p .1) (o .tells (suc j) (p .0) (p .1) (p .3) (run-next file at n left j z h) (p .4))) ∙ ap oneTypeEach (sym (p .2))));
+  }
 
 pub ruleset against-laws = (against-none, against-not, against-more)
+
 pub ruleset one-laws = (one-none, one-not, one-more)
 
 -- ---- the union
@@ -286,47 +302,57 @@ not-within Γ Δs a o e = go (within (unionFrom Γ Δs)) refl
     go false f = refl
 
 pub unite-none : (file : List ℕ) (q row at n left : ℕ) (u : Environment) {s : Step} → n ≡ 0 → s ≡ record { environment = u; verdict = Done } → UnitesAll file q row at n left u s
-unite-none file q row at n left u {s} z p = record { tells = λ j Γ Γs g h e a o.
-    answers-as (limited-within row Γ (shape-within Γ (g .shape))
-    ∙ ap (λ (y : Types). atRow row (limited (yields y))) (sym (ap (unionFrom Γ) (none-given q file j n Γs z e) ∙ union-end Γ)))
-    (subst (λ (y : Step). Answers y (passed Γ)) (sym p) (answers-pass g)) }
+unite-none file q row at n left u {s} z p = record {
+  tells = λ j Γ Γs g h e a o.
+      answers-as (limited-within row Γ (shape-within Γ (g .shape))
+      ∙ ap (λ (y : Types). atRow row (limited (yields y))) (sym (ap (unionFrom Γ) (none-given q file j n Γs z e) ∙ union-end Γ)))
+      (subst (λ (y : Step). Answers y (passed Γ)) (sym p) (answers-pass g));
+}
 
 module _ (file : List ℕ) (q row at n left : ℕ) (u : Environment) {s t : Step} (z : n ≡ 0 → ⊥) (k : Gives file q at left s) (m : Unites (s .environment) u row t) where
   pub unite-refused : {why : Refusal} → t .verdict ≡ Refused why → UnitesAll file q row at n left u t
-  unite-refused {why} v = record { tells = λ j Γ Γs g h e a o.
-      let p = split file q at n left z k j Γs h e in
-      let f = from-next Γ (p .0) (p .1) (sym (ap (oneTypeFrom true Γ) (p .2)) ∙ o) in
-      let y = answers-refused (m .tells (p .0) Γ (p .3) g (f .0)) why v in
-      let w = limited-refused row (union (p .0) Γ) why (y .0) in
-      let r = rising-tail (p .0) (p .1) (subst AllRising (p .2) a) in
-      answers-as (ap refused (sym (w .1)) ∙ (limited-past row (unionFrom (union (p .0) Γ) (p .1)) (not-within (union (p .0) Γ) (p .1) r (f .1) (w .0))
-      ∙ ap (λ (y : Types). atRow row (limited (yields y))) (sym (ap (unionFrom Γ) (p .2) ∙ union-step Γ (p .0) (p .1))))) (answers-refuse why (y .1)) }
+  unite-refused {why} v = record {
+    tells = λ j Γ Γs g h e a o.
+        let p = split file q at n left z k j Γs h e in
+        let f = from-next Γ (p .0) (p .1) (sym (ap (oneTypeFrom true Γ) (p .2)) ∙ o) in
+        let y = answers-refused (m .tells (p .0) Γ (p .3) g (f .0)) why v in
+        let w = limited-refused row (union (p .0) Γ) why (y .0) in
+        let r = rising-tail (p .0) (p .1) (subst AllRising (p .2) a) in
+        answers-as (ap refused (sym (w .1)) ∙ (limited-past row (unionFrom (union (p .0) Γ) (p .1)) (not-within (union (p .0) Γ) (p .1) r (f .1) (w .0))
+        ∙ ap (λ (y : Types). atRow row (limited (yields y))) (sym (ap (unionFrom Γ) (p .2) ∙ union-step Γ (p .0) (p .1))))) (answers-refuse why (y .1));
+  }
 
   pub unite-more : {i : Step} → t .verdict ≡ Done → UnitesAll file q row (at + 10) (n - 1) left (t .environment) i → UnitesAll file q row at n left u i
-  unite-more {i} v b = record { tells = λ j Γ Γs g h e a o.
-      let p = split file q at n left z k j Γs h e in
-      let f = from-next Γ (p .0) (p .1) (sym (ap (oneTypeFrom true Γ) (p .2)) ∙ o) in
-      let y = answers-done (m .tells (p .0) Γ (p .3) g (f .0)) v in
-      let w = limited-given row (union (p .0) Γ) (y .0) (y .1) in
-      let r = rising-tail (p .0) (p .1) (subst AllRising (p .2) a) in
-      answers-as (ap (λ (y : Types). atRow row (limited (yields y))) (sym (ap (unionFrom Γ) (p .2) ∙ union-step Γ (p .0) (p .1))))
-      (b .tells (suc j) (union (p .0) Γ) (p .1) (subst (λ (x : Types). StandsFor (t .environment) x) (sym w) (y .2)) (run-next file at n left j z h) (p .4) r (f .1)) }
+  unite-more {i} v b = record {
+    tells = λ j Γ Γs g h e a o.
+        let p = split file q at n left z k j Γs h e in
+        let f = from-next Γ (p .0) (p .1) (sym (ap (oneTypeFrom true Γ) (p .2)) ∙ o) in
+        let y = answers-done (m .tells (p .0) Γ (p .3) g (f .0)) v in
+        let w = limited-given row (union (p .0) Γ) (y .0) (y .1) in
+        let r = rising-tail (p .0) (p .1) (subst AllRising (p .2) a) in
+        answers-as (ap (λ (y : Types). atRow row (limited (yields y))) (sym (ap (unionFrom Γ) (p .2) ∙ union-step Γ (p .0) (p .1))))
+        (b .tells (suc j) (union (p .0) Γ) (p .1) (subst (λ (x : Types). StandsFor (t .environment) x) (sym w) (y .2)) (run-next file at n left j z h) (p .4) r (f .1));
+  }
 
 pub ruleset unite-laws = (unite-none, unite-refused, unite-more)
 
 pub joins-not : (file : List ℕ) (q row at n left : ℕ) {x : Bool} {s : Step} → OneEach file q at n left x → not x ≡ true → s ≡ stepOf (refused (EnvironmentsDiffer row))
     → Joins file q row at n left s
-joins-not file q row at n left {x} {s} o i p = record { tells = λ j Γs h e a.
-    answers-as (sym (ap (λ (y : Bool). atRow row (require y EnvironmentsDiffer (limited (yields (unionOf Γs))))) (sym (o .tells j Γs h e) ∙ not-true x i)))
-    (answers-refuse (EnvironmentsDiffer row) p) }
+joins-not file q row at n left {x} {s} o i p = record {
+  tells = λ j Γs h e a.
+      answers-as (sym (ap (λ (y : Bool). atRow row (require y EnvironmentsDiffer (limited (yields (unionOf Γs))))) (sym (o .tells j Γs h e) ∙ not-true x i)))
+      (answers-refuse (EnvironmentsDiffer row) p);
+}
 
 pub joins-union : (file : List ℕ) (q row at n left : ℕ) {x : Bool} {u : Environment} {s : Step} → OneEach file q at n left x → not x ≡ false → u ≡ standing end
     → UnitesAll file q row at n left u s → Joins file q row at n left s
-joins-union file q row at n left {x} {u} {s} o i p m = record { tells = λ j Γs h e a.
-    let t = sym (o .tells j Γs h e) ∙ not-false x i in
-    answers-as (ap (λ (y : Types). atRow row (limited (yields y))) (union-in-order Γs a (each-one-sound Γs (T-of t)))
-    ∙ sym (ap (λ (y : Bool). atRow row (require y EnvironmentsDiffer (limited (yields (unionOf Γs))))) t))
-    (m .tells j end Γs (subst (λ (f : Environment). StandsFor f end) (sym p) stands-empty) h e a (oneType-in-order Γs a ∙ t)) }
+joins-union file q row at n left {x} {u} {s} o i p m = record {
+  tells = λ j Γs h e a.
+      let t = sym (o .tells j Γs h e) ∙ not-false x i in
+      answers-as (ap (λ (y : Types). atRow row (limited (yields y))) (union-in-order Γs a (each-one-sound Γs (T-of t)))
+      ∙ sym (ap (λ (y : Bool). atRow row (require y EnvironmentsDiffer (limited (yields (unionOf Γs))))) t))
+      (m .tells j end Γs (subst (λ (f : Environment). StandsFor f end) (sym p) stands-empty) h e a (oneType-in-order Γs a ∙ t));
+}
 
 pub ruleset join-laws = (joins-not, joins-union)
 
@@ -357,10 +383,12 @@ module _ (file : List ℕ) (q r : ℕ) {left row first n at : ℕ} {v : Verdict}
 
   pub starts-refused : {why : Refusal} {s : Step} → v ≡ Refused why → s ≡ stepOf (refused why) → Starts file q r s
   unfolding next
-  starts-refused {why} {s} f p = record { tells = λ w l i.
-      let h = kept w l i in
-      answers-as (sym (h .0 ∙ ap (λ (y : Checked (List Types)). next y (λ Γs. atRow r (require (oneTypeEach Γs) EnvironmentsDiffer (limited (yields (unionOf Γs))))))
-      (all-refused (checkEach q (branchList file first n)) (sym (k .tells first (h .1)) ∙ f)))) (answers-refuse why p) }
+  starts-refused {why} {s} f p = record {
+    tells = λ w l i.
+        let h = kept w l i in
+        answers-as (sym (h .0 ∙ ap (λ (y : Checked (List Types)). next y (λ Γs. atRow r (require (oneTypeEach Γs) EnvironmentsDiffer (limited (yields (unionOf Γs))))))
+        (all-refused (checkEach q (branchList file first n)) (sym (k .tells first (h .1)) ∙ f)))) (answers-refuse why p);
+  }
     where
       all-refused : (x : Checked (List Types)) → verdictOf x ≡ Refused why → x ≡ refused why
       all-refused (refused w) g = cc
@@ -368,11 +396,13 @@ module _ (file : List ℕ) (q r : ℕ) {left row first n at : ℕ} {v : Verdict}
 
   pub starts-joined : {s : Step} → v ≡ Done → Joins file q r at n left s → Starts file q r s
   unfolding next
-  starts-joined {s} f m = record { tells = λ w l i.
-      let h = kept w l i in
-      let g = all-passed (checkEach q (branchList file first n)) (sym (k .tells first (h .1)) ∙ f) in
-      answers-as (sym (h .0 ∙ ap (λ (y : Checked (List Types)). next y (λ Γs. atRow r (require (oneTypeEach Γs) EnvironmentsDiffer (limited (yields (unionOf Γs)))))) (g .1)))
-      (m .tells first (g .0) (h .1) (g .1) (k .rises first (g .0) (h .1) (g .1))) }
+  starts-joined {s} f m = record {
+    tells = λ w l i.
+        let h = kept w l i in
+        let g = all-passed (checkEach q (branchList file first n)) (sym (k .tells first (h .1)) ∙ f) in
+        answers-as (sym (h .0 ∙ ap (λ (y : Checked (List Types)). next y (λ Γs. atRow r (require (oneTypeEach Γs) EnvironmentsDiffer (limited (yields (unionOf Γs)))))) (g .1)))
+        (m .tells first (g .0) (h .1) (g .1) (k .rises first (g .0) (h .1) (g .1)));
+  }
     where
       all-passed : (x : Checked (List Types)) → verdictOf x ≡ Done → (Γs : List Types) × (x ≡ passed Γs)
       all-passed (refused w) g = absurd (let z : _≡_ {A = ℕ} 0 1 = cc in omega arith)
@@ -381,7 +411,9 @@ module _ (file : List ℕ) (q r : ℕ) {left row first n at : ℕ} {v : Verdict}
 pub ruleset start-laws = (starts-refused, starts-joined)
 
 pub client-checks : (file : List ℕ) (q r : ℕ) {left : ℕ} {e : Environment} {s : Step} → left ≡ behaviourCount file → e ≡ standing end → Checks file q r left e s → Clients file q r s
-client-checks file q r {left} {e} a p k = record { tells = λ w l.
-    k .tells (rowOf (behaviourOf file r)) end (subst (λ (f : Environment). StandsFor f end) (sym p) stands-empty) w (record { exists = l; enough = omega arith }) }
+client-checks file q r {left} {e} a p k = record {
+  tells = λ w l.
+      k .tells (rowOf (behaviourOf file r)) end (subst (λ (f : Environment). StandsFor f end) (sym p) stands-empty) w (record { exists = l; enough = omega arith });
+}
 
 pub ruleset client-laws = (client-checks)

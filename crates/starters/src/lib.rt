@@ -2,7 +2,6 @@
 // environment is their union." Branches are checked again where their environments are compared and united, so none is kept.
 ghost use Prim.Native.Nat.{ℕ, _+_, _*_, _<_};
 ghost use Rattle.starters.specs.Starters.{Gives, Each, Against, OneEach, UnitesAll, Joins, Starts, Clients};
-
 use environments::Environment;
 use environments::Step;
 use refusal::Refusal;
@@ -13,7 +12,14 @@ fn branch(file: &[u8], q: u16, at: usize, left: u16) -> Step
     requires { ⌜ at < 2000000 ⌝ }
     ensures { λ s. ⌜ Gives (now (file .entry)) q at left s ⌝ }
 {
-    behaviours::sequence(file, q, wire::u16_at(file, at + 2), wire::u16_at(file, at + 4), left, environments::empty())
+    behaviours::sequence(
+        file,
+        q,
+        wire::u16_at(file, at + 2),
+        wire::u16_at(file, at + 4),
+        left,
+        environments::empty(),
+    )
 }
 
 // The n branches whose rows stand from `at` on, one after the other: the first refusal.
@@ -113,5 +119,11 @@ pub fn check_starter(file: &[u8], q: u16, r: u16) -> Step
 pub fn check_client(file: &[u8], q: u16, r: u16) -> Step
     ensures { λ s. ⌜ Clients (now (file .entry)) q r s ⌝ }
 {
-    behaviours::check_row(file, q, r, layout::behaviour_count(file), environments::empty())
+    behaviours::check_row(
+        file,
+        q,
+        r,
+        layout::behaviour_count(file),
+        environments::empty(),
+    )
 }
