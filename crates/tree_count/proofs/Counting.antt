@@ -40,7 +40,8 @@ module _ (s : List ℕ) (h : Head) (p : h ≡ headAt s 0) (i b c m : ℕ) (q : h
       )
 
   -- a limit of levels that is passed is kept to
-  shallow : (d e l x n : ℕ) (v : List ℕ) (ks : Forest Value) → Octets s → scan s d c 0 treeMany m ≡ Past e l → Root s 0 x (tree (value n v) ks) → levels ks ≤ d
+  shallow : (d e l x n : ℕ) (v : List ℕ) (ks : Forest Value) → Octets s → scan s d c 0 treeMany m ≡ Past e l →
+      Root s 0 x (tree (value n v) ks) → levels ks ≤ d
   shallow d e l x n v ks bs z r =
       let u = root-seen s 0 x n v ks r h i b c m p q in
       let k = scanned s d c 0 treeMany m e l z in

@@ -32,7 +32,7 @@ returns : tie.Need-returns Inv-loop μ-loop
 returns c = search levels-laws depth 12
 
 loop-holds : tie.Need-loop-holds Inv-loop μ-loop
-loop-holds c = (omega arith, missed-none _ _ _)
+loop-holds c = (omega arith, search missed-none depth 12)
 
 kids-requires : tie.Need-kids-requires Inv-loop μ-loop
 kids-requires c κs = search needs
