@@ -24,14 +24,15 @@ use Rattle.network.specs.RowLaws.{service-kept}
 use Rattle.network.specs.Decode.{behaviourOf, serviceOf, rowsFrom, networkOf}
 use Rattle.environments.specs.declared.Environment.{Environment}
 use Rattle.environments.specs.declared.Step.{Step}
-use Rattle.environments.specs.Environment.{standing, stepOf, Answers}
+use Rattle.environments.specs.Environment.{standing, stepOf, ShapeIn, Answers}
 use Rattle.starters.specs.Starters.{Starts, Clients}
 use Rattle.outputs.specs.Outputs.{verdictOf, Outputs}
 use Rattle.checker.specs.declared.Pair.{Pair}
 use Rattle.checker.specs.declared.One.{One}
 use Rattle.checker.specs.declared.Answer.{Answer}
 use Rattle.checking.specs.FileChecker.{afterForm, checkFile}
-use Rattle.checker.specs.Answer.{environmentOf, pairOf, emptyPair, pairAt, refusedWith, answerOf, withFirst, partOf, oneOf, checkService, StarterGives, ClientGives, ServiceGives, ServicesGive}
+use Rattle.checker.specs.Answer.{environmentOf, pairOf, emptyPair, pairAt, refusedWith, answerOf, withFirst, partOf, oneOf, checkService}
+use Rattle.checker.specs.Answer.{ShapedIfThere, ShapedPair, ShapedAll, IfPassed, StarterGives, ClientGives, ServiceGives, ServicesGive}
 
 -- ---- a starter or client
 
@@ -40,6 +41,11 @@ there : (x : Checked Types) → partOf (next x (λ Γ. passed (some Γ))) ≡ st
 unfolding partOf stepOf next
 there (refused why) = refl
 there (passed Γ) = refl
+
+there-shaped : (x : Checked Types) → ShapeIn x → IfPassed ShapedIfThere (next x (λ Γ. passed (some Γ)))
+unfolding next
+there-shaped (refused why) h = tt
+there-shaped (passed Γ) h = h
 
 none-is : partOf (passed none) ≡ record { environment = standing end; verdict = Done }
 unfolding partOf
@@ -105,6 +111,7 @@ module _ (file : List ℕ) (q : ℕ) where
   starter-absent {r} {e} {s} a b p k = record {
     tells = λ w l.
         k ∙ (ap (λ (y : Environment). record { environment = y; verdict = Done }) p ∙ (sym none-is ∙ ap (λ (y : Optional Behaviour). partOf (ifThere (checkStarter q) y)) (sym (starter-none (sym a ∙ b)))));
+    shapes = λ w l. subst (λ (y : Optional Behaviour). IfPassed ShapedIfThere (ifThere (checkStarter q) y)) (sym (starter-none (sym a ∙ b))) tt;
   }
 
   pub starter-given : {r : ℕ} {s : Step} → r ≡ starterRow file q → (r ≡ 65535 → ⊥) → Starts file q r s → StarterGives file q s
@@ -114,6 +121,11 @@ module _ (file : List ℕ) (q : ℕ) where
         let h = starter-there w l z in
         subst (λ (y : ℕ). Starts file q y s) a k .tells w (h .0) (h .1) .is
         ∙ (sym (there (checkStarter q (behaviourOf file (starterRow file q)))) ∙ ap (λ (y : Optional Behaviour). partOf (ifThere (checkStarter q) y)) (sym (starter-some z)));
+    shapes = λ w l.
+        let z : starterRow file q ≡ noRow → ⊥ = λ e. b (a ∙ e) in
+        let h = starter-there w l z in
+        subst (λ (y : Optional Behaviour). IfPassed ShapedIfThere (ifThere (checkStarter q) y)) (sym (starter-some z))
+        (there-shaped (checkStarter q (behaviourOf file (starterRow file q))) (subst (λ (y : ℕ). Starts file q y s) a k .tells w (h .0) (h .1) .shape));
   }
 
   pub client-absent : {r : ℕ} {e : Environment} {s : Step} → r ≡ clientRow file q → r ≡ 65535 → e ≡ standing end → s ≡ record { environment = e; verdict = Done }
@@ -121,6 +133,7 @@ module _ (file : List ℕ) (q : ℕ) where
   client-absent {r} {e} {s} a b p k = record {
     tells = λ w l.
         k ∙ (ap (λ (y : Environment). record { environment = y; verdict = Done }) p ∙ (sym none-is ∙ ap (λ (y : Optional Behaviour). partOf (ifThere (checkClient q) y)) (sym (client-none (sym a ∙ b)))));
+    shapes = λ w l. subst (λ (y : Optional Behaviour). IfPassed ShapedIfThere (ifThere (checkClient q) y)) (sym (client-none (sym a ∙ b))) tt;
   }
 
   pub client-given : {r : ℕ} {s : Step} → r ≡ clientRow file q → (r ≡ 65535 → ⊥) → Clients file q r s → ClientGives file q s
@@ -129,6 +142,10 @@ module _ (file : List ℕ) (q : ℕ) where
         let z : clientRow file q ≡ noRow → ⊥ = λ e. b (a ∙ e) in
         subst (λ (y : ℕ). Clients file q y s) a k .tells w (client-there w l z) .is
         ∙ (sym (there (checkClient q (behaviourOf file (clientRow file q)))) ∙ ap (λ (y : Optional Behaviour). partOf (ifThere (checkClient q) y)) (sym (client-some z)));
+    shapes = λ w l.
+        let z : clientRow file q ≡ noRow → ⊥ = λ e. b (a ∙ e) in
+        subst (λ (y : Optional Behaviour). IfPassed ShapedIfThere (ifThere (checkClient q) y)) (sym (client-some z))
+        (there-shaped (checkClient q (behaviourOf file (clientRow file q))) (subst (λ (y : ℕ). Clients file q y s) a k .tells w (client-there w l z) .shape));
   }
 
 pub ruleset role-laws = (starter-absent, starter-given, client-absent, client-given)
@@ -145,6 +162,13 @@ unfolding partOf
 part-done (refused w) e f = let z = ap (λ (t : Step). t .verdict) e in absurd (let y : _≡_ {A = ℕ} 0 1 = cc in omega arith)
 part-done (passed E) e f = (E, refl, ap (λ (t : Step). t .environment) e)
 
+service-shaped : (x y : Checked (Optional Types)) → IfPassed ShapedIfThere x → IfPassed ShapedIfThere y
+    → IfPassed ShapedPair (next x (λ Γ. next y (λ Δ. passed (record { starter = Γ; client = Δ }))))
+unfolding next
+service-shaped (refused w) y g h = tt
+service-shaped (passed Γ) (refused w) g h = tt
+service-shaped (passed Γ) (passed Δ) g h = (g, h)
+
 pub service-starter : (file : List ℕ) (q : ℕ) {s : Step} {why : Refusal} {p : Pair} → StarterGives file q s → s .verdict ≡ Refused why → p ≡ emptyPair
     → ServiceGives file q (record { verdict = s .verdict; pair = p })
 unfolding checkService next oneOf
@@ -153,6 +177,9 @@ service-starter file q {s} {why} {p} k v e = record {
       let x = part-refused (ifThere (checkStarter q) (serviceOf file q .starter)) (k .tells w l) v in
       ap (λ (y : Pair). record { verdict = s .verdict; pair = y }) e ∙ (ap (λ (y : Verdict). record { verdict = y; pair = emptyPair }) v
       ∙ sym (ap (λ (y : Checked (Optional Types)). oneOf (next y (λ Γ. next (ifThere (checkClient q) (serviceOf file q .client)) (λ Δ. passed (record { starter = Γ; client = Δ }))))) x));
+  shapes = λ w l.
+      let x = part-refused (ifThere (checkStarter q) (serviceOf file q .starter)) (k .tells w l) v in
+      subst (λ (y : Checked (Optional Types)). IfPassed ShapedPair (next y (λ Γ. next (ifThere (checkClient q) (serviceOf file q .client)) (λ Δ. passed (record { starter = Γ; client = Δ }))))) (sym x) tt;
 }
 
 pub service-client : (file : List ℕ) (q : ℕ) {s t : Step} {why : Refusal} {p : Pair} → StarterGives file q s → s .verdict ≡ Done → ClientGives file q t → t .verdict ≡ Refused why
@@ -165,6 +192,8 @@ service-client file q {s} {t} {why} {p} k u m v e = record {
       ap (λ (y : Pair). record { verdict = t .verdict; pair = y }) e ∙ (ap (λ (y : Verdict). record { verdict = y; pair = emptyPair }) v
       ∙ sym (ap (λ (z : Checked (Optional Types)). oneOf (next z (λ Γ. next (ifThere (checkClient q) (serviceOf file q .client)) (λ Δ. passed (record { starter = Γ; client = Δ }))))) (x .1)
       ∙ ap (λ (z : Checked (Optional Types)). oneOf (next z (λ Δ. passed (record { starter = x .0; client = Δ })))) y));
+  shapes = λ w l.
+      service-shaped (ifThere (checkStarter q) (serviceOf file q .starter)) (ifThere (checkClient q) (serviceOf file q .client)) (k .shapes w l) (m .shapes w l);
 }
 
 pub service-done : (file : List ℕ) (q : ℕ) {s t : Step} → StarterGives file q s → s .verdict ≡ Done → ClientGives file q t → t .verdict ≡ Done
@@ -178,6 +207,8 @@ service-done file q {s} {t} k u m v = record {
       ∙ (ap (λ (z : Environment). record { verdict = Done; pair = record { starter = environmentOf (x .0); client = z } }) (y .2)
       ∙ sym (ap (λ (z : Checked (Optional Types)). oneOf (next z (λ Γ. next (ifThere (checkClient q) (serviceOf file q .client)) (λ Δ. passed (record { starter = Γ; client = Δ }))))) (x .1)
       ∙ ap (λ (z : Checked (Optional Types)). oneOf (next z (λ Δ. passed (record { starter = x .0; client = Δ })))) (y .1)));
+  shapes = λ w l.
+      service-shaped (ifThere (checkStarter q) (serviceOf file q .starter)) (ifThere (checkClient q) (serviceOf file q .client)) (k .shapes w l) (m .shapes w l);
 }
 
 pub ruleset service-laws = (service-starter, service-client, service-done)
@@ -238,9 +269,19 @@ unfolding answerOf pairAt
 first-answer E [] = refl
 first-answer E (F ∷ Es) = refl
 
+services-shaped : (x : Checked Environments) (z : Checked (List Environments)) → IfPassed ShapedPair x → IfPassed ShapedAll z
+    → IfPassed ShapedAll (next x (λ E. next z (λ Es. passed (E ∷ Es))))
+unfolding next ShapedAll
+services-shaped (refused w) z g h = tt
+services-shaped (passed E) (refused w) g h = tt
+services-shaped (passed E) (passed Es) g h = (g, h)
+
 pub services-none : (file : List ℕ) (q n : ℕ) {x : Answer} → n ≡ 0 → x ≡ refusedWith Done → ServicesGive file q n x
-unfolding checkServices rowsFrom
-services-none file q n z e = record { tells = λ w l. e ∙ (sym empty-answer ∙ ap (λ (m : ℕ). answerOf (checkServices q (rowsFrom (serviceOf file) q m))) (sym z)) }
+unfolding checkServices rowsFrom ShapedAll
+services-none file q n z e = record {
+  tells = λ w l. e ∙ (sym empty-answer ∙ ap (λ (m : ℕ). answerOf (checkServices q (rowsFrom (serviceOf file) q m))) (sym z));
+  shapes = λ w l. subst (λ (m : ℕ). IfPassed ShapedAll (checkServices q (rowsFrom (serviceOf file) q m))) (sym z) tt;
+}
 
 pub services-first : (file : List ℕ) (q n : ℕ) {o : One} {x : Answer} {why : Refusal} → (n ≡ 0 → ⊥) → ServiceGives file q o → o .verdict ≡ Refused why → x ≡ refusedWith (o .verdict)
     → ServicesGive file q n x
@@ -250,6 +291,9 @@ services-first file q n {o} {x} {why} z k v e = record {
       refused-answer x (o .verdict) why e v ∙ sym (ap answerOf (services-step file q n z
       ∙ ap (λ (y : Checked Environments). next y (λ E. next (checkServices (q + 1) (rowsFrom (serviceOf file) (q + 1) (n - 1))) (λ Es. passed (E ∷ Es))))
       (one-refused (checkService q (serviceOf file q)) (k .tells w (omega (arith, one-less n z))) v)));
+  shapes = λ w l.
+      subst (IfPassed ShapedAll) (sym (services-step file q n z)) (subst (λ (y : Checked Environments). IfPassed ShapedAll (next y (λ E. next (checkServices (q + 1) (rowsFrom (serviceOf file) (q + 1) (n - 1))) (λ Es. passed (E ∷ Es)))))
+      (sym (one-refused (checkService q (serviceOf file q)) (k .tells w (omega (arith, one-less n z))) v)) tt);
 }
 
 module _ (file : List ℕ) (q n : ℕ) {o : One} {a : Answer} (z : n ≡ 0 → ⊥) (k : ServiceGives file q o) (u : o .verdict ≡ Done) (m : ServicesGive file (q + 1) (n - 1) a) where
@@ -264,6 +308,12 @@ module _ (file : List ℕ) (q n : ℕ) {o : One} {a : Answer} (z : n ≡ 0 → �
             ∙ ap (λ (y : Checked Environments). next y (λ E. next (checkServices (q + 1) (rowsFrom (serviceOf file) (q + 1) (n - 1))) (λ Es. passed (E ∷ Es)))) (p .1),
       )
 
+  shaped-after : WellFormed file → q + n ≤ serviceCount file → IfPassed ShapedAll (checkServices q (rowsFrom (serviceOf file) q n))
+  shaped-after w l =
+      subst (IfPassed ShapedAll) (sym (services-step file q n z))
+      (services-shaped (checkService q (serviceOf file q)) (checkServices (q + 1) (rowsFrom (serviceOf file) (q + 1) (n - 1)))
+      (k .shapes w (omega (arith, one-less n z))) (m .shapes w (omega (arith, one-less n z))))
+
   pub services-later : {x : Answer} {why : Refusal} → a .verdict ≡ Refused why → x ≡ refusedWith (a .verdict) → ServicesGive file q n x
   unfolding next
   services-later {x} {why} v e = record {
@@ -272,6 +322,7 @@ module _ (file : List ℕ) (q n : ℕ) {o : One} {a : Answer} (z : n ≡ 0 → �
         refused-answer x (a .verdict) why e v ∙ sym (ap answerOf (p .2
         ∙ ap (λ (y : Checked (List Environments)). next y (λ Es. passed (p .0 ∷ Es)))
         (all-refused (checkServices (q + 1) (rowsFrom (serviceOf file) (q + 1) (n - 1))) (m .tells w (omega (arith, one-less n z))) v)));
+    shapes = shaped-after;
   }
 
   pub services-done : {x : Answer} → a .verdict ≡ Done → x ≡ withFirst (o .pair) a → ServicesGive file q n x
@@ -282,6 +333,7 @@ module _ (file : List ℕ) (q n : ℕ) {o : One} {a : Answer} (z : n ≡ 0 → �
         let d = all-done (checkServices (q + 1) (rowsFrom (serviceOf file) (q + 1) (n - 1))) (m .tells w (omega (arith, one-less n z))) v in
         e ∙ (ap (λ (y : Pair). withFirst y a) (p .1) ∙ (ap (withFirst (pairOf (p .0))) (d .2) ∙ (first-answer (p .0) (d .0)
         ∙ sym (ap answerOf (p .2 ∙ ap (λ (y : Checked (List Environments)). next y (λ Es. passed (p .0 ∷ Es))) (d .1))))));
+    shapes = shaped-after;
   }
 
 pub ruleset services-laws = (services-none, services-first, services-later, services-done)
@@ -292,6 +344,10 @@ pub file-form : (file : List ℕ) {v : Verdict} {x : Answer} {why : Refusal} →
 unfolding checkFile
 file-form file {v} {x} {why} a b e =
     refused-answer x v why e b ∙ sym (ap (λ (y : Verdict). answerOf (afterForm y (checkNetwork (networkOf file)))) (sym a ∙ b))
+
+pub form-shaped : (file : List ℕ) {v : Verdict} {why : Refusal} → v ≡ formOf file → v ≡ Refused why → IfPassed ShapedAll (checkFile file)
+unfolding checkFile
+form-shaped file a b = subst (λ (y : Verdict). IfPassed ShapedAll (afterForm y (checkNetwork (networkOf file)))) (sym (sym a ∙ b)) tt
 
 well : (file : List ℕ) → WellFormed file → checkFile file ≡ checkNetwork (networkOf file)
 unfolding checkFile
@@ -304,6 +360,17 @@ module _ (file : List ℕ) {v : Verdict} {n : ℕ} {a : Answer} (f : v ≡ formO
   given : a ≡ answerOf (checkServices 0 (networkOf file .services))
   unfolding networkOf
   given = subst (λ (m : ℕ). ServicesGive file 0 m a) c k .tells wellFormed (omega arith)
+
+  pub file-shaped : IfPassed ShapedAll (checkFile file)
+  unfolding networkOf checkNetwork next
+  file-shaped =
+      subst (IfPassed ShapedAll) (sym (well file wellFormed)) (by (checkServices 0 (networkOf file .services)) (checkOutputs (networkOf file .services) (networkOf file .operations) (networkOf file .operations))
+      (subst (λ (m : ℕ). ServicesGive file 0 m a) c k .shapes wellFormed (omega arith)))
+    where
+      by : (x : Checked (List Environments)) (y : Checked (Unit {0})) → IfPassed ShapedAll x → IfPassed ShapedAll (next x (λ Es. next y (λ u. passed Es)))
+      by (refused w) y h = tt
+      by (passed Es) (refused w) h = tt
+      by (passed Es) (passed u) h = h
 
   pub file-services : {x : Answer} {why : Refusal} → a .verdict ≡ Refused why → x ≡ refusedWith (a .verdict) → x ≡ answerOf (checkFile file)
   unfolding checkNetwork next
@@ -345,6 +412,8 @@ module _ (file : List ℕ) {v : Verdict} {n : ℕ} {a : Answer} (f : v ≡ formO
       met (passed u) Es g = refl
 
 pub ruleset file-laws = (file-form, file-services, file-outputs, file-accepted)
+
+pub ruleset shape-laws = (form-shaped, file-shaped)
 
 -- ---- empty environments
 

@@ -15,7 +15,7 @@ use Rattle.network.specs.Layout.{serviceCount}
 use Rattle.network.specs.Decode.{serviceOf, rowsFrom}
 use Rattle.environments.specs.declared.Environment.{Environment}
 use Rattle.environments.specs.declared.Step.{Step}
-use Rattle.environments.specs.Environment.{standing}
+use Rattle.environments.specs.Environment.{standing, Shape}
 use Rattle.checker.specs.declared.Pair.{Pair}
 use Rattle.checker.specs.declared.One.{One}
 use Rattle.checker.specs.declared.Answer.{Answer}
@@ -64,15 +64,36 @@ unfoldable pub checkService : ℕ → Service → Checked Environments
 checkService q s =
     next (ifThere (checkStarter q) (s .starter)) (λ Γ. next (ifThere (checkClient q) (s .client)) (λ Δ. passed (record { starter = Γ; client = Δ })))
 
+-- Every environment keeps to its limits. "Γ, that union too, has at most 48 nodes and 6 levels below its empty root."
+abbrev pub ShapedIfThere : Optional Types → Type 0
+ShapedIfThere none = Unit {0}
+ShapedIfThere (some Γ) = Shape Γ
+
+abbrev pub ShapedPair : Environments → Type 0
+ShapedPair E = ShapedIfThere (E .starter) × ShapedIfThere (E .client)
+
+unfoldable pub ShapedAll : List Environments → Type 0
+ShapedAll [] = Unit {0}
+ShapedAll (E ∷ Es) = ShapedPair E × ShapedAll Es
+
+-- What passed keeps to P.
+abbrev pub IfPassed : {A : Type 0} → (A → Type 0) → Checked A → Type 0
+IfPassed P (refused why) = Unit {0}
+IfPassed P (passed a) = P a
+
 -- What the functions tell, for every file that none of 2 to 5 refuses.
 pub record StarterGives (file : List ℕ) (q : ℕ) (s : Step) : Type 0 where
   pub tells : WellFormed file → q < serviceCount file → s ≡ partOf (ifThere (checkStarter q) (serviceOf file q .starter))
+  pub shapes : WellFormed file → q < serviceCount file → IfPassed ShapedIfThere (ifThere (checkStarter q) (serviceOf file q .starter))
 
 pub record ClientGives (file : List ℕ) (q : ℕ) (s : Step) : Type 0 where
   pub tells : WellFormed file → q < serviceCount file → s ≡ partOf (ifThere (checkClient q) (serviceOf file q .client))
+  pub shapes : WellFormed file → q < serviceCount file → IfPassed ShapedIfThere (ifThere (checkClient q) (serviceOf file q .client))
 
 pub record ServiceGives (file : List ℕ) (q : ℕ) (x : One) : Type 0 where
   pub tells : WellFormed file → q < serviceCount file → x ≡ oneOf (checkService q (serviceOf file q))
+  pub shapes : WellFormed file → q < serviceCount file → IfPassed ShapedPair (checkService q (serviceOf file q))
 
 pub record ServicesGive (file : List ℕ) (q n : ℕ) (x : Answer) : Type 0 where
   pub tells : WellFormed file → q + n ≤ serviceCount file → x ≡ answerOf (checkServices q (rowsFrom (serviceOf file) q n))
+  pub shapes : WellFormed file → q + n ≤ serviceCount file → IfPassed ShapedAll (checkServices q (rowsFrom (serviceOf file) q n))

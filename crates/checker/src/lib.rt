@@ -2,7 +2,7 @@
 ghost use mathlib.Core.Path.{_≡_};
 ghost use Prim.Native.Nat.{ℕ, _+_, _≤_};
 ghost use Rattle.checking.specs.FileChecker.{checkFile};
-ghost use Rattle.checker.specs.Answer.{emptyPair, refusedWith, withFirst, answerOf, StarterGives, ClientGives, ServiceGives, ServicesGive};
+ghost use Rattle.checker.specs.Answer.{emptyPair, refusedWith, withFirst, answerOf, IfPassed, ShapedAll, StarterGives, ClientGives, ServiceGives, ServicesGive};
 use environments::Environment;
 use environments::Step;
 use refusal::Refusal;
@@ -143,9 +143,10 @@ fn services(file: &[u8], q: u16, n: u16) -> Answer
     with_first(p, others)
 }
 
-// "The checker tries 2 to 13".
+// "The checker tries 2 to 13". (Its environments keep to their limits, as a fact that callers can cite.)
 pub fn check(file: &[u8]) -> Answer
     ensures { λ x. ⌜ x ≡ answerOf (checkFile (now (file .entry))) ⌝ }
+    ensures { λ _. ⌜ IfPassed ShapedAll (checkFile (now (file .entry))) ⌝ }
 {
     let form = form::form_of(file);
     let Verdict::Done = form else {

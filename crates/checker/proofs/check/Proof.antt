@@ -1,4 +1,4 @@
-use Rattle.checker.proofs.AnswerLaws.{file-laws}
+use Rattle.checker.proofs.AnswerLaws.{file-laws, shape-laws}
 use native.Mathlib.Omega.{arith}
 use borrow.Author.Needs.{needs}
 use Rattle.checker.proofs.check.Statement.{statement}
@@ -24,7 +24,7 @@ verdict-only-requires : tie.Need-verdict-only-requires
 verdict-only-requires c κs = search needs
 
 returns : tie.Need-returns
-returns c = search file-laws depth 12
+returns c = (search file-laws depth 12, search shape-laws depth 12)
 
 service-count-requires : tie.Need-service-count-requires
 service-count-requires c κs = search needs
@@ -42,7 +42,7 @@ verdict-only-requires-2 : tie.Need-verdict-only-requires-2
 verdict-only-requires-2 c κs = search needs
 
 returns-2 : tie.Need-returns-2
-returns-2 c = search file-laws depth 12
+returns-2 c = (search file-laws depth 12, search shape-laws depth 12)
 
 check-outputs-requires : tie.Need-check-outputs-requires
 check-outputs-requires c κs = search needs
@@ -57,10 +57,10 @@ verdict-only-requires-3 : tie.Need-verdict-only-requires-3
 verdict-only-requires-3 c κs = search needs
 
 returns-3 : tie.Need-returns-3
-returns-3 c = search file-laws depth 12
+returns-3 c = (search file-laws depth 12, search shape-laws depth 12)
 
 returns-4 : tie.Need-returns-4
-returns-4 c = search file-laws depth 12
+returns-4 c = (search file-laws depth 12, search shape-laws depth 12)
 
 pub check-spec : {M : Type 1} → statement M
 check-spec =
