@@ -1,0 +1,80 @@
+-- The environments of an accepted file as bytes, for callers in other languages: one record of 18 bytes per node. 01, Proved cases: "per
+-- node in preorder, by service, S(tarter) first: service row, S or C(lient), path, `!` (mandatory) or `?`, basic type".
+use mathlib.Core.Path.{_≡_}
+use mathlib.Core.List.{List, [], _∷_, _++_}
+use mathlib.Core.Bool.{Bool, true, false}
+use Prim.Native.Nat.{ℕ, suc, _+_, _-_, _*_, _/_, _%_, _≤_}
+use lib.ListN.{length, getD, take, drop}
+use lib.Dec.{leb, ltb}
+use Rattle.forest.specs.Forest.{nodes}
+use Rattle.scalar.specs.Value.{pick}
+use Rattle.syntax.specs.Syntax.{Types, Optional, none, some}
+use Rattle.tree_edit.specs.Wrote.{Wrote}
+use Rattle.typing.specs.Result.{Checked, refused, passed}
+use Rattle.typing.specs.NetworkRules.{Environments}
+use Rattle.environments.specs.declared.Environment.{Environment}
+use Rattle.environments.specs.declared.Entry.{Entry}
+use Rattle.environments.specs.Environment.{StandsFor}
+use Rattle.environments.specs.Listing.{preorder}
+use Rattle.checker.specs.declared.Pair.{Pair}
+use Rattle.checker.specs.declared.Answer.{Answer}
+use Rattle.checker.specs.Answer.{pairOf, pairAt, ShapedPair, ShapedAll}
+
+-- 0 for S, 1 for C.
+abbrev pub starterRole : ℕ
+starterRole = 0
+
+abbrev pub clientRole : ℕ
+clientRole = 1
+
+-- Six ids, little-endian; 0 after those of the path.
+abbrev pub idBytes : List ℕ → List ℕ
+idBytes ids =
+    getD ids 0 0 % 256 ∷ getD ids 0 0 / 256 ∷ getD ids 1 0 % 256 ∷ getD ids 1 0 / 256 ∷ getD ids 2 0 % 256 ∷ getD ids 2 0 / 256
+    ∷ getD ids 3 0 % 256 ∷ getD ids 3 0 / 256 ∷ getD ids 4 0 % 256 ∷ getD ids 4 0 / 256 ∷ getD ids 5 0 % 256 ∷ getD ids 5 0 / 256 ∷ []
+
+-- A node: service row, S or C, 1 for `!` or 0 for `?`, basic type, how many ids its path has, 0, the ids.
+abbrev pub nodeBytes : ℕ → ℕ → Entry → List ℕ
+nodeBytes q role x = q ∷ role ∷ pick (x .mandatory) 1 0 ∷ x .basic ∷ x .depth ∷ 0 ∷ idBytes (x .ids)
+
+unfoldable pub entryBytes : ℕ → ℕ → List Entry → List ℕ
+entryBytes q role [] = []
+entryBytes q role (x ∷ xs) = nodeBytes q role x ++ entryBytes q role xs
+
+-- An environment, "per node in preorder"; one that may not be there.
+abbrev pub typesBytes : ℕ → ℕ → Types → List ℕ
+typesBytes q role Γ = entryBytes q role (preorder [] Γ)
+
+abbrev pub ifThereBytes : ℕ → ℕ → Optional Types → List ℕ
+ifThereBytes q role none = []
+ifThereBytes q role (some Γ) = typesBytes q role Γ
+
+-- "by service, S(tarter) first": the services from row q on.
+abbrev pub pairBytes : ℕ → Environments → List ℕ
+pairBytes q E = ifThereBytes q starterRole (E .starter) ++ ifThereBytes q clientRole (E .client)
+
+unfoldable pub environmentsBytes : ℕ → List Environments → List ℕ
+environmentsBytes q [] = []
+environmentsBytes q (E ∷ Es) = pairBytes q E ++ environmentsBytes (suc q) Es
+
+-- How many nodes they have in all.
+abbrev pub ifThereNodes : Optional Types → ℕ
+ifThereNodes none = 0
+ifThereNodes (some Γ) = nodes Γ
+
+unfoldable pub environmentsNodes : List Environments → ℕ
+environmentsNodes [] = 0
+environmentsNodes (E ∷ Es) = ifThereNodes (E .starter) + ifThereNodes (E .client) + environmentsNodes Es
+
+-- The environments of what was checked: a refused file has none.
+abbrev pub environmentsOf : Checked (List Environments) → List Environments
+environmentsOf (refused why) = []
+environmentsOf (passed Es) = Es
+
+-- A lent buffer that has room for every record is given them, and keeps its other bytes; one that has not is left as it was.
+abbrev pub listedCount : List Environments → List ℕ → ℕ
+listedCount Es out = pick (leb (18 * environmentsNodes Es) (length out)) (environmentsNodes Es) 0
+
+abbrev pub listedBytes : List Environments → List ℕ → List ℕ
+listedBytes Es out =
+    pick (leb (18 * environmentsNodes Es) (length out)) (environmentsBytes 0 Es ++ drop (18 * environmentsNodes Es) out) out
