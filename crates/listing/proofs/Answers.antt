@@ -87,6 +87,7 @@ few file = by (formOf file) refl
     outputs (refused w) y h = omega arith
     outputs (passed Es) (refused w) h = omega arith
     outputs (passed Es) (passed u) h = h
+
     by : (v : Verdict) → formOf file ≡ v → length (environmentsOf (afterForm v (checkNetwork (networkOf file)))) ≤ 4
     by (Refused why) e = omega arith
     by Done e =
@@ -191,9 +192,8 @@ module _ (file : List ℕ) {x : Answer} {n : ℕ} (k : (x ≡ answerOf (checkFil
   list-all {o} {o₁} {o₂} {o₃} {o₄} {a} {b} {c} {r} l f g h i =
       let t : leb (18 * environmentsNodes (environmentsOf (checkFile file))) (length o) ≡ true = le-leb (18 * environmentsNodes (environmentsOf (checkFile file))) (length o) (omega (arith, l, count-is)) in
       let w = wrote-more (f .tells (at 0 (environmentsOf (checkFile file))) (pairs .first) (at-shaped 0 (environmentsOf (checkFile file)) shapes)) (wrote-more (g .tells (at 1 (environmentsOf (checkFile file))) (pairs .second) (at-shaped 1 (environmentsOf (checkFile file)) shapes))
-          (wrote-more (h .tells (at 2 (environmentsOf (checkFile file))) (pairs .third) (at-shaped 2 (environmentsOf (checkFile file)) shapes)) (i .tells (at 3 (environmentsOf (checkFile file))) (pairs .fourth) (at-shaped 3 (environmentsOf (checkFile file)) shapes)))) in
-      let e : r ≡ 18 * environmentsNodes (environmentsOf (checkFile file)) = omega (arith, w .next, m .0, count-is) in
-      (
+      (wrote-more (h .tells (at 2 (environmentsOf (checkFile file))) (pairs .third) (at-shaped 2 (environmentsOf (checkFile file)) shapes)) (i .tells (at 3 (environmentsOf (checkFile file))) (pairs .fourth) (at-shaped 3 (environmentsOf (checkFile file)) shapes)))) in
+      let e : r ≡ 18 * environmentsNodes (environmentsOf (checkFile file)) = omega (arith, w .next, m .0, count-is) in (
         count-is ∙ sym (ap (λ (z : Bool). pick z (environmentsNodes (environmentsOf (checkFile file))) 0) t),
         wrote-all w ∙ (ap (λ (j : ℕ). (pairBytes 0 (at 0 (environmentsOf (checkFile file))) ++ (pairBytes 1 (at 1 (environmentsOf (checkFile file))) ++ (pairBytes 2 (at 2 (environmentsOf (checkFile file))) ++ pairBytes 3 (at 3 (environmentsOf (checkFile file)))))) ++ drop j o) e
             ∙ (ap (λ (y : List ℕ). y ++ drop (18 * environmentsNodes (environmentsOf (checkFile file))) o) (sym (four-bytes (environmentsOf (checkFile file)) (few file) ∙ last))
@@ -203,4 +203,3 @@ module _ (file : List ℕ) {x : Answer} {n : ℕ} (k : (x ≡ answerOf (checkFil
       last : pairBytes 0 (at 0 (environmentsOf (checkFile file))) ++ (pairBytes 1 (at 1 (environmentsOf (checkFile file))) ++ (pairBytes 2 (at 2 (environmentsOf (checkFile file))) ++ (pairBytes 3 (at 3 (environmentsOf (checkFile file))) ++ [])))
           ≡ pairBytes 0 (at 0 (environmentsOf (checkFile file))) ++ (pairBytes 1 (at 1 (environmentsOf (checkFile file))) ++ (pairBytes 2 (at 2 (environmentsOf (checkFile file))) ++ pairBytes 3 (at 3 (environmentsOf (checkFile file)))))
       last = ap (λ (y : List ℕ). pairBytes 0 (at 0 (environmentsOf (checkFile file))) ++ (pairBytes 1 (at 1 (environmentsOf (checkFile file))) ++ (pairBytes 2 (at 2 (environmentsOf (checkFile file))) ++ y))) (append-nil (pairBytes 3 (at 3 (environmentsOf (checkFile file)))))
-

@@ -121,8 +121,8 @@ module _ (e : Environment) (q role i n : ℕ) {o : List ℕ} {w : ℕ} where
         let P = preorder [] Γ in
         let d : drop i P ≡ getD P i noEntry ∷ drop (suc i) P = drop-cons P i noEntry (omega (arith, one-less n z, k, length-preorder Γ [])) in
         let b : nodeBytes q role x ++ entryBytes q role (drop (i + 1) P) ≡ entryBytes q role (drop i P) =
-            ap (λ (y : Entry). nodeBytes q role y ++ entryBytes q role (drop (i + 1) P)) (h .tells Γ st)
-            ∙ (ap (λ (j : ℕ). nodeBytes q role (getD P i noEntry) ++ entryBytes q role (drop j P)) (add-one i) ∙ sym (ap (entryBytes q role) d)) in
+        ap (λ (y : Entry). nodeBytes q role y ++ entryBytes q role (drop (i + 1) P)) (h .tells Γ st)
+        ∙ (ap (λ (j : ℕ). nodeBytes q role (getD P i noEntry) ++ entryBytes q role (drop j P)) (add-one i) ∙ sym (ap (entryBytes q role) d)) in
         wrote-as b (omega (arith, one-less n z)) (wrote-more v (t .tells Γ st (omega (arith, one-less n z, k))));
   }
 
@@ -135,4 +135,5 @@ environment-wrote {e} {q} {role} {n} {w} {r} {o} {o₁} k t = record {
 }
 
 pub ruleset nodes-laws = (nodes-none, nodes-deep, nodes-next)
+
 pub ruleset count-laws = (count-long, count-short, count-told)

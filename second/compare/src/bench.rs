@@ -58,7 +58,7 @@ fn main() {
             print!(
                 "{:12.3}",
                 measure(|| {
-                    black_box(side.check(black_box(file)));
+                    black_box(side.verdict(black_box(file)));
                 })
             );
         }

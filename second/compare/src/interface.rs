@@ -1,65 +1,84 @@
-//! The C interface of the proved code as this program expects it. Everything that depends on its
-//! shape is here, in `proved.rs` (the declarations) and in `itself.rs` (the library behind it).
-//!
-//! ```c
-//! typedef struct {
-//!     uint8_t service, client, mandatory, basic;
-//!     uint8_t length;            /* ids in path */
-//!     uint16_t path[6];
-//! } pokhveti_node;
-//!
-//! /* 0 or the refusal's number; *place; the nodes of accepted files, at most room, and their count. */
-//! uint32_t pokhveti_check(const uint8_t *file, size_t length, uint32_t *place,
-//!                         pokhveti_node *nodes, size_t room, size_t *count);
-//!
-//! /* The length of the part; *start is 0 for the empty part. */
-//! size_t pokhveti_part(const uint8_t *message, size_t length, const uint16_t ids[4], size_t *start);
-//! ```
+//! The C interface of the proved code, include/pokhveti.h. Everything that depends on its shape is
+//! here, in `proved.rs` (the declarations) and in `itself.rs` (the library behind it).
 
 use std::ops::Range;
 
 use crate::{Answer, AnswerNode};
 
-#[repr(C)]
-#[derive(Clone, Copy, Default)]
-pub struct Node {
-    pub service: u8,
-    pub client: u8,
-    pub mandatory: u8,
-    pub basic: u8,
-    pub length: u8,
-    pub path: [u16; 6],
+/// Bytes of a node's record.
+pub const RECORD: usize = 18;
+
+/// Room for four services with two environments of 48 nodes each.
+pub const ROOM: usize = 4 * 2 * 48 * RECORD;
+
+/// What a lent buffer holds before a call, to see what the call leaves alone.
+const UNTOUCHED: u8 = 0xa5;
+
+/// The functions of the interface.
+pub struct Interface {
+    pub check: unsafe extern "C" fn(*const u8, usize, *mut usize) -> u32,
+    pub environments: unsafe extern "C" fn(*const u8, usize, *mut u8, usize) -> usize,
+    pub part: unsafe extern "C" fn(*const u8, usize, u16, u16, u16, u16, *mut usize) -> usize,
 }
 
-/// Four services, two environments of 48 nodes each.
-pub const ROOM: usize = 4 * 2 * 48;
+impl Interface {
+    /// Number and place.
+    pub fn verdict(&self, file: &[u8]) -> (u32, usize) {
+        let mut place = usize::MAX;
+        // SAFETY: the file is readable for its length, the place is writable.
+        let number = unsafe { (self.check)(file.as_ptr(), file.len(), &mut place) };
+        (number, place)
+    }
 
-pub type Check = unsafe extern "C" fn(*const u8, usize, *mut u32, *mut Node, usize, *mut usize) -> u32;
-pub type Part = unsafe extern "C" fn(*const u8, usize, *const u16, *mut usize) -> usize;
+    /// How many nodes were written to the lent buffer.
+    fn list(&self, file: &[u8], nodes: &mut [u8]) -> usize {
+        // SAFETY: the file is readable for its length, the buffer is writable for its.
+        unsafe { (self.environments)(file.as_ptr(), file.len(), nodes.as_mut_ptr(), nodes.len()) }
+    }
 
-/// Calls a check function of this interface.
-pub fn call_check(check: Check, file: &[u8]) -> Answer {
-    let mut place = 0;
-    let mut nodes = [Node::default(); ROOM];
-    let mut count = 0;
-    // SAFETY: the file is readable for its length, the others are writable for theirs.
-    let number = unsafe { check(file.as_ptr(), file.len(), &mut place, nodes.as_mut_ptr(), ROOM, &mut count) };
-    assert!(count <= ROOM, "{count} nodes are more than {ROOM}");
-    let nodes = nodes[..count].iter().map(|node| AnswerNode {
-        service: node.service,
-        client: node.client != 0,
-        mandatory: node.mandatory != 0,
-        basic: node.basic,
-        path: node.path,
-        length: node.length,
-    });
-    Answer { number, place, nodes: nodes.collect() }
+    /// The whole answer. Panics if a lent buffer is changed where it is to be left as it was.
+    pub fn check(&self, file: &[u8]) -> Answer {
+        let (number, place) = self.verdict(file);
+        let mut room = [UNTOUCHED; ROOM];
+        let count = self.list(file, &mut room);
+        assert!(count * RECORD <= ROOM, "{count} nodes are more than there can be");
+        let (written, rest) = room.split_at(count * RECORD);
+        assert!(rest.iter().all(|byte| *byte == UNTOUCHED), "bytes past the {count} nodes were changed");
+        let nodes = written.chunks(RECORD).map(node).collect();
+        if count > 0 {
+            let mut short = vec![UNTOUCHED; count * RECORD - 1];
+            assert_eq!(self.list(file, &mut short), 0, "{} bytes hold {count} nodes", short.len());
+            assert!(short.iter().all(|byte| *byte == UNTOUCHED), "a buffer that is too small was changed");
+        }
+        Answer { number, place, nodes }
+    }
+
+    pub fn part(&self, message: &[u8], ids: [u16; 4]) -> Range<usize> {
+        let mut start = usize::MAX;
+        let [a, b, c, d] = ids;
+        // SAFETY: the message is readable for its length, the start is writable.
+        let length = unsafe { (self.part)(message.as_ptr(), message.len(), a, b, c, d, &mut start) };
+        start..start + length
+    }
 }
 
-/// Calls a part function of this interface.
-pub fn call_part(part: Part, message: &[u8], ids: [u16; 4]) -> Range<usize> {
-    let mut start = 0;
-    // SAFETY: the message is readable for its length, there are four ids.
-    let length = unsafe { part(message.as_ptr(), message.len(), ids.as_ptr(), &mut start) };
-    start..start + length
+fn node(record: &[u8]) -> AnswerNode {
+    AnswerNode {
+        service: record[0],
+        client: record[1] != 0,
+        mandatory: record[2] != 0,
+        basic: record[3],
+        length: record[4],
+        path: std::array::from_fn(|step| u16::from_le_bytes([record[6 + 2 * step], record[7 + 2 * step]])),
+    }
+}
+
+/// A node's record.
+pub fn record(node: &AnswerNode) -> [u8; RECORD] {
+    let mut record = [0; RECORD];
+    record[..5].copy_from_slice(&[node.service, node.client.into(), node.mandatory.into(), node.basic, node.length]);
+    for (to, id) in record[6..].chunks_mut(2).zip(node.path) {
+        to.copy_from_slice(&id.to_le_bytes());
+    }
+    record
 }

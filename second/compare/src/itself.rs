@@ -3,46 +3,42 @@
 use std::ops::Range;
 use std::slice;
 
-use crate::interface::{call_check, call_part, Node};
+use crate::interface::{record, Interface, RECORD};
 use crate::{Answer, Second, Side};
 
-/// # Safety
-/// The pointers are good for the lengths beside them.
-pub unsafe extern "C" fn check(
-    file: *const u8,
-    length: usize,
-    place: *mut u32,
-    nodes: *mut Node,
-    room: usize,
-    count: *mut usize,
-) -> u32 {
+unsafe extern "C" fn check(file: *const u8, length: usize, place: *mut usize) -> u32 {
     let answer = Second.check(unsafe { slice::from_raw_parts(file, length) });
-    let nodes = unsafe { slice::from_raw_parts_mut(nodes, room) };
-    for (to, from) in nodes.iter_mut().zip(&answer.nodes) {
-        *to = Node {
-            service: from.service,
-            client: from.client.into(),
-            mandatory: from.mandatory.into(),
-            basic: from.basic,
-            length: from.length,
-            path: from.path,
-        };
-    }
-    unsafe {
-        *place = answer.place;
-        *count = answer.nodes.len();
-    }
+    unsafe { *place = answer.place };
     answer.number
 }
 
-/// # Safety
-/// The message is good for its length, and there are four ids.
-pub unsafe extern "C" fn part(message: *const u8, length: usize, ids: *const u16, start: *mut usize) -> usize {
-    let ids = unsafe { slice::from_raw_parts(ids, 4) };
-    let part = Second.part(unsafe { slice::from_raw_parts(message, length) }, [ids[0], ids[1], ids[2], ids[3]]);
+unsafe extern "C" fn environments(file: *const u8, length: usize, nodes: *mut u8, room: usize) -> usize {
+    let answer = Second.check(unsafe { slice::from_raw_parts(file, length) });
+    if room < answer.nodes.len() * RECORD {
+        return 0;
+    }
+    let nodes = unsafe { slice::from_raw_parts_mut(nodes, room) };
+    for (to, from) in nodes.chunks_mut(RECORD).zip(&answer.nodes) {
+        to.copy_from_slice(&record(from));
+    }
+    answer.nodes.len()
+}
+
+unsafe extern "C" fn part(
+    message: *const u8,
+    length: usize,
+    first: u16,
+    second: u16,
+    third: u16,
+    fourth: u16,
+    start: *mut usize,
+) -> usize {
+    let part = Second.part(unsafe { slice::from_raw_parts(message, length) }, [first, second, third, fourth]);
     unsafe { *start = part.start };
     part.len()
 }
+
+const INTERFACE: Interface = Interface { check, environments, part };
 
 pub struct Itself;
 
@@ -51,11 +47,15 @@ impl Side for Itself {
         "itself"
     }
 
+    fn verdict(&self, file: &[u8]) -> (u32, usize) {
+        INTERFACE.verdict(file)
+    }
+
     fn check(&self, file: &[u8]) -> Answer {
-        call_check(check, file)
+        INTERFACE.check(file)
     }
 
     fn part(&self, message: &[u8], ids: [u16; 4]) -> Range<usize> {
-        call_part(part, message, ids)
+        INTERFACE.part(message, ids)
     }
 }

@@ -26,7 +26,7 @@ pub struct AnswerNode {
 pub struct Answer {
     /// 0 for accepted.
     pub number: u32,
-    pub place: u32,
+    pub place: usize,
     pub nodes: Vec<AnswerNode>,
 }
 
@@ -49,6 +49,8 @@ impl fmt::Display for Answer {
 /// One side of a comparison.
 pub trait Side {
     fn name(&self) -> &'static str;
+    /// Number and place alone.
+    fn verdict(&self, file: &[u8]) -> (u32, usize);
     fn check(&self, file: &[u8]) -> Answer;
     fn part(&self, message: &[u8], ids: [u16; 4]) -> Range<usize>;
 }
@@ -61,10 +63,17 @@ impl Side for Second {
         "second"
     }
 
+    fn verdict(&self, file: &[u8]) -> (u32, usize) {
+        match second::check(file) {
+            Ok(_) => (0, 0),
+            Err(refusal) => (refusal.number.into(), refusal.place),
+        }
+    }
+
     fn check(&self, file: &[u8]) -> Answer {
         match second::check(file) {
             Ok(services) => Answer { number: 0, place: 0, nodes: nodes(&services) },
-            Err(refusal) => Answer { number: refusal.number.into(), place: refusal.place as u32, nodes: Vec::new() },
+            Err(refusal) => Answer { number: refusal.number.into(), place: refusal.place, nodes: Vec::new() },
         }
     }
 
@@ -120,6 +129,10 @@ mod tests {
     impl Side for Wrong {
         fn name(&self) -> &'static str {
             "wrong"
+        }
+
+        fn verdict(&self, file: &[u8]) -> (u32, usize) {
+            Second.verdict(file)
         }
 
         fn check(&self, file: &[u8]) -> Answer {

@@ -2,20 +2,25 @@
 
 use std::ops::Range;
 
-use crate::interface::{call_check, call_part, Node};
+use crate::interface::Interface;
 use crate::{Answer, Side};
 
 extern "C" {
-    fn pokhveti_check(
-        file: *const u8,
+    fn pokhveti_check(file: *const u8, length: usize, place: *mut usize) -> u32;
+    fn pokhveti_environments(file: *const u8, length: usize, nodes: *mut u8, room: usize) -> usize;
+    fn pokhveti_part(
+        message: *const u8,
         length: usize,
-        place: *mut u32,
-        nodes: *mut Node,
-        room: usize,
-        count: *mut usize,
-    ) -> u32;
-    fn pokhveti_part(message: *const u8, length: usize, ids: *const u16, start: *mut usize) -> usize;
+        first: u16,
+        second: u16,
+        third: u16,
+        fourth: u16,
+        start: *mut usize,
+    ) -> usize;
 }
+
+const INTERFACE: Interface =
+    Interface { check: pokhveti_check, environments: pokhveti_environments, part: pokhveti_part };
 
 pub struct Proved;
 
@@ -24,11 +29,15 @@ impl Side for Proved {
         "proved"
     }
 
+    fn verdict(&self, file: &[u8]) -> (u32, usize) {
+        INTERFACE.verdict(file)
+    }
+
     fn check(&self, file: &[u8]) -> Answer {
-        call_check(pokhveti_check, file)
+        INTERFACE.check(file)
     }
 
     fn part(&self, message: &[u8], ids: [u16; 4]) -> Range<usize> {
-        call_part(pokhveti_part, message, ids)
+        INTERFACE.part(message, ids)
     }
 }
