@@ -84,18 +84,16 @@ client-none file q r k e = record {
       ∙ ap (λ (t : Bool). pick t none (some (behaviourOf file (clientRow file q)))) (eq-eqb (clientRow file q) noRow (sym k ∙ e)))));
 }
 
-pub client-new : (file : List ℕ) (q r i : ℕ) {s s₁ s₂ s₃ : List ℕ} → r ≡ clientRow file q → (r ≡ 65535 → ⊥) → q < 4 → i ≡ q → s₁ ≡ set s (16384 * i) 1
-    → s₂ ≡ set s₁ (16384 * i + 2) 5 → s₃ ≡ set s₂ (16384 * i + 18) 6 → Starts file q s s₃
+pub client-new : (file : List ℕ) (q r i : ℕ) {s s₁ : List ℕ} → r ≡ clientRow file q → (r ≡ 65535 → ⊥) → q < 4 → i ≡ q
+    → s₁ ≡ set (set (set s (16384 * i) 1) (16384 * i + 2) 5) (16384 * i + 18) 6 → Starts file q s s₁
 unfolding serviceOf
-client-new file q r i {s} {s₁} {s₂} {s₃} k e m d t₁ t₂ t₃ = record {
+client-new file q r i {s} {s₁} k e m d t = record {
   tells = λ w l h.
       let N = networkOf file in
       let c = client-is file q l
       ∙ ap (λ (u : Bool). pick u none (some (behaviourOf file (clientRow file q)))) (ne-eqb (clientRow file q) noRow (λ i. e (k ∙ i))) in
       let at = 16384 * i in
       let p : 16384 * i ≡ 4096 * (4 * q + 0) = omega (arith, d) in
-      let t : s₃ ≡ set (set (set s at 1) (at + 2) 5) (at + 18) 6 =
-      t₃ ∙ (ap (λ (x : List ℕ). set x (at + 18) 6) t₂ ∙ ap (λ (x : List ℕ). set (set x (at + 2) 5) (at + 18) 6) t₁) in
       let g : freshUpTo N q q 0 ≡ free = ap (λ (u : Bool). pick u (freshState N q 0) free) (below q) in
       let b = start-bytes (fresh-sized N q) q 0 m (omega arith) g in
       let v : set (set (set s at 1) (at + 2) 5) (at + 18) 6

@@ -1,7 +1,7 @@
 // Fresh state, written for accepted files. 01: "Fresh state: written for accepted files; clients live in session 0, all else free."
 ghost use mathlib.Core.Path.{_≡_};
 ghost use Prim.Native.Nat.{_+_, _≤_, _<_};
-ghost use lib.ListN.{length, set};
+ghost use lib.ListN.{length};
 ghost use Rattle.state.specs.Bytes.{zeros};
 ghost use Rattle.moves.specs.Fresh as definition;
 ghost use Rattle.fresh_state.specs.Starting.{Starts, StartsFrom};
@@ -20,13 +20,6 @@ fn clear(state: &mut [u8])
     }
 }
 
-fn put(state: &mut [u8], at: usize, x: u8)
-    requires { ⌜ at < length (now state) ⌝ }
-    ensures { λ _. ⌜ now (state .exit) ≡ set (now (state .entry)) at x ⌝ }
-{
-    state[at] = x;
-}
-
 // Starts the client of service q, if it has one: session 0, which was free, becomes new.
 fn start_client(file: &[u8], q: u16, state: &mut [u8])
     requires { ⌜ (q < 4) × (length (now state) ≡ 65536) ⌝ }
@@ -35,10 +28,7 @@ fn start_client(file: &[u8], q: u16, state: &mut [u8])
     if rows::client_row(file, q) == 65535 {
         return;
     }
-    let at = 16384 * wire::index(q);
-    put(state, at, 1);
-    put(state, at + 2, 5);
-    put(state, at + 18, 6);
+    slots::begin(state, 16384 * wire::index(q));
 }
 
 // Starts the clients of the n services from q on.

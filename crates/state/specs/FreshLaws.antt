@@ -65,7 +65,7 @@ store-part s at l k v h i =
     let c = drop (at + length l) s in
     rw (length-set l k v) (sym (set-past (take at s) (l ++ c) at k v (length-take-le at s h) ∙ ap (λ (x : List ℕ). take at s ++ x) (set-append-left l c k v i)))
 
-part-back : (s : List ℕ) (at n : ℕ) → at + n ≤ length s → withPart s at (part s at n) ≡ s
+pub part-back : (s : List ℕ) (at n : ℕ) → at + n ≤ length s → withPart s at (part s at n) ≡ s
 part-back s at n h =
     rw (length-part s at n h, ← drop-drop n at s, take-append-drop n (drop at s), take-append-drop at s)
 

@@ -5,8 +5,8 @@ use Rattle.fresh_state.proofs.start_client.Statement.{statement}
 use Rattle.fresh_state.proofs.start_client.Tie as tie
 use Rattle.fresh_state.proofs.start_client.Reads as reads
 use Rattle.fresh_state.proofs.start_client.Lts as lts
-use Rattle.fresh_state.proofs.put.Reads as put-reads
 use Rattle.rows.proofs.client_row.Reads as client-row-reads
+use Rattle.slots.proofs.begin.Reads as begin-reads
 use Rattle.wire.proofs.index.Reads as index-reads
 
 client-row-requires : tie.Need-client-row-requires
@@ -18,31 +18,19 @@ returns c = client-none (c .before .before .before .before .args .file .now) (c 
 index-requires : tie.Need-index-requires
 index-requires c κs = search needs
 
-mul-at : tie.Need-mul-at
-mul-at c = search needs
+mul-begin : tie.Need-mul-begin
+mul-begin c = search needs
 
-put-requires : tie.Need-put-requires
-put-requires c κs = search needs
-
-add-put : tie.Need-add-put
-add-put c = search needs
-
-put-requires-2 : tie.Need-put-requires-2
-put-requires-2 c κs = search needs
-
-add-put-2 : tie.Need-add-put-2
-add-put-2 c = search needs
-
-put-requires-3 : tie.Need-put-requires-3
-put-requires-3 c κs = search needs
+begin-requires : tie.Need-begin-requires
+begin-requires c κs = search needs
 
 same-length : tie.Need-same-length
 same-length c = search needs
 
 returns-2 : tie.Need-returns-2
 returns-2 c =
-    client-new (c .before .before .before .before .before .before .before .before .before .before .before .before .before .before .before .before .before .args .file .now) (c .before .before .before .before .before .before .before .before .before .before .before .before .before .before .before .before .before .args .q) _ (c .before .before .before .before .before .before .before .before .before .before .before .before .index .result) (c .before .before .before .before .before .before .before .before .before .before .before .before .before .before .client-row .ensures) (c .before .before .before .before .before .before .before .before .before .before .before .before .before .if1 .left) (c .before .before .before .before .before .before .before .before .before .before .before .before .before .before .before .before .before .pre .0)
-    (c .before .before .before .before .before .before .before .before .before .before .before .before .index .ensures .0) (c .before .before .before .before .before .before .before .before .before .before .put .ensures) (c .before .before .before .before .before .before .put2 .ensures) (c .before .before .put3 .ensures)
+    client-new (c .before .before .before .before .before .before .before .before .before .args .file .now) (c .before .before .before .before .before .before .before .before .before .args .q) _ (c .before .before .before .index .result) (c .before .before .before .before .before .before .client-row .ensures) (c .before .before .before .before .before .if1 .left) (c .before .before .before .before .before .before .before .before .before .pre .0)
+    (c .before .before .before .index .ensures .0) (c .before .before .begin .ensures)
 
 pub start-client-spec : {M : Type 1} → statement M
 start-client-spec =
@@ -51,11 +39,7 @@ start-client-spec =
     client-row-requires
     returns
     index-requires
-    mul-at
-    put-requires
-    add-put
-    put-requires-2
-    add-put-2
-    put-requires-3
+    mul-begin
+    begin-requires
     same-length
     returns-2)
