@@ -1,15 +1,20 @@
 -- Bytes that were stored, said as a part that is replaced.
 use mathlib.Core.Path.{_≡_, refl, sym, ap, _∙_}
 use mathlib.Core.List.{List, [], _∷_, _++_}
+use mathlib.Core.Bool.{Bool}
 use Prim.Native.Nat.{ℕ, zero, suc, _+_, _-_, _*_, _/_, _%_, _≤_, _<_}
 use native.Mathlib.Omega.{arith}
+use lib.Dec.{leb}
+use borrow.Author.Tests.{le-leb, lt-leb}
 use lib.ListN.{length, take, drop, set, replicate, length-take}
-use Rattle.wire.specs.Wire.{withPart, putU16}
+use Rattle.wire.specs.Wire.{u16At, part, withPart, putU16}
+use Rattle.scalar.specs.Value.{pick}
 use Rattle.scalar.specs.Operator.{littleEndian}
 use Rattle.scalar.specs.NumberLaws.{put-16}
 use Rattle.tree_edit.specs.Wrote.{stored}
 use Rattle.state.specs.Bytes.{zeros, padded, u16Bytes}
 use Rattle.state.specs.PartLaws.{length-zeros, length-padded}
+use Rattle.slots.specs.Slots.{treeIn}
 
 pub begin-sets : (s : List ℕ) (at : ℕ) {s₁ s₂ s₃ : List ℕ} → s₁ ≡ set s at 1 → s₂ ≡ set s₁ (at + 2) 5 → s₃ ≡ set s₂ (at + 18) 6 → s₃ ≡ set (set (set s at 1) (at + 2) 5) (at + 18) 6
 begin-sets s at a b c = c ∙ (ap (λ (x : List ℕ). set x (at + 18) 6) b ∙ ap (λ (x : List ℕ). set (set x (at + 2) 5) (at + 18) 6) a)
@@ -39,3 +44,17 @@ tree-bytes s src slot n {s₁} {s₂} {i} h a k b =
     a ∙ (put-16 s (slot + 2) n (omega (arith, h .1)) (omega (arith, h .0)) ∙ ap (λ (y : ℕ). withPart s (slot + 2) (n % 256 ∷ y ∷ [])) z) in
     b ∙ (ap (λ (j : ℕ). stored s₁ (slot + 16) 1024 src j) k ∙ (store-padded s₁ (slot + 16) 1024 src n (h .1) (h .2)
     ∙ ap (λ (x : List ℕ). withPart x (slot + 16) (padded 1024 (take n src))) u))
+
+-- ---- the tree's bytes
+
+module _ (s : List ℕ) (at : ℕ) {u i : ℕ} (a : u ≡ u16At s (at + 2)) (b : i ≡ u) where
+  pub tree-none : 1024 < i → take (0 - 0) (drop 0 s) ≡ treeIn s at
+  unfolding treeIn
+  tree-none l = sym (ap (λ (t : Bool). pick t (part s (at + 16) (u16At s (at + 2))) []) (lt-leb (u16At s (at + 2)) 1024 (omega (arith, a, b, l))))
+
+  pub tree-found : i ≤ 1024 → take (at + 16 + i - (at + 16)) (drop (at + 16) s) ≡ treeIn s at
+  unfolding treeIn
+  tree-found l =
+      let e : at + 16 + i - (at + 16) ≡ u16At s (at + 2) = omega (arith, a, b) in
+      ap (λ (n : ℕ). take n (drop (at + 16) s)) e
+      ∙ sym (ap (λ (t : Bool). pick t (part s (at + 16) (u16At s (at + 2))) []) (le-leb (u16At s (at + 2)) 1024 (omega (arith, a, b, l))))

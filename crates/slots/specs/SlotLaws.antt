@@ -1,22 +1,27 @@
 -- Which session a slot holds after a change of some of its bytes.
 use mathlib.Core.Path.{_≡_, refl, sym, ap, subst, _∙_}
 use mathlib.Core.List.{List, [], _∷_, _++_}
+use mathlib.Core.Bool.{Bool}
 use Prim.Native.Nat.{ℕ, _+_, _-_, _*_, _≤_, _<_}
 use native.Mathlib.Nat.{add-zero}
 use native.Mathlib.Omega.{arith}
-use lib.ListN.{length, set, length-set}
+use lib.ListN.{length, drop, set, length-set, take-append-drop}
+use lib.Dec.{leb}
+use borrow.Author.Tests.{le-leb}
 use Rattle.forest.specs.Forest.{Forest}
-use Rattle.scalar.specs.Value.{Value}
-use Rattle.wire.specs.Wire.{part, withPart}
+use Rattle.scalar.specs.Value.{Value, pick}
+use Rattle.wire.specs.Wire.{u16At, part, withPart}
 use Rattle.wire.specs.WireLaws.{length-withPart}
 use Rattle.syntax.specs.Syntax.{Network}
 use Rattle.state.specs.Session.{Progress, advance, Session, Slot, free, live, State, setSlot, newSession}
-use Rattle.state.specs.Bytes.{u16Bytes, padded, progressBytes, treeBytes, slotBytes, stateBytes}
+use Rattle.state.specs.Bytes.{zeros, u16Bytes, padded, progressBytes, treeBytes, slotBytes, stateBytes}
 use Rattle.state.specs.Shape.{WellMade, MadeSlot, HasShape, Stands}
-use Rattle.state.specs.SizeLaws.{slot-size, progress-size, made-fits, shape-sized, sized-length}
-use Rattle.state.specs.PartLaws.{length-padded, replace-within, replace-both, replace-again, part-replaced}
+use Rattle.state.specs.SizeLaws.{slot-size, session-tree-size, progress-size, made-fits, shape-sized, sized-length}
+use Rattle.state.specs.PartLaws.{Holds, holds-first, holds-part, length-padded, replace-within, replace-both, replace-again, part-replaced}
+use Rattle.state.specs.ReadLaws.{slot-parts}
 use Rattle.state.specs.FreshLaws.{store-part, part-back, new-stores}
 use Rattle.state.specs.ChangeLaws.{set-bytes, slot-part, change-tree, change-row}
+use Rattle.slots.specs.Slots.{treeIn}
 
 -- The slot that starts at `at` holds the live session S.
 pub record Living (s : List ℕ) (at : ℕ) (S : Session) : Type 0 where
@@ -84,3 +89,20 @@ pub stands-set : {N : Network} {rows : ℕ} {s : List ℕ} {G : State} → Stand
     → withPart s (4096 * (4 * q + n)) (slotBytes x) ≡ stateBytes (setSlot G q n x)
 stands-set {N} {rows} {s} {G} h q n x i j m =
     ap (λ (t : List ℕ). withPart t (4096 * (4 * q + n)) (slotBytes x)) (h .bytes) ∙ sym (set-bytes (shape-sized (h .shape)) q n x (slot-size x m) i j)
+
+-- ---- reading
+
+pub living-holds : {s : List ℕ} {at : ℕ} {S : Session} → Living s at S → Holds s at (slotBytes (live S))
+living-holds {s} {at} {S} h = record {
+  after = drop 4096 (drop at s);
+  bytes = sym (take-append-drop 4096 (drop at s)) ∙ ap (λ (x : List ℕ). x ++ drop 4096 (drop at s)) (h .bytes);
+}
+
+pub living-tree : {s : List ℕ} {at : ℕ} {S : Session} → Living s at S → treeIn s at ≡ treeBytes (S .tree)
+unfolding treeIn
+living-tree {s} {at} {S} h =
+    let p = slot-parts S (made-fits (h .made)) (living-holds h) in
+    let t = treeBytes (S .tree) in
+    let l : length t ≤ 1013 = session-tree-size (S .tree) (h .made .bounded) in
+    ap (λ (b : Bool). pick b (part s (at + 16) (u16At s (at + 2))) []) (le-leb (u16At s (at + 2)) 1024 (omega (arith, p .size, l)))
+    ∙ (ap (part s (at + 16)) (p .size) ∙ holds-part (holds-first t (zeros (1024 - length t)) (p .tree)) (length t) refl)

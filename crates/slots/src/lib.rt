@@ -5,6 +5,7 @@ ghost use Prim.Native.Nat.{_+_, _≤_, _<_};
 ghost use lib.ListN.{length, take, set};
 ghost use Rattle.wire.specs.Wire.{withPart};
 ghost use Rattle.state.specs.Bytes.{u16Bytes, padded, zeros};
+ghost use Rattle.slots.specs.Slots.{treeIn};
 
 fn put(state: &mut [u8], at: usize, x: u8)
     requires { ⌜ at < length (now state) ⌝ }
@@ -38,4 +39,18 @@ pub fn put_tree(state: &mut [u8], slot: usize, tree: &[u8], n: u16)
 {
     wire::put_u16(state, slot + 2, n);
     tree_edit::store(state, slot + 16, 1024, tree, wire::index(n));
+}
+
+// The bytes of the tree of the session in the slot.
+pub fn tree_of(state: &[u8], slot: usize) -> &[u8]
+    requires { ⌜ slot + 4096 ≤ length (now state) ⌝ }
+    ensures { λ r. ⌜ now r ≡ treeIn (now (state .entry)) slot ⌝ }
+{
+    let n = wire::index(wire::u16_at(state, slot + 2));
+    if 1024 < n {
+        return &state[0..0];
+    }
+    let start = slot + 16;
+    let end = start + n;
+    &state[start..end]
 }
