@@ -1,0 +1,153 @@
+-- Changed trees of sessions, at each of the ways out of the code.
+use mathlib.Core.Path.{_≡_, refl, sym, ap, subst, _∙_}
+use mathlib.Core.Bool.{Bool, true, false, not, _&&_}
+use mathlib.Core.List.{List, [], _∷_}
+use Prim.Native.Nat.{ℕ, _+_, _≤_, _<_}
+use native.Mathlib.Omega.{arith}
+use lib.ListN.{length, take, length-take}
+use lib.Dec.{leb}
+use borrow.Author.Tests.{le-leb}
+use Rattle.forest.specs.Forest.{Forest, end, Tree, tree, Lookup, absent, present, nodes, levels}
+use Rattle.forest.specs.Path.{replaceAt, setPayloadAt}
+use Rattle.scalar.specs.Value.{Value, value, pick}
+use Rattle.tree.specs.Encode.{encode, rooted, WellFormed, Encodes, empty, messageDeep, messageMany, treeDeep, treeMany}
+use Rattle.tree.specs.Decode.{decode, isPresent, isTree}
+use Rattle.tree.specs.DecodeLaws.{decode-complete, encodes-up}
+use Rattle.tree.specs.Ids.{isPath, pathOf}
+use Rattle.tree_edit.specs.Limited as limited
+use Rattle.tree_edit.specs.declared.Grown.{Grown}
+use Rattle.typing.specs.Environment.{within}
+use Rattle.state.specs.Session.{Session, live}
+use Rattle.state.specs.Bytes.{treeBytes, messageBytes}
+use Rattle.state.specs.SizeLaws.{message-size, session-tree-size}
+use Rattle.moves.specs.Moves.{voidValue}
+use Rattle.slots.specs.Slots.{treeIn}
+use Rattle.slots.specs.SlotLaws.{Living, living-tree}
+use Rattle.session_trees.specs.declared.Change.{Change}
+use Rattle.session_trees.specs.Changing.{KeptTree, ChangedTo, Replaces, Assigns, changeOf, Kept}
+
+-- ---- the writer's answer
+
+pub grown-long : {v : Grown} {n : ℕ} → v ≡ Grown.Within n → 1024 < n → Kept v Change.TooLarge
+grown-long {v} {n} e l = record { tells = subst (λ (y : Grown). changeOf y Change.TooLarge) (sym e) l }
+
+pub grown-within : {v : Grown} {n k : ℕ} → v ≡ Grown.Within n → k ≡ n → Kept v (Change.Kept k)
+grown-within {v} {n} {k} e h = record { tells = subst (λ (y : Grown). changeOf y (Change.Kept k)) (sym e) h }
+
+pub grown-past : {v : Grown} {n : ℕ} → v ≡ Grown.Past n → Kept v Change.TooLarge
+grown-past {v} e = record { tells = subst (λ (y : Grown). changeOf y Change.TooLarge) (sym e) tt }
+
+-- ---- what is known of the tree in the slot
+
+session-encodes : {s t : List ℕ} {slot : ℕ} {S : Session} → t ≡ treeIn s slot → Living s slot S → Encodes treeDeep treeMany t (tree empty (S .tree))
+session-encodes e h = record { bytes = e ∙ living-tree h; good = h .made .bounded }
+
+session-short : {s t : List ℕ} {slot : ℕ} {S : Session} → t ≡ treeIn s slot → Living s slot S → length t ≤ 1013
+session-short {S = S} e h = omega (arith, ap length (e ∙ living-tree h), session-tree-size (S .tree) (h .made .bounded))
+
+message-short : (m : List ℕ) (t : Tree Value) → Encodes messageDeep messageMany m t → length m ≤ 336
+message-short m t h = omega (arith, ap length (h .bytes), message-size t (h .good))
+
+is-tree : (deep many : ℕ) (s : List ℕ) (t : Tree Value) → Encodes deep many s t → isTree deep many s ≡ true
+is-tree deep many s t e = ap (λ (l : Lookup Value). isPresent l) (decode-complete deep many s t e)
+
+unequal : {b : Bool} {A : Type 0} → b ≡ true → not b ≡ true → A
+unequal e f = absurd (let z : _≡_ {A = ℕ} 0 1 = cc in omega arith)
+
+pub told : {b c : Bool} → b ≡ c → not b ≡ false → c ≡ true
+told {b} {c} e f = sym e ∙ by b f
+  where
+    by : (b : Bool) → not b ≡ false → b ≡ true
+    by true f = refl
+    by false f = absurd (let z : _≡_ {A = ℕ} 0 1 = cc in omega arith)
+
+message-tree : (m : List ℕ) (t : Tree Value) → Encodes messageDeep messageMany m t → Encodes treeDeep treeMany m t
+message-tree m t e = encodes-up messageDeep messageMany treeDeep treeMany m t (omega arith) (omega arith) e
+
+leaf-message : (m : List ℕ) (t : Tree Value) → Encodes 0 0 m t → Encodes messageDeep messageMany m t
+leaf-message m t e = encodes-up 0 0 messageDeep messageMany m t (omega arith) (omega arith) e
+
+-- ---- the changed tree
+
+swapped : (a b : Bool) → (a && b) ≡ false → (b && a) ≡ false
+swapped true true e = e
+swapped true false e = refl
+swapped false true e = refl
+swapped false false e = refl
+
+changed : (o o′ : List ℕ) (v : Grown) (x : Change) (F : Forest Value) → Kept v x → limited.Outcome o o′ v (tree empty F) → ChangedTo o′ x F
+changed o o′ v x F k h = by v x (k .tells) h
+  where
+    by : (v : Grown) (x : Change) → changeOf v x → limited.Outcome o o′ v (tree empty F) → ChangedTo o′ x F
+    by (Grown.Within r) (Change.Kept n) e h =
+        let w = h .encodes .good in
+        let z : r ≡ length (treeBytes F) = sym (h .wrote .size) in
+        let l = session-tree-size F w in
+        record {
+          bytes = ap (λ (j : ℕ). take j o′) e ∙ h .encodes .bytes;
+          size = e ∙ z;
+          small = omega (arith, e, z, l);
+          room = omega (arith, e, h .wrote .fits);
+          made = w;
+          fits = ap (λ (b : Bool). b && leb (levels F) 6) (le-leb (nodes F) 48 (w .few)) ∙ le-leb (levels F) 6 (w .shallow);
+        }
+    by (Grown.Within r) Change.TooLarge e h =
+        let z : r ≡ length (treeBytes F) = sym (h .wrote .size) in
+        absurd (omega (arith, e, z, session-tree-size F (h .encodes .good)))
+    by (Grown.Past r) (Change.Kept n) e h = absurd e
+    by (Grown.Past r) Change.TooLarge e h = swapped (leb (levels F) treeDeep) (leb (nodes F) treeMany) (h .large)
+
+-- ---- `replace`
+
+module _ (s : List ℕ) (slot : ℕ) (ids m : List ℕ) {t : List ℕ} (e : t ≡ treeIn s slot) where
+  pub replace-long : {o : List ℕ} → 1024 < length t → Replaces s slot ids m o Change.TooLarge
+  replace-long l = record { tells = λ S u h p c. absurd (omega (arith, l, session-short e h)) }
+
+  pub replace-message : {o : List ℕ} → 1024 < length m → Replaces s slot ids m o Change.TooLarge
+  replace-message l = record { tells = λ S u h p c. absurd (omega (arith, l, message-short m u c)) }
+
+  pub replace-path : {o : List ℕ} {b : Bool} → b ≡ isPath ids → not b ≡ true → Replaces s slot ids m o Change.TooLarge
+  replace-path k n = record { tells = λ S u h p c. unequal (k ∙ p) n }
+
+  pub replace-tree : {o : List ℕ} {b : Bool} → b ≡ isTree 6 48 t → not b ≡ true → Replaces s slot ids m o Change.TooLarge
+  replace-tree k n = record { tells = λ S u h p c. unequal (k ∙ is-tree treeDeep treeMany t _ (session-encodes e h)) n }
+
+  pub replace-no-message : {o : List ℕ} {b : Bool} → b ≡ isTree 6 48 m → not b ≡ true → Replaces s slot ids m o Change.TooLarge
+  replace-no-message k n = record { tells = λ S u h p c. unequal (k ∙ is-tree treeDeep treeMany m u (message-tree m u c)) n }
+
+  pub replace-done : {o o′ : List ℕ} {v : Grown} {x : Change} → limited.PutOutcome false ids t m o o′ v → Kept v x → Replaces s slot ids m o′ x
+  replace-done {o} {o′} {v} {x} w k = record {
+    tells = λ S u h p c.
+        changed o o′ v x (replaceAt voidValue (pathOf ids) u (S .tree)) k
+        (w .tells empty (S .tree) u (decode-complete treeDeep treeMany t _ (session-encodes e h)) (decode-complete treeDeep treeMany m u (message-tree m u c)));
+  }
+
+  -- ---- `assign`
+
+  pub assign-long : {o : List ℕ} → 1024 < length t → Assigns s slot ids m o Change.TooLarge
+  assign-long l = record { tells = λ S u h p c. absurd (omega (arith, l, session-short e h)) }
+
+  pub assign-value : {o : List ℕ} → 1024 < length m → Assigns s slot ids m o Change.TooLarge
+  assign-value l = record { tells = λ S u h p c. absurd (omega (arith, l, message-short m (tree u end) (leaf-message m (tree u end) c))) }
+
+  pub assign-path : {o : List ℕ} {b : Bool} → b ≡ isPath ids → not b ≡ true → Assigns s slot ids m o Change.TooLarge
+  assign-path k n = record { tells = λ S u h p c. unequal (k ∙ p) n }
+
+  pub assign-tree : {o : List ℕ} {b : Bool} → b ≡ isTree 6 48 t → not b ≡ true → Assigns s slot ids m o Change.TooLarge
+  assign-tree k n = record { tells = λ S u h p c. unequal (k ∙ is-tree treeDeep treeMany t _ (session-encodes e h)) n }
+
+  pub assign-no-value : {o : List ℕ} {b : Bool} → b ≡ isTree 0 0 m → not b ≡ true → Assigns s slot ids m o Change.TooLarge
+  assign-no-value k n = record { tells = λ S u h p c. unequal (k ∙ is-tree 0 0 m (tree u end) c) n }
+
+  pub assign-done : {o o′ : List ℕ} {v : Grown} {x : Change} → limited.SetOutcome ids t m o o′ v → Kept v x → Assigns s slot ids m o′ x
+  assign-done {o} {o′} {v} {x} w k = record {
+    tells = λ S u h p c.
+        changed o o′ v x (setPayloadAt voidValue (pathOf ids) u (S .tree)) k
+        (w .tells empty (S .tree) u (decode-complete treeDeep treeMany t _ (session-encodes e h)) (decode-complete 0 0 m (tree u end) c));
+  }
+
+pub ruleset grown-laws = (grown-long, grown-within, grown-past)
+
+pub ruleset replace-laws = (replace-long, replace-message, replace-path, replace-tree, replace-no-message, replace-done)
+
+pub ruleset assign-laws = (assign-long, assign-value, assign-path, assign-tree, assign-no-value, assign-done)
