@@ -1,0 +1,4 @@
+pub mod PartLaws
+pub mod ValueLaws
+pub mod EvaluationLaws
+pub mod WritingLaws

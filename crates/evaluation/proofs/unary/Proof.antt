@@ -1,0 +1,39 @@
+use Rattle.evaluation.proofs.ValueLaws.{operand-laws}
+use borrow.Author.Needs.{needs}
+use Rattle.evaluation.proofs.unary.Statement.{statement}
+use Rattle.evaluation.proofs.unary.Tie as tie
+use Rattle.evaluation.proofs.unary.Reads as reads
+use Rattle.evaluation.proofs.unary.Lts as lts
+use Rattle.evaluation.proofs.computed.Reads as computed-reads
+use Rattle.evaluation.proofs.is_stuck.Reads as is-stuck-reads
+use Rattle.evaluation.proofs.stuck.Reads as stuck-reads
+use Rattle.evaluation.proofs.unary_value.Reads as unary-value-reads
+
+is-stuck-requires : tie.Need-is-stuck-requires
+is-stuck-requires c κs = search needs
+
+stuck-requires : tie.Need-stuck-requires
+stuck-requires c κs = search needs
+
+returns : tie.Need-returns
+returns c = search operand-laws depth 12
+
+unary-value-requires : tie.Need-unary-value-requires
+unary-value-requires c κs = search needs
+
+computed-requires : tie.Need-computed-requires
+computed-requires c κs = search needs
+
+returns-2 : tie.Need-returns-2
+returns-2 c = search operand-laws depth 12
+
+pub unary-spec : {M : Type 1} → statement M
+unary-spec =
+    tie.close
+    (tie.spec
+    is-stuck-requires
+    stuck-requires
+    returns
+    unary-value-requires
+    computed-requires
+    returns-2)

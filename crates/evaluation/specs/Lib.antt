@@ -1,0 +1,6 @@
+pub mod Parts
+pub mod Evaluated
+pub mod Condition
+pub mod ConditionLaws
+pub mod Writing
+pub mod WritingLaws

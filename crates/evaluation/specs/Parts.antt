@@ -1,0 +1,35 @@
+-- E rows by their parts. 01, E: "0 constant (basic; a start in D, b length), 1 path a, 2 is path a present, 3 not, 4 negate, 5 add,
+-- 6 subtract, 7 less, 8 equal, 9 and. Operands a, b are earlier rows." A row with an operand that is no earlier row is broken.
+use mathlib.Core.List.{List}
+use mathlib.Core.Bool.{_&&_}
+use Prim.Native.Nat.{ℕ}
+use lib.Dec.{ltb}
+use Rattle.scalar.specs.Value.{pick}
+use Rattle.rows.specs.declared.ExpressionRow.{ExpressionRow}
+use Rattle.rows.specs.Readers.{expressionRowOf}
+use Rattle.expressions.specs.declared.UnaryOperator.{UnaryOperator}
+use Rattle.expressions.specs.declared.BinaryOperator.{BinaryOperator}
+use Rattle.evaluation.specs.declared.Part.{Part}
+
+-- An operator in row r: "Operands a, b are earlier rows."
+unfoldable pub unaryPart : UnaryOperator → ℕ → ℕ → Part
+unaryPart o a r = pick (ltb a r) (Part.Unary o a) Part.Broken
+
+unfoldable pub binaryPart : BinaryOperator → ℕ → ℕ → ℕ → Part
+binaryPart o a b r = pick (ltb a r && ltb b r) (Part.Binary o a b) Part.Broken
+
+abbrev pub partAs : ℕ → ExpressionRow → Part
+partAs r (ExpressionRow.Constant basic v n) = Part.Constant basic v n
+partAs r (ExpressionRow.ValueAt a) = Part.ValueAt a
+partAs r (ExpressionRow.Presence a) = Part.Presence a
+partAs r (ExpressionRow.Not a) = unaryPart UnaryOperator.Not a r
+partAs r (ExpressionRow.Negate a) = unaryPart UnaryOperator.Negate a r
+partAs r (ExpressionRow.Add a b) = binaryPart BinaryOperator.Add a b r
+partAs r (ExpressionRow.Subtract a b) = binaryPart BinaryOperator.Subtract a b r
+partAs r (ExpressionRow.Less a b) = binaryPart BinaryOperator.Less a b r
+partAs r (ExpressionRow.Equal a b) = binaryPart BinaryOperator.Equal a b r
+partAs r (ExpressionRow.And a b) = binaryPart BinaryOperator.And a b r
+partAs r ExpressionRow.Unknown = Part.Broken
+
+unfoldable pub partOf : List ℕ → ℕ → Part
+partOf s r = partAs r (expressionRowOf s r)

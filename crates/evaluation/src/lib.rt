@@ -1,0 +1,354 @@
+// The value of an expression, given by its E row, in a session's tree. Operands are earlier rows: the row number falls, so the walk ends
+// on any bytes.
+ghost use mathlib.Core.Path.{_≡_};
+ghost use Prim.Native.Nat.{_≤_};
+ghost use lib.ListN.{length};
+ghost use Rattle.scalar.specs.Scalar.{answerOf, valueOf};
+ghost use Rattle.scalar.specs.NumberLaws.{Sound};
+ghost use Rattle.scalar.specs.Operator.{ofBool};
+ghost use Rattle.syntax.specs.Syntax.{none, some};
+ghost use Rattle.expressions.specs.Parts.{unaryOf, binaryOf};
+ghost use Rattle.moves.specs.Evaluation.{answered, applyUnary, applyBinary};
+ghost use Rattle.network.specs.Layout.{dataPart};
+ghost use Rattle.evaluation.specs.Parts.{unaryPart, binaryPart, partAs, partOf};
+ghost use Rattle.evaluation.specs.Condition.{truthOf, conditionOf};
+ghost use Rattle.evaluation.specs.Writing.{WritesLeaf, WritesTree, Writes};
+ghost use Rattle.evaluation.specs.Evaluated.{isStuck, literal, unaryOn, binaryOn, Computes, StandsAt, Reads, Presents, Evaluates};
+use expressions::BinaryOperator;
+use expressions::UnaryOperator;
+use layout::both;
+use layout::either;
+use rows::ExpressionRow;
+use scalar::Computed;
+use scalar::Operand;
+use scalar::Scalar;
+
+// Where the value of an expression is: a tree at a place of the session's tree, or a value alone; or it is missing or of the wrong kind.
+pub enum Source {
+    At(usize),
+    Alone,
+    Stuck,
+}
+
+// What evaluation answers. The root value stands beside its source; where it is stuck it is void.
+pub struct Evaluated {
+    pub source: Source,
+    pub root: Operand,
+}
+
+// What a condition says, or that it is missing or no bool.
+pub enum Decision {
+    True,
+    False,
+    Stuck,
+}
+
+// An E row by its parts: a constant's basic type, start in D and length, a path, or an operator over earlier rows.
+enum Part {
+    Constant(u8, u16, u16),
+    ValueAt(u16),
+    Presence(u16),
+    Unary(UnaryOperator, u16),
+    Binary(BinaryOperator, u16, u16),
+    Broken,
+}
+
+fn unary_part(o: UnaryOperator, a: u16, r: u16) -> Part
+    ensures { λ x. ⌜ x ≡ unaryPart o a r ⌝ }
+{
+    if a < r {
+        return Part::Unary(o, a);
+    }
+    Part::Broken
+}
+
+fn binary_part(o: BinaryOperator, a: u16, b: u16, r: u16) -> Part
+    ensures { λ x. ⌜ x ≡ binaryPart o a b r ⌝ }
+{
+    if both(a < r, b < r) {
+        return Part::Binary(o, a, b);
+    }
+    Part::Broken
+}
+
+fn part_as(row: ExpressionRow, r: u16) -> Part
+    ensures { λ x. ⌜ x ≡ partAs r row ⌝ }
+{
+    match row {
+        ExpressionRow::Constant(b, v, n) => Part::Constant(b, v, n),
+        ExpressionRow::ValueAt(p) => Part::ValueAt(p),
+        ExpressionRow::Presence(p) => Part::Presence(p),
+        ExpressionRow::Not(a) => unary_part(UnaryOperator::Not, a, r),
+        ExpressionRow::Negate(a) => unary_part(UnaryOperator::Negate, a, r),
+        ExpressionRow::Add(a, b) => binary_part(BinaryOperator::Add, a, b, r),
+        ExpressionRow::Subtract(a, b) => binary_part(BinaryOperator::Subtract, a, b, r),
+        ExpressionRow::Less(a, b) => binary_part(BinaryOperator::Less, a, b, r),
+        ExpressionRow::Equal(a, b) => binary_part(BinaryOperator::Equal, a, b, r),
+        ExpressionRow::And(a, b) => binary_part(BinaryOperator::And, a, b, r),
+        ExpressionRow::Unknown => Part::Broken,
+    }
+}
+
+fn part_of(file: &[u8], r: u16) -> Part
+    ensures { λ x. ⌜ x ≡ partOf (now (file .entry)) r ⌝ }
+{
+    part_as(rows::expression_row(file, r), r)
+}
+
+fn is_stuck(p: Source) -> bool
+    ensures { λ t. ⌜ t ≡ isStuck p ⌝ }
+{
+    match p {
+        Source::At(_) => false,
+        Source::Alone => false,
+        Source::Stuck => true,
+    }
+}
+
+// "A value read is missing, an operand .. is of the wrong kind"
+fn stuck() -> Evaluated
+    ensures { λ x. ⌜ Computes x none ⌝ }
+{
+    let v = scalar::plain(Scalar::Void);
+    Evaluated {
+        source: Source::Stuck,
+        root: v,
+    }
+}
+
+fn alone(v: Operand) -> Evaluated
+    ensures { λ x. ⌜ Computes x (some (valueOf v)) ⌝ }
+{
+    Evaluated {
+        source: Source::Alone,
+        root: v,
+    }
+}
+
+// Presence "gives bool".
+fn flag(p: bool) -> Evaluated
+    ensures { λ x. ⌜ Computes x (some (ofBool p)) ⌝ }
+{
+    alone(scalar::plain(Scalar::Bool(p)))
+}
+
+// What an operator gives.
+fn computed(c: Computed) -> Evaluated
+    ensures { λ x. ⌜ Computes x (answered (answerOf c)) ⌝ }
+{
+    match c {
+        Computed::Wrong => stuck(),
+        Computed::Gives(v) => alone(scalar::plain(v)),
+    }
+}
+
+fn unary_value(o: UnaryOperator, v: Operand) -> Computed
+    ensures { λ c. ⌜ answered (answerOf c) ≡ applyUnary (unaryOf o) (valueOf v) ⌝ }
+{
+    match o {
+        UnaryOperator::Not => scalar::logical_not(v),
+        UnaryOperator::Negate => scalar::negate(v),
+    }
+}
+
+fn binary_value(o: BinaryOperator, v: Operand, w: Operand) -> Computed
+    ensures { λ c. ⌜ answered (answerOf c) ≡ applyBinary (binaryOf o) (valueOf v) (valueOf w) ⌝ }
+{
+    match o {
+        BinaryOperator::Add => scalar::add(v, w),
+        BinaryOperator::Subtract => scalar::subtract(v, w),
+        BinaryOperator::Less => scalar::less(v, w),
+        BinaryOperator::Equal => scalar::equal(v, w),
+        BinaryOperator::And => scalar::logical_and(v, w),
+    }
+}
+
+// An operator on an operand's root value.
+fn unary(o: UnaryOperator, x: Evaluated) -> Evaluated
+    ensures { λ z. ⌜ Computes z (unaryOn o x) ⌝ }
+{
+    let p = x.source;
+    let v = x.root;
+    if is_stuck(p) {
+        return stuck();
+    }
+    computed(unary_value(o, v))
+}
+
+fn binary(o: BinaryOperator, x: Evaluated, y: Evaluated) -> Evaluated
+    ensures { λ z. ⌜ Computes z (binaryOn o x y) ⌝ }
+{
+    let p = x.source;
+    let q = y.source;
+    let v = x.root;
+    let w = y.root;
+    if either(is_stuck(p), is_stuck(q)) {
+        return stuck();
+    }
+    computed(binary_value(o, v, w))
+}
+
+// The constant of the basic type b in the n bytes of D from v on.
+fn constant(file: &[u8], b: u8, v: u16, n: u16) -> Evaluated
+    ensures { λ x. ⌜ Computes x (literal b (dataPart (now (file .entry)) v n)) ⌝ }
+{
+    let at = layout::data_start(file) + wire::index(v);
+    let from = layout::smaller(at, file.len());
+    let len = layout::smaller(wire::index(n), file.len() - from);
+    if scalar::value_ok(file, from, b, len) {
+        return alone(scalar::read(file, from, b, len));
+    }
+    stuck()
+}
+
+// The tree that stands at a place, with its root value.
+fn tree_at(s: &[u8], at: usize) -> Evaluated
+    ensures { λ x. ⌜ StandsAt (now (s .entry)) at x ⌝ }
+{
+    let tree::Head::Node(_, b, _, mid) = tree::head_at(s, at) else {
+        return stuck();
+    };
+    let v = scalar::read(s, at + 5, b, mid - at - 5);
+    Evaluated {
+        source: Source::At(at),
+        root: v,
+    }
+}
+
+// "A path expression has the tree there"
+fn value_at(file: &[u8], s: &[u8], p: u16) -> Evaluated
+    ensures { λ x. ⌜ Reads (now (file .entry)) (now (s .entry)) p x ⌝ }
+{
+    let tree::Found::At(at) = tree::follow(s, rows::path_row(file, p)) else {
+        return stuck();
+    };
+    tree_at(s, at)
+}
+
+fn presence(file: &[u8], s: &[u8], p: u16) -> Evaluated
+    ensures { λ x. ⌜ Presents (now (file .entry)) (now (s .entry)) p x ⌝ }
+{
+    let tree::Found::At(_) = tree::follow(s, rows::path_row(file, p)) else {
+        return flag(false);
+    };
+    flag(true)
+}
+
+// The value of E row r in the session's tree s. "both operands are worked out"
+pub fn evaluate(file: &[u8], s: &[u8], r: u16) -> Evaluated
+    ensures { λ x. ⌜ Evaluates (now (file .entry)) (now (s .entry)) r x ⌝ }
+{
+    match part_of(file, r) {
+        Part::Constant(b, v, n) => constant(file, b, v, n),
+        Part::ValueAt(p) => value_at(file, s, p),
+        Part::Presence(p) => presence(file, s, p),
+        Part::Unary(o, a) => {
+            let x = evaluate(file, s, a);
+            unary(o, x)
+        }
+        Part::Binary(o, a, b) => {
+            let x = evaluate(file, s, a);
+            let y = evaluate(file, s, b);
+            binary(o, x, y)
+        }
+        Part::Broken => stuck(),
+    }
+}
+
+// What a value says as a condition.
+fn truth(v: Operand) -> Decision
+    ensures { λ c. ⌜ c ≡ truthOf (valueOf v) ⌝ }
+{
+    let k = v.scalar;
+    match k {
+        Scalar::Bool(p) => {
+            if p {
+                return Decision::True;
+            }
+            Decision::False
+        }
+        Scalar::Int(_) => Decision::Stuck,
+        Scalar::Double(_) => Decision::Stuck,
+        Scalar::Long(_) => Decision::Stuck,
+        Scalar::String => Decision::Stuck,
+        Scalar::Raw => Decision::Stuck,
+        Scalar::Void => Decision::Stuck,
+    }
+}
+
+// The condition of an if or a while: "as an operand its root value counts", and so here.
+pub fn condition(x: Evaluated) -> Decision
+    ensures { λ c. ⌜ c ≡ conditionOf x ⌝ }
+{
+    let p = x.source;
+    let v = x.root;
+    if is_stuck(p) {
+        return Decision::Stuck;
+    }
+    truth(v)
+}
+
+// The basic type of a value.
+fn basic_of(v: Operand) -> u8
+    ensures { λ b. ⌜ Sound b (valueOf v) ⌝ }
+{
+    let k = v.scalar;
+    match k {
+        Scalar::Bool(_) => 0,
+        Scalar::Int(_) => 1,
+        Scalar::Double(_x) => 2,
+        Scalar::Long(_) => 3,
+        Scalar::String => 4,
+        Scalar::Raw => 5,
+        Scalar::Void => 6,
+    }
+}
+
+// Writes the message of a value alone to the start of out, and gives its length.
+pub fn write_leaf(out: &mut [u8], v: Operand) -> usize
+    requires { ⌜ 21 ≤ length (now out) ⌝ }
+    ensures { λ r. ⌜ WritesLeaf v (now (out .entry)) (now (out .exit)) r ⌝ }
+{
+    let b = basic_of(v);
+    let mut bytes = [0u8; 16];
+    let n = scalar::write(&mut bytes, 0, v);
+    tree::octets(&bytes[..n]);
+    tree_edit::leaf(out, 0, b, &bytes[..n])
+}
+
+// Writes the tree that stands at a place to the start of out as a tree alone, and gives its length.
+fn write_tree(out: &mut [u8], s: &[u8], at: usize) -> usize
+    requires { ⌜ 1024 ≤ length (now out) ⌝ }
+    ensures { λ r. ⌜ WritesTree (now (s .entry)) at (now (out .entry)) (now (out .exit)) r ⌝ }
+{
+    let end = tree::extent(s, at);
+    if s.len() < end {
+        return 0;
+    }
+    if end < at {
+        return 0;
+    }
+    let n = end - at;
+    if n < 2 {
+        return 0;
+    }
+    if out.len() < n {
+        return 0;
+    }
+    let a = tree_edit::push_id(out, 0, 0);
+    tree_edit::append(out, a, s, at + 2, n - 2)
+}
+
+// Writes what evaluation in the session's tree s gave to the start of out as a tree alone, and gives its length.
+pub fn write_value(out: &mut [u8], s: &[u8], x: Evaluated) -> usize
+    requires { ⌜ 1024 ≤ length (now out) ⌝ }
+    ensures { λ r. ⌜ Writes (now (s .entry)) x (now (out .entry)) (now (out .exit)) r ⌝ }
+{
+    let p = x.source;
+    let v = x.root;
+    match p {
+        Source::At(at) => write_tree(out, s, at),
+        Source::Alone => write_leaf(out, v),
+        Source::Stuck => 0,
+    }
+}

@@ -1,0 +1,264 @@
+-- Laws of the form of a state's bytes: one for each way out of the functions.
+use mathlib.Core.Path.{_≡_, refl, sym, ap, _∙_}
+use mathlib.Core.List.{List, [], _∷_}
+use mathlib.Core.Bool.{Bool, true, false, not, _&&_, _||_}
+use Prim.Native.Nat.{ℕ, zero, suc, _+_, _-_, _*_, _≤_, _<_, min}
+use native.Mathlib.Omega.{arith}
+use native.Mathlib.Decide.{decLt}
+use lib.ListN.{length, take, drop, length-drop}
+use lib.Seq.{take-all}
+use lib.Dec.{eqb, leb}
+use borrow.Author.Tests.{eq-eqb, ne-eqb, le-leb, lt-leb, not-true, not-false}
+use Rattle.scalar.specs.Value.{pick}
+use Rattle.wire.specs.Wire.{byteAt, u16At, part}
+use Rattle.wire.specs.WireLaws.{byte-past}
+use Rattle.tree.specs.Decode.{isMessage, isSessionTree}
+use Rattle.state.specs.Form.{allZero, progressForm, rowsForm, entryForm, queueForm, treeForm, liveForm, slotForm}
+use Rattle.state_form.specs.Parts.{destinationForm, headForm}
+
+-- ---- zeros
+
+-- The bytes from `at` to i are 0.
+pub record Clear (s : List ℕ) (at n i : ℕ) : Type 0 where
+  pub low : at ≤ i
+  pub high : i ≤ at + n
+  pub same : allZero s at n ≡ allZero s i (at + n - i)
+
+pub clear-none : (s : List ℕ) (at n : ℕ) → Clear s at n at
+clear-none s at n = let e : n ≡ at + n - at = omega arith in record { low = omega arith; high = omega arith; same = ap (allZero s at) e }
+
+zero-past : (s : List ℕ) (at n : ℕ) → length s ≤ at → allZero s at n ≡ true
+unfolding allZero
+zero-past s at zero h = refl
+zero-past s at (suc n) h = rw (byte-past s at h, zero-past s (at + 1) n (omega arith))
+
+module _ (s : List ℕ) (at n i e : ℕ) (c : Clear s at n i) (f : e ≡ min (at + n) (length s)) where
+  one-more : i < e → allZero s at n ≡ (eqb (byteAt s i) 0 && allZero s (i + 1) (at + n - (i + 1)))
+  unfolding allZero
+  one-more h = let d : at + n - i ≡ suc (at + n - (i + 1)) = omega arith in c .same ∙ rw d
+
+  pub clear-next : i < e → byteAt s i ≡ 0 → Clear s at n (i + 1)
+  clear-next h z = record { low = omega (arith, c .low); high = omega arith; same = one-more h ∙ rw (eq-eqb (byteAt s i) 0 z) }
+
+  pub not-clear : i < e → (byteAt s i ≡ 0 → ⊥) → false ≡ allZero s at n
+  not-clear h z = sym (one-more h ∙ rw (ne-eqb (byteAt s i) 0 z))
+
+  pub all-clear : e ≤ i → true ≡ allZero s at n
+  unfolding allZero
+  all-clear h = sym (c .same ∙ by (at + n - i) refl)
+    where
+      by : (m : ℕ) → at + n - i ≡ m → allZero s i m ≡ true
+      by zero g = refl
+      by (suc m) g = zero-past s i (suc m) (omega (arith, c .high))
+
+pub ruleset zero-laws = (not-clear, all-clear)
+
+pub ruleset zero-again-laws = (clear-next)
+
+-- ---- a part
+
+nothing-past : (s : List ℕ) (at : ℕ) → length s ≤ at → drop at s ≡ []
+nothing-past s at h = empty (drop at s) (omega (arith, length-drop at s))
+  where
+    empty : (l : List ℕ) → length l ≡ 0 → l ≡ []
+    empty [] e = refl
+    empty (a ∷ l) e = absurd (omega arith)
+
+pub no-part : (s : List ℕ) (at n : ℕ) → length s ≤ at → [] ≡ part s at n
+no-part s at n h = sym (ap (take n) (nothing-past s at h) ∙ take-all n [] (omega arith))
+
+pub cut-part : (s : List ℕ) (at n e : ℕ) → at < length s → e ≡ min (at + n) (length s) → take (e - at) (drop at s) ≡ part s at n
+cut-part s at n e h f = by (decLt (at + n) (length s))
+  where
+    by : Dec (at + n < length s) → take (e - at) (drop at s) ≡ take n (drop at s)
+    by (yes l) = let d : e - at ≡ n = omega arith in rw d
+    by (no l) = take-all (e - at) (drop at s) (omega (arith, length-drop at s)) ∙ sym (take-all n (drop at s) (omega (arith, length-drop at s)))
+
+pub ruleset part-laws = (no-part, cut-part)
+
+-- ---- a row's progress
+
+module _ (s : List ℕ) (at k : ℕ) (e : k ≡ byteAt s at) where
+  pub form-taken : (r : Bool) → k ≡ 3 → r ≡ allZero s (at + 2) 4 → r ≡ progressForm s at
+  unfolding progressForm
+  form-taken r f g = g ∙ rw (sym e ∙ f)
+
+  pub form-received : (t : Bool) (b : ℕ) → (k ≡ 3 → ⊥) → t ≡ (eqb k 4 || eqb k 5) → t ≡ true → b ≡ byteAt s (at + 1) → eqb b 0 ≡ progressForm s at
+  unfolding progressForm
+  form-received t b f g h i = rw (sym e, ne-eqb k 3 f, sym g ∙ h, i)
+
+  pub form-unknown : (t : Bool) → (k ≡ 3 → ⊥) → t ≡ (eqb k 4 || eqb k 5) → t ≡ false → 6 < k → false ≡ progressForm s at
+  unfolding progressForm
+  form-unknown t f g h i = rw (sym e, ne-eqb k 3 f, sym g ∙ h, lt-leb k 6 i)
+
+  pub form-plain : (t r : Bool) → (k ≡ 3 → ⊥) → t ≡ (eqb k 4 || eqb k 5) → t ≡ false → k ≤ 6 → r ≡ allZero s (at + 1) 5 → r ≡ progressForm s at
+  unfolding progressForm
+  form-plain t r f g h i j = j ∙ rw (sym e, ne-eqb k 3 f, sym g ∙ h, le-leb k 6 i)
+
+pub ruleset progress-laws = (form-taken, form-received, form-unknown, form-plain)
+
+-- ---- rows
+
+-- The rows before `place` have the form, and m are left.
+pub record RowsLeft (s : List ℕ) (at n place m : ℕ) : Type 0 where
+  pub bound : place + 6 * m ≡ at + 6 * n
+  pub same : rowsForm s at n ≡ rowsForm s place m
+
+pub rows-all : (s : List ℕ) (at n : ℕ) → RowsLeft s at n at n
+rows-all s at n = record { bound = refl; same = refl }
+
+one-less : (m : ℕ) → 0 < m → m ≡ suc (m - 1)
+one-less m h = omega arith
+
+module _ (s : List ℕ) (at n place m : ℕ) (c : RowsLeft s at n place m) where
+  row-more : 0 < m → rowsForm s at n ≡ (progressForm s place && rowsForm s (place + 6) (m - 1))
+  unfolding rowsForm
+  row-more h = c .same ∙ ap (rowsForm s place) (one-less m h)
+
+  pub rows-next : (x : Bool) → 0 < m → x ≡ progressForm s place → not x ≡ false → RowsLeft s at n (place + 6) (m - 1)
+  rows-next x h e f = record { bound = omega (arith, c .bound); same = row-more h ∙ rw (sym e ∙ not-false x f) }
+
+  pub rows-not : (x : Bool) → 0 < m → x ≡ progressForm s place → not x ≡ true → false ≡ rowsForm s at n
+  rows-not x h e f = sym (row-more h ∙ rw (sym e ∙ not-true x f))
+
+  pub rows-done : m ≤ 0 → true ≡ rowsForm s at n
+  unfolding rowsForm
+  rows-done h = let z : m ≡ 0 = omega arith in sym (c .same ∙ ap (rowsForm s place) z)
+
+pub ruleset rows-laws = (rows-not, rows-done)
+
+pub ruleset rows-again-laws = (rows-next)
+
+-- ---- an entry of the queue
+
+module _ (s : List ℕ) (at k : ℕ) (e : k ≡ byteAt s (at + 1)) where
+  pub destination-nobody : (r : Bool) → k ≡ 0 → r ≡ allZero s (at + 4) 4 → r ≡ destinationForm s at
+  unfolding destinationForm
+  destination-nobody r f g = g ∙ rw (sym e ∙ f)
+
+  pub destination-some : (k ≡ 0 → ⊥) → leb k 2 ≡ destinationForm s at
+  unfolding destinationForm
+  destination-some f = rw (sym e, ne-eqb k 0 f) (sym (and-true (leb k 2)))
+    where
+      and-true : (t : Bool) → (t && true) ≡ t
+      and-true true = refl
+      and-true false = refl
+
+pub ruleset destination-laws = (destination-nobody, destination-some)
+
+module _ (s : List ℕ) (at : ℕ) (t : Bool) (d : t ≡ destinationForm s at) where
+  pub entry-no-destination : not t ≡ true → false ≡ entryForm s at
+  unfolding entryForm destinationForm
+  entry-no-destination e = rw (sym d ∙ not-true t e)
+
+  module _ (e : not t ≡ false) (v w : ℕ) (f : v ≡ u16At s (at + 2)) (g : w ≡ v) where
+    entry-rest : entryForm s at ≡ (leb w 336 && (isMessage (part s (at + 8) w) && allZero s (at + 8 + w) (336 - w)))
+    unfolding entryForm destinationForm
+    entry-rest = rw (sym d ∙ not-false t e, sym f, g)
+
+    pub entry-long : 336 < w → false ≡ entryForm s at
+    entry-long h = sym (entry-rest ∙ rw (lt-leb w 336 h))
+
+    module _ (h : w ≤ 336) (l : List ℕ) (p : l ≡ part s (at + 8) w) (x : Bool) (y : x ≡ isMessage l) where
+      pub entry-no-message : not x ≡ true → false ≡ entryForm s at
+      entry-no-message i = sym (entry-rest ∙ rw (le-leb w 336 h, sym p, sym y ∙ not-true x i))
+
+      pub entry-padded : (r : Bool) → not x ≡ false → r ≡ allZero s (at + 8 + w) (336 - w) → r ≡ entryForm s at
+      entry-padded r i j = j ∙ sym (entry-rest ∙ rw (le-leb w 336 h, sym p, sym y ∙ not-false x i))
+
+pub ruleset entry-laws = (entry-no-destination, entry-long, entry-no-message, entry-padded)
+
+-- ---- the queue
+
+-- The entries before `place` are used and have the form, and m are left.
+pub record EntriesLeft (s : List ℕ) (at n place m : ℕ) : Type 0 where
+  pub bound : place + 344 * m ≡ at + 344 * n
+  pub same : queueForm s at n ≡ queueForm s place m
+
+pub entries-all : (s : List ℕ) (at n : ℕ) → EntriesLeft s at n at n
+entries-all s at n = record { bound = refl; same = refl }
+
+module _ (s : List ℕ) (at n place m : ℕ) (c : EntriesLeft s at n place m) where
+  entry-more : 0 < m → queueForm s at n
+      ≡ pick (eqb (byteAt s place) 0) (allZero s place (344 * m)) (entryForm s place && queueForm s (place + 344) (m - 1))
+  unfolding queueForm
+  entry-more h = c .same ∙ (ap (queueForm s place) (one-less m h) ∙ rw (sym (one-less m h)))
+
+  module _ (b : ℕ) (h : 0 < m) (e : b ≡ byteAt s place) where
+    pub queue-unused : (r : Bool) → b ≡ 0 → r ≡ allZero s place (344 * m) → r ≡ queueForm s at n
+    queue-unused r f g = g ∙ sym (entry-more h ∙ rw (sym e ∙ f))
+
+    pub entries-next : (x : Bool) → (b ≡ 0 → ⊥) → x ≡ entryForm s place → not x ≡ false → EntriesLeft s at n (place + 344) (m - 1)
+    entries-next x f g i = record {
+      bound = omega (arith, c .bound);
+      same = entry-more h ∙ rw (sym e, ne-eqb b 0 f, sym g ∙ not-false x i);
+    }
+
+    pub queue-not : (x : Bool) → (b ≡ 0 → ⊥) → x ≡ entryForm s place → not x ≡ true → false ≡ queueForm s at n
+    queue-not x f g i = sym (entry-more h ∙ rw (sym e, ne-eqb b 0 f, sym g ∙ not-true x i))
+
+  pub queue-full : m ≤ 0 → true ≡ queueForm s at n
+  unfolding queueForm
+  queue-full h = let z : m ≡ 0 = omega arith in sym (c .same ∙ ap (queueForm s place) z)
+
+pub ruleset queue-laws = (queue-unused, queue-not, queue-full)
+
+pub ruleset queue-again-laws = (entries-next)
+
+-- ---- a slot
+
+module _ (s : List ℕ) (at v w : ℕ) (f : v ≡ u16At s (at + 2)) (g : w ≡ v) where
+  tree-rest : treeForm s at ≡ (leb w 1024 && (isSessionTree (part s (at + 16) w) && allZero s (at + 16 + w) (1024 - w)))
+  unfolding treeForm
+  tree-rest = rw (sym f, g)
+
+  pub tree-long : 1024 < w → false ≡ treeForm s at
+  tree-long h = sym (tree-rest ∙ rw (lt-leb w 1024 h))
+
+  module _ (h : w ≤ 1024) (l : List ℕ) (p : l ≡ part s (at + 16) w) (x : Bool) (y : x ≡ isSessionTree l) where
+    pub tree-not : not x ≡ true → false ≡ treeForm s at
+    tree-not i = sym (tree-rest ∙ rw (le-leb w 1024 h, sym p, sym y ∙ not-true x i))
+
+    pub tree-padded : (r : Bool) → not x ≡ false → r ≡ allZero s (at + 16 + w) (1024 - w) → r ≡ treeForm s at
+    tree-padded r i j = j ∙ sym (tree-rest ∙ rw (le-leb w 1024 h, sym p, sym y ∙ not-false x i))
+
+pub ruleset tree-laws = (tree-long, tree-not, tree-padded)
+
+pub head-is : (s : List ℕ) (at a b : ℕ) (x y z u r : Bool) → a ≡ byteAt s at → b ≡ byteAt s (at + 1) → x ≡ (eqb a 1 && eqb b 0) → y ≡ allZero s (at + 4) 12
+    → z ≡ treeForm s at → u ≡ (y && z) → r ≡ (x && u) → r ≡ headForm s at
+unfolding headForm
+head-is s at a b x y z u r e f g h i j k = k ∙ rw (g, j, h, i, e, f)
+
+pub ruleset head-laws = (head-is)
+
+module _ (s : List ℕ) (at : ℕ) (x : Bool) (e : x ≡ headForm s at) where
+  pub live-no-head : not x ≡ true → false ≡ liveForm s at
+  unfolding liveForm headForm
+  live-no-head h = rw (sym e ∙ not-true x h)
+
+  module _ (h : not x ≡ false) (y : Bool) (f : y ≡ queueForm s (at + 1040) 4) where
+    pub live-no-queue : not y ≡ true → false ≡ liveForm s at
+    unfolding liveForm headForm
+    live-no-queue i = rw (sym e ∙ not-false x h, sym f ∙ not-true y i)
+
+    module _ (i : not y ≡ false) (z : Bool) (g : z ≡ rowsForm s (at + 2416) 256) where
+      pub live-no-rows : not z ≡ true → false ≡ liveForm s at
+      unfolding liveForm headForm
+      live-no-rows j = rw (sym e ∙ not-false x h, sym f ∙ not-false y i, sym g ∙ not-true z j)
+
+      pub live-kept : (r : Bool) → not z ≡ false → r ≡ allZero s (at + 3952) 144 → r ≡ liveForm s at
+      unfolding liveForm headForm
+      live-kept r j k = k ∙ rw (sym e ∙ not-false x h, sym f ∙ not-false y i, sym g ∙ not-false z j)
+
+pub ruleset live-laws = (live-no-head, live-no-queue, live-no-rows, live-kept)
+
+module _ (s : List ℕ) (at b : ℕ) (r : Bool) (e : b ≡ byteAt s at) where
+  pub slot-free : b ≡ 0 → r ≡ allZero s at 4096 → r ≡ slotForm s at
+  unfolding slotForm
+  slot-free f g = g ∙ rw (sym e ∙ f)
+
+  pub slot-live : (b ≡ 0 → ⊥) → r ≡ liveForm s at → r ≡ slotForm s at
+  unfolding slotForm
+  slot-live f g = g ∙ rw (sym e, ne-eqb b 0 f)
+
+pub ruleset slot-laws = (slot-free, slot-live)

@@ -1,0 +1,203 @@
+-- Laws of marks on rows: one for each way out of the functions.
+use Prim.Native.Nat.{ℕ, zero, suc, _+_, _-_, _*_, _<_, _≤_}
+use mathlib.Core.Path.{_≡_, refl, sym, _∙_, ap, subst}
+use mathlib.Core.List.{List}
+use mathlib.Core.Bool.{Bool, true, false, not, _||_}
+use native.Mathlib.Omega.{arith}
+use native.Mathlib.Numerals.{add-one}
+use lib.ListN.{getD, set, length, length-set, replicate, length-replicate}
+use lib.Seq.{getD-set-same, getD-set-other}
+use lib.Dec.{eqb}
+use borrow.Author.Tests.{eq-eqb, ne-eqb}
+use Rattle.forest.specs.Compare.{Compare, lt, eq, gt, compare}
+use Rattle.wire.specs.Wire.{u16At}
+use Rattle.network.specs.declared.BehaviourKind.{BehaviourKind}
+use Rattle.network.specs.Layout.{start, B, behaviourCount, behaviourAt}
+use Rattle.network.specs.Rows.{fieldA, fieldB, fieldC, fieldD, kindAt}
+use Rattle.network.specs.Decode.{branchesFrom, behaviourFrom, behaviourTo, behaviourOf}
+use Rattle.rows.specs.Readers.{behaviourRowAs, behaviourRowOf}
+use Rattle.roots.specs.declared.Subs.{Subs}
+use Rattle.roots.specs.Parts.{subsIn, subsOf}
+use Rattle.syntax.specs.Rows.{hasRow}
+use Rattle.state_rows.specs.Marks.{marked, Adds, itselfRow, rowsTo, branchRows, subRows, AddsBranches, RowsOf}
+
+-- ---- tests
+
+or-assoc : (a b c : Bool) → (a || b) || c ≡ a || (b || c)
+or-assoc true b c = refl
+or-assoc false b c = refl
+
+or-false : (a : Bool) → a ≡ a || false
+or-false true = refl
+or-false false = refl
+
+or-true : (a : Bool) → a || true ≡ true
+or-true true = refl
+or-true false = refl
+
+-- ---- marks one after another
+
+adds-as : {l o : List ℕ} (f g : ℕ → Bool) → ((i : ℕ) → f i ≡ g i) → Adds f l o → Adds g l o
+adds-as {l} {o} f g e h = record { keeps = h .keeps; adds = λ n i k. h .adds n i k ∙ ap (λ (x : Bool). marked l i || x) (e i) }
+
+adds-both : {l m o : List ℕ} (f g h : ℕ → Bool) → Adds f l m → Adds g m o → ((i : ℕ) → h i ≡ f i || g i) → Adds h l o
+adds-both {l} {m} {o} f g h x y e = record {
+  keeps = λ n. y .keeps (x .keeps n);
+  adds = λ n i k.
+      y .adds (x .keeps n) i k
+      ∙ (ap (λ (z : Bool). z || g i) (x .adds n i k) ∙ (or-assoc (marked l i) (f i) (g i) ∙ ap (λ (z : Bool). marked l i || z) (sym (e i))));
+}
+
+-- ---- one row
+
+set-marks : (l : List ℕ) (p i : ℕ) → p < length l → marked (set l p 1) i ≡ marked l i || eqb i p
+unfolding marked
+set-marks l p i h = go (compare p i)
+  where
+    go : Compare p i → not (eqb (getD (set l p 1) i 0) 0) ≡ not (eqb (getD l i 0) 0) || eqb i p
+    go (lt k) = rw (getD-set-other l p i 1 0 (λ e. omega arith), ne-eqb i p (λ e. omega arith)) (or-false (not (eqb (getD l i 0) 0)))
+    go (gt k) = rw (getD-set-other l p i 1 0 (λ e. omega arith), ne-eqb i p (λ e. omega arith)) (or-false (not (eqb (getD l i 0) 0)))
+    go (eq k) =
+        subst (λ (z : ℕ). not (eqb (getD (set l p 1) z 0) 0) ≡ not (eqb (getD l z 0) 0) || eqb z p) k
+        (rw (getD-set-same l p 1 0 h, eq-eqb p p refl) (sym (or-true (not (eqb (getD l p 0) 0)))))
+
+pub row-marked : (l : List ℕ) (r : ℕ) → r < 256 → Adds (itselfRow r) l (set l r 1)
+unfolding itselfRow
+row-marked l r h = record { keeps = λ n. length-set l r 1 ∙ n; adds = λ n i k. set-marks l r i (omega arith) }
+
+pub row-past : (l : List ℕ) (r : ℕ) → 256 ≤ r → Adds (itselfRow r) l l
+unfolding itselfRow
+row-past l r h = record { keeps = λ n. n; adds = λ n i k. rw (ne-eqb i r (λ e. omega arith)) (or-false (marked l i)) }
+
+pub ruleset mark-laws = (row-marked, row-past)
+
+-- ---- behaviours
+
+kind-parts : (s : List ℕ) (d r i : ℕ) (k : BehaviourKind) → hasRow i (behaviourFrom s (behaviourTo s d) r (behaviourAt s r) k)
+    ≡ itselfRow r i
+    || subRows s d
+    (subsIn (behaviourRowAs k (fieldA s (behaviourAt s r)) (fieldB s (behaviourAt s r)) (fieldC s (behaviourAt s r)) (fieldD s (behaviourAt s r)))) i
+unfolding behaviourFrom hasRow itselfRow subRows behaviourRowAs rowsTo branchRows
+kind-parts s d r i BehaviourKind.Nil = or-false (eqb i r)
+kind-parts s d r i BehaviourKind.OneWay = or-false (eqb i r)
+kind-parts s d r i BehaviourKind.RequestResponse = refl
+kind-parts s d r i BehaviourKind.Notification = or-false (eqb i r)
+kind-parts s d r i BehaviourKind.SolicitResponse = or-false (eqb i r)
+kind-parts s d r i BehaviourKind.If = refl
+kind-parts s d r i BehaviourKind.While = refl
+kind-parts s d r i BehaviourKind.Sequence = refl
+kind-parts s d r i BehaviourKind.Parallel = refl
+kind-parts s d r i BehaviourKind.Assign = or-false (eqb i r)
+kind-parts s d r i BehaviourKind.Choice = refl
+kind-parts s d r i BehaviourKind.Branch = or-false (eqb i r)
+kind-parts s d r i BehaviourKind.Unknown = or-false (eqb i r)
+
+row-parts : (s : List ℕ) (d r i : ℕ) → rowsTo s (suc d) r i ≡ itselfRow r i || subRows s d (subsOf s r) i
+unfolding rowsTo behaviourTo subsOf behaviourRowOf
+row-parts s d r i = kind-parts s d r i (kindAt s r)
+
+one-less : (d : ℕ) → (d ≡ 0 → ⊥) → d ≡ suc (d - 1)
+one-less zero h = absurd (h refl)
+one-less (suc d) h = omega arith
+
+subs-are : (s : List ℕ) (d r : ℕ) {x y : Subs} → (d ≡ 0 → ⊥) → x ≡ subsOf s r → x ≡ y → (i : ℕ) → rowsTo s d r i ≡ itselfRow r i || subRows s (d - 1) y i
+subs-are s d r h e f i =
+    ap (λ (z : ℕ). rowsTo s z r i) (one-less d h)
+    ∙ (row-parts s (d - 1) r i ∙ ap (λ (z : Subs). itselfRow r i || subRows s (d - 1) z i) (sym e ∙ f))
+
+module _ (s l m : List ℕ) (d r v : ℕ) (t : v ≡ r) (y : Adds (itselfRow v) l m) where
+  own : Adds (itselfRow r) l m
+  own = subst (λ (z : ℕ). Adds (itselfRow z) l m) t y
+
+  pub no-rows : d ≡ 0 → Adds (rowsTo s d r) l m
+  unfolding rowsTo behaviourTo hasRow itselfRow
+  no-rows e = subst (λ (z : ℕ). Adds (rowsTo s z r) l m) (sym e) (adds-as (itselfRow r) (rowsTo s 0 r) (λ i. refl) own)
+
+  pub no-subs : {x : Subs} → (d ≡ 0 → ⊥) → x ≡ subsOf s r → x ≡ Subs.Nothing → Adds (rowsTo s d r) l m
+  unfolding subRows
+  no-subs h e f = adds-as (itselfRow r) (rowsTo s d r) (λ i. or-false (itselfRow r i) ∙ sym (subs-are s d r h e f i)) own
+
+  pub one-sub : (o : List ℕ) {x : Subs} {a : ℕ} → (d ≡ 0 → ⊥) → x ≡ subsOf s r → x ≡ Subs.One a → Adds (rowsTo s (d - 1) a) m o → Adds (rowsTo s d r) l o
+  unfolding subRows
+  one-sub o {x} {a} h e f z = adds-both (itselfRow r) (rowsTo s (d - 1) a) (rowsTo s d r) own z (subs-are s d r h e f)
+
+  pub two-subs : (n o : List ℕ) {x : Subs} {a b : ℕ} → (d ≡ 0 → ⊥) → x ≡ subsOf s r → x ≡ Subs.Two a b → Adds (rowsTo s (d - 1) a) m n
+      → Adds (rowsTo s (d - 1) b) n o → Adds (rowsTo s d r) l o
+  unfolding subRows
+  two-subs n o {x} {a} {b} h e f z w =
+      adds-both (itselfRow r) (λ i. rowsTo s (d - 1) a i || rowsTo s (d - 1) b i) (rowsTo s d r) own
+      (adds-both (rowsTo s (d - 1) a) (rowsTo s (d - 1) b) (λ i. rowsTo s (d - 1) a i || rowsTo s (d - 1) b i) z w (λ i. refl)) (subs-are s d r h e f)
+
+  pub run-subs : (o : List ℕ) (u : ℕ) {x : Subs} {a n : ℕ} → (d ≡ 0 → ⊥) → x ≡ subsOf s r → x ≡ Subs.Run a n → u ≡ a → AddsBranches s u n (d - 1) m o
+      → Adds (rowsTo s d r) l o
+  unfolding subRows
+  run-subs o u {x} {a} {n} h e f g z =
+      adds-both (itselfRow r) (branchRows s (d - 1) a n) (rowsTo s d r) own
+      (subst (λ (q : ℕ). Adds (branchRows s (d - 1) q n) m o) g (z .adds)) (subs-are s d r h e f)
+
+pub ruleset row-laws = (no-rows, no-subs, one-sub, two-subs, run-subs)
+
+-- ---- branches
+
+module _ (s l m : List ℕ) (r n d : ℕ) (y : Adds (itselfRow r) l m) where
+  pub no-branches : n ≡ 0 → AddsBranches s r n d l m
+  unfolding branchRows branchesFrom hasRow itselfRow
+  no-branches e = record { adds = subst (λ (z : ℕ). Adds (branchRows s d r z) l m) (sym e) (adds-as (itselfRow r) (branchRows s d r 0) (λ i. refl) y) }
+
+  module _ (h : n ≡ 0 → ⊥) (v : ℕ) (p : v ≡ start s B) (a b : ℕ) (o q : List ℕ) (e : a ≡ u16At s (v + 10 * r + 2)) (x : Adds (rowsTo s d a) m o)
+      (f : b ≡ u16At s (v + 10 * r + 4)) (z : Adds (rowsTo s d b) o q) where
+    abbrev both : ℕ → Bool
+    both i = rowsTo s d (fieldA s (behaviourAt s r)) i || rowsTo s d (fieldB s (behaviourAt s r)) i
+
+    abbrev first : ℕ → Bool
+    first i = itselfRow r i || both i
+
+    place : v + 10 * r ≡ behaviourAt s r
+    unfolding behaviourAt
+    place = ap (λ (w : ℕ). w + 10 * r) p
+
+    first-adds : Adds first l q
+    first-adds =
+        let u = subst (λ (w : ℕ). Adds (rowsTo s d w) m o) (e ∙ ap (λ (w : ℕ). u16At s (w + 2)) place) x in
+        let w = subst (λ (w : ℕ). Adds (rowsTo s d w) o q) (f ∙ ap (λ (w : ℕ). u16At s (w + 4)) place) z in
+        adds-both (itselfRow r) both first y
+        (adds-both (rowsTo s d (fieldA s (behaviourAt s r))) (rowsTo s d (fieldB s (behaviourAt s r))) both u w (λ i. refl)) (λ i. refl)
+
+    pub last-branch : n ≡ 1 → AddsBranches s r n d l q
+    unfolding branchRows branchesFrom hasRow itselfRow rowsTo
+    last-branch g = record { adds = subst (λ (w : ℕ). Adds (branchRows s d r w) l q) (sym g) (adds-as first (branchRows s d r 1) (λ i. refl) first-adds) }
+
+    two-more : (n : ℕ) (i : ℕ) → branchRows s d r (suc (suc n)) i ≡ first i || branchRows s d (suc r) (suc n) i
+    unfolding branchRows branchesFrom hasRow itselfRow rowsTo
+    two-more n i = sym (or-assoc (eqb i r) (both i) (branchRows s d (suc r) (suc n) i))
+
+    more : (k : ℕ) → k ≡ n → (k ≡ 0 → ⊥) → (k ≡ 1 → ⊥) → (i : ℕ) → branchRows s d r k i ≡ first i || branchRows s d (suc r) (k - 1) i
+    more zero g h j i = absurd (h refl)
+    more (suc zero) g h j i = absurd (j refl)
+    more (suc (suc k)) g h j i = let e : suc (suc k) - 1 ≡ suc k = omega arith in two-more k i ∙ rw e
+
+    pub more-branches : (t : List ℕ) → (n ≡ 1 → ⊥) → AddsBranches s (r + 1) (n - 1) d q t → AddsBranches s r n d l t
+    more-branches t j k = record {
+      adds = adds-both first (branchRows s d (suc r) (n - 1)) (branchRows s d r n) first-adds
+          (subst (λ (w : ℕ). Adds (branchRows s d w (n - 1)) q t) (add-one r) (k .adds)) (λ i. more n refl h j i);
+    }
+
+pub ruleset branch-laws = (no-branches, last-branch, more-branches)
+
+-- ---- the whole
+
+zero-at : (n i : ℕ) → _≡_ {A = ℕ} (getD (replicate n 0) i 0) 0
+zero-at zero i = refl
+zero-at (suc n) zero = refl
+zero-at (suc n) (suc i) = zero-at n i
+
+pub all-marked : (s o : List ℕ) (n r : ℕ) → n ≡ behaviourCount s → Adds (rowsTo s n r) (replicate 256 0) o → RowsOf s r o
+unfolding behaviourOf rowsTo marked
+all-marked s o n r e h = record {
+  all = h .keeps (length-replicate {A = ℕ} 256 0);
+  rows = λ i k.
+      h .adds (length-replicate {A = ℕ} 256 0) i k
+      ∙ (ap (λ (z : ℕ). not (eqb z 0) || hasRow i (behaviourTo s n r)) (zero-at 256 i) ∙ ap (λ (d : ℕ). hasRow i (behaviourTo s d r)) e);
+}
+
+pub ruleset whole-laws = (all-marked)

@@ -1,0 +1,198 @@
+// The progress of a session's rows, which is part of refusal 14: "the progress of rows and where replies go". A row of what the session
+// runs has a progress of its kind, any other row none. Every function is exact on any bytes.
+ghost use mathlib.Core.Path.{_≡_};
+ghost use Prim.Native.Nat.{_+_, _*_, _≤_, _<_};
+ghost use Rattle.network.specs.Layout.{behaviourCount};
+ghost use Rattle.network.specs.Decode.{networkOf};
+ghost use Rattle.state.specs.Bytes.{readReply, readProgress};
+ghost use Rattle.state.specs.Shape.{isDestination};
+ghost use Rattle.state_rows.specs.Marks.{Adds, itselfRow, rowsTo, AddsBranches, RowsOf};
+ghost use Rattle.state_rows.specs.Allowed.{allowing, allowedBy, allowedAt, permits, permitted};
+use roots::Subs;
+use rows::BehaviourRow;
+
+// What progress a row can have besides undone: done, waiting for its reply, received, or one of so many parts taken.
+pub struct Allowed {
+    pub done: bool,
+    pub waits: bool,
+    pub received: bool,
+    pub parts: u16,
+}
+
+// Marks row r.
+fn mark(marks: &mut [u8; 256], r: usize)
+    ensures { λ _. ⌜ Adds (itselfRow r) (now (marks .entry)) (now (marks .exit)) ⌝ }
+{
+    if r < 256 {
+        marks[r] = 1;
+    }
+}
+
+// Marks the rows of the behaviour of B row r; so many rows are left for its sub-behaviours.
+fn mark_row(s: &[u8], marks: &mut [u8; 256], r: u16, left: u16)
+    ensures { λ _. ⌜ Adds (rowsTo (now (s .entry)) left r) (now (marks .entry)) (now (marks .exit)) ⌝ }
+{
+    mark(marks, wire::index(r));
+    if left == 0 {
+        return;
+    }
+    match roots::subs_of(s, r) {
+        Subs::Nothing => {
+            return;
+        }
+        Subs::One(a) => {
+            mark_row(s, marks, a, left - 1);
+            return;
+        }
+        Subs::Two(a, b) => {
+            mark_row(s, marks, a, left - 1);
+            mark_row(s, marks, b, left - 1);
+            return;
+        }
+        Subs::Run(first, n) => {
+            mark_branches(s, marks, wire::index(first), n, left - 1);
+            return;
+        }
+    }
+}
+
+// Marks the rows of the n branches from row r on.
+fn mark_branches(s: &[u8], marks: &mut [u8; 256], r: usize, n: u16, left: u16)
+    requires { ⌜ r + n < 200000 ⌝ }
+    ensures { λ _. ⌜ AddsBranches (now (s .entry)) r n left (now (marks .entry)) (now (marks .exit)) ⌝ }
+{
+    mark(marks, r);
+    if n == 0 {
+        return;
+    }
+    let at = layout::start(s, 3) + 10 * r;
+    mark_row(s, marks, wire::u16_at(s, at + 2), left);
+    mark_row(s, marks, wire::u16_at(s, at + 4), left);
+    if n == 1 {
+        return;
+    }
+    mark_branches(s, marks, r + 1, n - 1, left);
+}
+
+// A mark on each row of the behaviour of B row r.
+pub fn rows_of(file: &[u8], r: u16) -> [u8; 256]
+    ensures { λ x. ⌜ RowsOf (now (file .entry)) r x ⌝ }
+{
+    let mut marks = [0u8; 256];
+    mark_row(file, &mut marks, r, layout::behaviour_count(file));
+    marks
+}
+
+fn allowing(done: bool, waits: bool, received: bool, parts: u16) -> Allowed
+    ensures { λ x. ⌜ x ≡ allowing done waits received parts ⌝ }
+{
+    Allowed {
+        done: done,
+        waits: waits,
+        received: received,
+        parts: parts,
+    }
+}
+
+// What progress a row of each kind can have.
+fn allowed_by(row: BehaviourRow) -> Allowed
+    ensures { λ x. ⌜ x ≡ allowedBy row ⌝ }
+{
+    match row {
+        BehaviourRow::Nil => allowing(false, false, false, 0),
+        BehaviourRow::OneWay(_, _) => allowing(true, false, false, 0),
+        BehaviourRow::RequestResponse(_, _, _, _) => allowing(true, false, true, 0),
+        BehaviourRow::Notification(_, _) => allowing(true, false, false, 0),
+        BehaviourRow::SolicitResponse(_, _, _) => allowing(true, true, false, 0),
+        BehaviourRow::If(_, _, _) => allowing(false, false, false, 2),
+        BehaviourRow::While(_, _) => allowing(true, false, false, 1),
+        BehaviourRow::Sequence(_, _) => allowing(false, false, false, 0),
+        BehaviourRow::Parallel(_, _) => allowing(false, false, false, 0),
+        BehaviourRow::Assign(_, _) => allowing(true, false, false, 0),
+        BehaviourRow::Choice(_, n) => allowing(false, false, false, n),
+        BehaviourRow::Branch(_, _) => allowing(false, false, false, 0),
+        BehaviourRow::Unknown => allowing(false, false, false, 0),
+    }
+}
+
+// What progress row i can have in a session that runs the marked rows.
+fn allowed_at(file: &[u8], marks: &[u8; 256], i: u16) -> Allowed
+    requires { ⌜ i < 256 ⌝ }
+    ensures { λ x. ⌜ x ≡ allowedAt (now (file .entry)) (now (marks .entry)) i ⌝ }
+{
+    let k = wire::index(i);
+    if marks[k] == 0 {
+        return allowing(false, false, false, 0);
+    }
+    allowed_by(rows::behaviour_row(file, i))
+}
+
+// Is what stands at `at`, of the kind, a destination of replies in this file?
+pub fn is_destination(file: &[u8], s: &[u8], kind: u8, at: usize) -> bool
+    requires { ⌜ at + 4 ≤ 0x100000000 ⌝ }
+    ensures { λ x. ⌜ x ≡ isDestination (networkOf (now (file .entry))) (behaviourCount (now (file .entry))) (readReply (now (s .entry)) kind at) ⌝ }
+{
+    tree::octets(s);
+    if kind == 1 {
+        return true;
+    }
+    if kind != 2 {
+        return false;
+    }
+    let service = wire::byte_to_u16(wire::byte_at(s, at)) < layout::service_count(file);
+    let session = wire::byte_at(s, at + 1) <= 3;
+    let row = wire::u16_at(s, at + 2) < layout::behaviour_count(file);
+    layout::both(service, layout::both(session, row))
+}
+
+// Is the progress that stands at `at` one of those?
+fn permits(file: &[u8], s: &[u8], a: Allowed, at: usize) -> bool
+    requires { ⌜ at + 6 ≤ 0x100000000 ⌝ }
+    ensures { λ x. ⌜ x ≡ permits (networkOf (now (file .entry))) (behaviourCount (now (file .entry))) a (readProgress (now (s .entry)) at) ⌝ }
+{
+    let code = wire::byte_at(s, at);
+    if code == 1 {
+        return a.done;
+    }
+    if code == 2 {
+        return a.waits;
+    }
+    if code == 3 {
+        return wire::byte_to_u16(wire::byte_at(s, at + 1)) < a.parts;
+    }
+    if code == 4 {
+        return layout::both(a.received, is_destination(file, s, 1, at + 2));
+    }
+    if code == 5 {
+        return layout::both(a.received, is_destination(file, s, 2, at + 2));
+    }
+    code != 6
+}
+
+// Does the progress of row i suit a session that runs the marked rows?
+fn row_suits(file: &[u8], s: &[u8], marks: &[u8; 256], at: usize, i: u16) -> bool
+    requires { ⌜ (i < 256) × (at + 1536 ≤ 0x100000000) ⌝ }
+    ensures { λ x. ⌜ x ≡ permits (networkOf (now (file .entry))) (behaviourCount (now (file .entry)))
+        (allowedAt (now (file .entry)) (now (marks .entry)) i) (readProgress (now (s .entry)) (at + 6 * i)) ⌝ }
+{
+    let place = at + 6 * wire::index(i);
+    if wire::byte_at(s, place) == 0 {
+        return true;
+    }
+    permits(file, s, allowed_at(file, marks, i), place)
+}
+
+// Does the progress of each row suit a session that runs the marked rows? The rows' progress starts at `at`.
+pub fn rows_suit(file: &[u8], s: &[u8], marks: &[u8; 256], at: usize) -> bool
+    requires { ⌜ at + 1536 ≤ 0x100000000 ⌝ }
+    ensures { λ x. ⌜ x ≡ permitted (now (file .entry)) (now (marks .entry)) (now (s .entry)) at 256 ⌝ }
+{
+    let mut i: u16 = 256;
+    while 0 < i {
+        i -= 1;
+        if !row_suits(file, s, marks, at, i) {
+            return false;
+        }
+    }
+    true
+}

@@ -1,0 +1,124 @@
+// Refusal 14: "The state bytes stand for no state of this file's shape." `stands` decides it for every file that none of 2 to 5 refuses.
+ghost use mathlib.Core.Path.{_≡_};
+ghost use Prim.Native.Nat.{_+_, _*_, _≤_, _<_};
+ghost use Rattle.network.specs.Layout.{behaviourCount};
+ghost use Rattle.network.specs.Decode.{networkOf};
+ghost use Rattle.state.specs.Bytes.{readReply, readQueue};
+ghost use Rattle.state.specs.Shape.{suitsQueue, isNobody};
+ghost use Rattle.state_shape.specs.Stands.{suitsEntry, TopRow, SessionTells, SlotTells, Tells};
+
+// Does the reply, by its kind, go nowhere?
+fn is_nobody(s: &[u8], kind: u8, at: usize) -> bool
+    ensures { λ x. ⌜ x ≡ isNobody (readReply (now (s .entry)) kind at) ⌝ }
+{
+    if kind == 1 {
+        return false;
+    }
+    kind != 2
+}
+
+// Is a queued message, whose entry starts at `at`, of an input of the service q, with a destination exactly if that is two-way?
+// `row` is the O row of its operation.
+fn entry_suits(file: &[u8], s: &[u8], q: u8, row: u16, at: usize) -> bool
+    requires { ⌜ at + 8 ≤ 0x100000000 ⌝ }
+    ensures { λ x. ⌜ x ≡ suitsEntry (now (file .entry)) (now (s .entry)) q row at ⌝ }
+{
+    if layout::operation_count(file) <= row {
+        return false;
+    }
+    if rows::operation_service(file, row) != q {
+        return false;
+    }
+    if rows::operation_direction(file, row) != 0 {
+        return false;
+    }
+    let kind = wire::byte_at(s, at + 1);
+    if rows::operation_two_way(file, row) == 1 {
+        return state_rows::is_destination(file, s, kind, at + 4);
+    }
+    is_nobody(s, kind, at + 4)
+}
+
+// Do the queued messages, of up to n entries from `at` on, suit the service q?
+fn queue_suits(file: &[u8], s: &[u8], q: u8, at: usize, n: usize) -> bool
+    requires { ⌜ at + 344 * n ≤ 0x100000000 ⌝ }
+    ensures { λ x. ⌜ x ≡ suitsQueue (networkOf (now (file .entry))) (behaviourCount (now (file .entry))) q (readQueue (now (s .entry)) n at) ⌝ }
+{
+    let mut place = at;
+    let mut left = n;
+    while 0 < left {
+        let code = wire::byte_at(s, place);
+        if code == 0 {
+            return true;
+        }
+        if !entry_suits(file, s, q, wire::byte_to_u16(code) - 1, place) {
+            return false;
+        }
+        place += 344;
+        left -= 1;
+    }
+    true
+}
+
+// The B row that a session runs, 65,535 for none: the client in session 0, the starter in sessions 1 to 3.
+fn top_row(file: &[u8], q: u16, n: u8) -> u16
+    requires { ⌜ n ≤ 3 ⌝ }
+    ensures { λ r. ⌜ TopRow (now (file .entry)) q n r ⌝ }
+{
+    if layout::service_count(file) <= q {
+        return 65535;
+    }
+    if n == 0 {
+        return rows::client_row(file, q);
+    }
+    rows::starter_row(file, q)
+}
+
+// Does the live session n of the service q, whose slot starts at `at`, suit what it runs?
+fn session_suits(file: &[u8], s: &[u8], q: u8, n: u8, at: usize) -> bool
+    requires { ⌜ (n ≤ 3) × (at + 4096 ≤ 0x100000000) ⌝ }
+    ensures { λ x. ⌜ SessionTells (now (file .entry)) (now (s .entry)) q n at x ⌝ }
+{
+    let r = top_row(file, wire::byte_to_u16(q), n);
+    if r == 65535 {
+        return false;
+    }
+    if !queue_suits(file, s, q, at + 1040, 4) {
+        return false;
+    }
+    let marks = state_rows::rows_of(file, r);
+    state_rows::rows_suit(file, s, &marks, at + 2416)
+}
+
+// Is the slot k in the form of a slot, and free or live with what suits the file?
+fn slot_stands(file: &[u8], s: &[u8], k: u8) -> bool
+    requires { ⌜ k < 16 ⌝ }
+    ensures { λ x. ⌜ SlotTells (now (file .entry)) (now (s .entry)) k x ⌝ }
+{
+    let at = 4096 * wire::wide(k);
+    if !state_form::slot_form(s, at) {
+        return false;
+    }
+    if wire::byte_at(s, at) == 0 {
+        return true;
+    }
+    session_suits(file, s, k / 4, k % 4, at)
+}
+
+// Do the bytes stand for a state of this file's shape?
+pub fn stands(file: &[u8], state: &[u8]) -> bool
+    ensures { λ x. ⌜ Tells (now (file .entry)) (now (state .entry)) x ⌝ }
+{
+    tree::octets(state);
+    if state.len() != 65536 {
+        return false;
+    }
+    let mut k: u8 = 16;
+    while 0 < k {
+        k -= 1;
+        if !slot_stands(file, state, k) {
+            return false;
+        }
+    }
+    true
+}

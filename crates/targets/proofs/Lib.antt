@@ -1,0 +1,2 @@
+pub mod MeetingLaws
+pub mod TargetLaws

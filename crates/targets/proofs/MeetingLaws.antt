@@ -1,0 +1,162 @@
+-- Laws of the inputs met: one for each way out of the functions.
+use Prim.Native.Nat.{ℕ, zero, suc, _+_, _-_, _<_, _≤_}
+use mathlib.Core.Path.{_≡_, refl, sym, _∙_, ap, subst}
+use mathlib.Core.List.{List, [], _∷_}
+use mathlib.Core.Bool.{Bool, true, false, not, _&&_, _||_}
+use native.Mathlib.Numerals.{add-one}
+use native.Mathlib.Omega.{arith}
+use lib.Dec.{eqb}
+use borrow.Author.Tests.{eq-eqb, ne-eqb}
+use Rattle.scalar.specs.Value.{pick}
+use Rattle.syntax.specs.Syntax.{Direction, input, output, Operation, Optional, none, some, Service}
+use Rattle.network.specs.Layout.{operationCount, serviceCount}
+use Rattle.network.specs.Rows.{operationService, operationDirection, operationTwoWay, operationId, operationLocation, serviceLocation}
+use Rattle.network.specs.Decode.{operationOf, serviceOf, rowsFrom, networkOf}
+use Rattle.network.specs.Meets.{entry, locationOf, someAt, inFile, isInputOperation, sameKind, meets, firstOf, metInput}
+use Rattle.network.specs.NetworkLaws.{service-entry}
+use Rattle.state.specs.Shape.{isInput}
+use Rattle.moves.specs.Moves.{isInputNamed, inputNamed}
+use Rattle.targets.specs.declared.Met.{Met}
+use Rattle.targets.specs.Meeting.{operationMet}
+
+-- ---- rows one after another
+
+one-less : (n : ℕ) → (n ≡ 0 → ⊥) → n ≡ suc (n - 1)
+one-less zero h = absurd (h refl)
+one-less (suc n) h = omega arith
+
+rows-more : {A : Type 0} (f : ℕ → A) (i n : ℕ) → (n ≡ 0 → ⊥) → rowsFrom f i n ≡ f i ∷ rowsFrom f (i + 1) (n - 1)
+unfolding rowsFrom
+rows-more f i n z = ap (rowsFrom f i) (one-less n z) ∙ ap (λ (k : ℕ). f i ∷ rowsFrom f k (n - 1)) (sym (add-one i))
+
+rows-none : {A : Type 0} (f : ℕ → A) (i n : ℕ) → n ≡ 0 → rowsFrom f i n ≡ []
+unfolding rowsFrom
+rows-none f i n z = ap (rowsFrom f i) z
+
+-- ---- locations in the file
+
+pub located-none : (file : List ℕ) (l q n : ℕ) → n ≡ 0 → false ≡ someAt (rowsFrom (serviceOf file) q n) l
+unfolding someAt
+located-none file l q n z = sym (ap (λ (vs : List Service). someAt vs l) (rows-none (serviceOf file) q n z))
+
+located-step : (file : List ℕ) (l q n : ℕ) → (n ≡ 0 → ⊥)
+    → someAt (rowsFrom (serviceOf file) q n) l ≡ eqb (serviceLocation file q) l || someAt (rowsFrom (serviceOf file) (q + 1) (n - 1)) l
+unfolding someAt serviceOf
+located-step file l q n z = ap (λ (vs : List Service). someAt vs l) (rows-more (serviceOf file) q n z)
+
+pub located-here : (file : List ℕ) (l q n : ℕ) {x : ℕ} → (n ≡ 0 → ⊥) → x ≡ serviceLocation file q → x ≡ l → true ≡ someAt (rowsFrom (serviceOf file) q n) l
+located-here file l q n z a e =
+    sym (located-step file l q n z
+    ∙ ap (λ (t : Bool). t || someAt (rowsFrom (serviceOf file) (q + 1) (n - 1)) l) (eq-eqb (serviceLocation file q) l (sym a ∙ e)))
+
+pub located-later : (file : List ℕ) (l q n : ℕ) {x : ℕ} {y : Bool} → (n ≡ 0 → ⊥) → x ≡ serviceLocation file q → (x ≡ l → ⊥)
+    → y ≡ someAt (rowsFrom (serviceOf file) (q + 1) (n - 1)) l → y ≡ someAt (rowsFrom (serviceOf file) q n) l
+located-later file l q n z a e h =
+    h ∙ sym (located-step file l q n z
+    ∙ ap (λ (t : Bool). t || someAt (rowsFrom (serviceOf file) (q + 1) (n - 1)) l) (ne-eqb (serviceLocation file q) l (λ i. e (a ∙ i))))
+
+pub located-all : (file : List ℕ) (l : ℕ) {n : ℕ} {y : Bool} → n ≡ serviceCount file
+    → y ≡ someAt (rowsFrom (serviceOf file) 0 n) l → y ≡ inFile (networkOf file) l
+unfolding networkOf
+located-all file l c h = h ∙ ap (λ (m : ℕ). someAt (rowsFrom (serviceOf file) 0 m) l) c
+
+pub ruleset located-laws = (located-none, located-here, located-later, located-all)
+
+-- ---- the location of a service
+
+past-end : (f : ℕ → Service) (n first q : ℕ) → n ≤ q → entry q (rowsFrom f first n) ≡ none
+unfolding entry rowsFrom
+past-end f zero first q l = refl
+past-end f (suc n) first zero l = absurd (omega (arith, l))
+past-end f (suc n) first (suc q) l = past-end f n (suc first) q (omega (arith, l))
+
+pub location-none : (file : List ℕ) (q : ℕ) {n : ℕ} → n ≡ serviceCount file → n ≤ q → 0 ≡ locationOf (entry q (networkOf file .services))
+unfolding networkOf
+location-none file q c l = sym (ap locationOf (past-end (serviceOf file) (serviceCount file) 0 q (omega (arith, c, l))))
+
+pub location-is : (file : List ℕ) (q : ℕ) {n x : ℕ} → n ≡ serviceCount file → q < n → x ≡ serviceLocation file q
+    → x ≡ locationOf (entry q (networkOf file .services))
+unfolding serviceOf
+location-is file q c l e = e ∙ sym (ap locationOf (service-entry file q (omega (arith, c, l))))
+
+pub ruleset location-laws = (location-none, location-is)
+
+-- ---- one operation
+
+input-is : (t : Bool) → isInputOperation (pick t input output) ≡ t
+input-is true = refl
+input-is false = refl
+
+pub meets-are : (file : List ℕ) (o i : ℕ) {v u p d l x y t s : ℕ} {a k b r : Bool} → v ≡ operationService file i → u ≡ v
+    → p ≡ locationOf (entry u (networkOf file .services))
+    → d ≡ operationDirection file i → l ≡ operationLocation file o → a ≡ (eqb d 0 && eqb p l) → x ≡ operationId file i → y ≡ operationId file o
+    → t ≡ operationTwoWay file i → s ≡ operationTwoWay file o → k ≡ sameKind (eqb t 1) (eqb s 1) → b ≡ (eqb x y && k) → r ≡ (a && b)
+    → r ≡ meets (networkOf file) (operationOf file o) (operationOf file i)
+unfolding meets operationOf
+meets-are file o i e₁ e₂ e₃ e₄ e₅ e₆ e₇ e₈ e₉ e₁₀ e₁₁ e₁₂ e₁₃ =
+    let z = input-is (eqb (operationDirection file i) 0) in
+    cc
+
+pub kind-first : (a b : Bool) → a ≡ true → b ≡ sameKind a b
+kind-first true true e = refl
+kind-first true false e = refl
+kind-first false b e = absurd (let z : _≡_ {A = ℕ} 0 1 = cc in omega arith)
+
+pub kind-second : (a b : Bool) → a ≡ false → not b ≡ sameKind a b
+kind-second true b e = absurd (let z : _≡_ {A = ℕ} 0 1 = cc in omega arith)
+kind-second false true e = refl
+kind-second false false e = refl
+
+pub ruleset kind-laws = (kind-first, kind-second)
+
+pub ruleset meets-laws = (meets-are)
+
+named-is : (t : Bool) → isInput (pick t input output) ≡ t
+named-is true = refl
+named-is false = refl
+
+pub named-are : (file : List ℕ) (q id i : ℕ) {v u d x : ℕ} {b r : Bool} → v ≡ operationService file i → u ≡ v → d ≡ operationDirection file i
+    → x ≡ operationId file i → b ≡ (eqb d 0 && eqb x id) → r ≡ (eqb u q && b) → r ≡ isInputNamed q id (operationOf file i)
+unfolding operationOf
+named-are file q id i e₁ e₂ e₃ e₄ e₅ e₆ =
+    let z = named-is (eqb (operationDirection file i) 0) in
+    cc
+
+pub ruleset named-laws = (named-are)
+
+-- ---- the first operation that passes a test
+
+module _ (file : List ℕ) (test : Operation → Bool) (i n : ℕ) where
+  pub first-none : n ≡ 0 → operationMet file Met.Nothing ≡ firstOf test (rowsFrom (operationOf file) i n)
+  unfolding firstOf operationMet
+  first-none z = sym (ap (firstOf test) (rows-none (operationOf file) i n z))
+
+  first-step : (n ≡ 0 → ⊥)
+      → firstOf test (rowsFrom (operationOf file) i n)
+      ≡ pick (test (operationOf file i)) (some (operationOf file i)) (firstOf test (rowsFrom (operationOf file) (i + 1) (n - 1)))
+  unfolding firstOf
+  first-step z = ap (firstOf test) (rows-more (operationOf file) i n z)
+
+  pub first-here : {t : Bool} → (n ≡ 0 → ⊥) → t ≡ test (operationOf file i) → t ≡ true
+      → operationMet file (Met.Input i) ≡ firstOf test (rowsFrom (operationOf file) i n)
+  unfolding operationMet
+  first-here z e f =
+      sym (first-step z ∙ ap (λ (u : Bool). pick u (some (operationOf file i)) (firstOf test (rowsFrom (operationOf file) (i + 1) (n - 1)))) (sym e ∙ f))
+
+  pub first-later : {t : Bool} (x : Met) → (n ≡ 0 → ⊥) → t ≡ test (operationOf file i) → t ≡ false
+      → operationMet file x ≡ firstOf test (rowsFrom (operationOf file) (i + 1) (n - 1)) → operationMet file x ≡ firstOf test (rowsFrom (operationOf file) i n)
+  first-later x z e f h =
+      h ∙ sym (first-step z ∙ ap (λ (u : Bool). pick u (some (operationOf file i)) (firstOf test (rowsFrom (operationOf file) (i + 1) (n - 1)))) (sym e ∙ f))
+
+  pub first-all : {m : ℕ} (x : Met) → m ≡ operationCount file → operationMet file x ≡ firstOf test (rowsFrom (operationOf file) 0 m)
+      → operationMet file x ≡ firstOf test (networkOf file .operations)
+  unfolding networkOf
+  first-all x c h = h ∙ ap (λ (m : ℕ). firstOf test (rowsFrom (operationOf file) 0 m)) c
+
+pub met-all : (file : List ℕ) (o : ℕ) {m : ℕ} (x : Met) → m ≡ operationCount file
+    → operationMet file x ≡ firstOf (meets (networkOf file) (operationOf file o)) (rowsFrom (operationOf file) 0 m)
+    → operationMet file x ≡ metInput (networkOf file) (operationOf file o)
+unfolding metInput
+met-all file o x c h = first-all file (meets (networkOf file) (operationOf file o)) 0 0 x c h
+
+pub ruleset first-laws = (first-none, first-here, first-later, first-all, met-all)

@@ -1,0 +1,103 @@
+-- What the answers about sessions stand for, and what the functions tell: for every file that none of 2 to 5 refuses and any state
+-- bytes. On other files they end and say nothing.
+use mathlib.Core.Path.{_≡_}
+use mathlib.Core.List.{List}
+use mathlib.Core.Bool.{Bool}
+use Prim.Native.Nat.{ℕ, _+_, _<_, _≤_}
+use lib.Dec.{eqb, ltb}
+use lib.ListN.{length}
+use Rattle.scalar.specs.Value.{pick}
+use Rattle.syntax.specs.Syntax.{Optional, none, some, Behaviour}
+use Rattle.network.specs.Form.{WellFormed}
+use Rattle.network.specs.Layout.{behaviourCount, behaviourAt}
+use Rattle.network.specs.Rows.{fieldA, noRow}
+use Rattle.network.specs.Decode.{branchesFrom, behaviourOf, operationOf, networkOf}
+use Rattle.state.specs.Bytes.{readQueue, readState}
+use Rattle.state.specs.Shape.{behaviourIn}
+use Rattle.moves.specs.Targets as definition
+use Rattle.moves.specs.Moves.{permitsInput}
+use Rattle.targets.specs.declared.Runs.{Runs}
+use Rattle.targets.specs.declared.Start.{Start}
+use Rattle.targets.specs.declared.Target.{Target}
+
+-- What a session runs, by its B row.
+unfoldable pub behaviourRun : List ℕ → Runs → Optional Behaviour
+behaviourRun file (Runs.Row r) = some (behaviourOf file r)
+behaviourRun file Runs.Nothing = none
+
+abbrev pub RowExists : List ℕ → Runs → Type 0
+RowExists file (Runs.Row r) = r < behaviourCount file
+RowExists file Runs.Nothing = Unit {0}
+
+-- S: "starter row (a choice), client row, 65535 for none".
+abbrev pub runsRow : ℕ → Runs
+runsRow v = pick (eqb v noRow) Runs.Nothing (Runs.Row v)
+
+-- What session n of service q runs; `tells` holds for any file.
+pub record RunsIn (file : List ℕ) (q n : ℕ) (x : Runs) : Type 0 where
+  pub tells : behaviourRun file x ≡ behaviourIn (networkOf file) q n
+  pub exists : WellFormed file → RowExists file x
+
+-- How a session starts, by the choice, its branch and the input's B row.
+unfoldable pub startOf : List ℕ → Start → definition.Target
+startOf file (Start.Branch c k a) = definition.starts c k (behaviourOf file a)
+startOf file Start.Nothing = definition.noTarget
+
+abbrev pub RowsExist : List ℕ → Start → Type 0
+RowsExist file (Start.Branch c k a) = (c < behaviourCount file) × (a < behaviourCount file)
+RowsExist file Start.Nothing = Unit {0}
+
+-- B row a is an input that names O row w; 6 passes it in service q.
+pub record NamesInput (file : List ℕ) (w a : ℕ) (x : Bool) : Type 0 where
+  pub tells : a < behaviourCount file → x ≡ definition.isInputOf w (behaviourOf file a)
+
+pub record PermitsInput (file : List ℕ) (q a : ℕ) (x : Bool) : Type 0 where
+  pub tells : a < behaviourCount file → x ≡ permitsInput q (behaviourOf file a)
+
+-- The inputs of the n branches from row j on, which stands at `at`, are rows of the file.
+pub record Run (file : List ℕ) (at n j : ℕ) : Type 0 where
+  pub there : at ≡ behaviourAt file j
+  pub inputs : (m : ℕ) → j ≤ m → m < j + n → fieldA file (behaviourAt file m) < behaviourCount file
+
+-- The first of those branches, numbered from k on, whose input names O row w.
+pub record StartsAmong (file : List ℕ) (w c at k n : ℕ) (x : Start) : Type 0 where
+  pub tells : (j : ℕ) → Run file at n j → startOf file x ≡ definition.startFrom w c k (branchesFrom file (behaviourOf file) j n)
+  pub exists : (j : ℕ) → Run file at n j → c < behaviourCount file → RowsExist file x
+
+-- The first branch of the starter of B row r.
+pub record StartsFrom (file : List ℕ) (w r : ℕ) (x : Start) : Type 0 where
+  pub tells : WellFormed file → r < behaviourCount file → startOf file x ≡ definition.startFrom w 0 0 (behaviourOf file r)
+  pub exists : WellFormed file → r < behaviourCount file → RowsExist file x
+
+-- How a message gets to a session.
+unfoldable pub targetAs : List ℕ → Target → definition.Target
+targetAs file Target.NoTarget = definition.noTarget
+targetAs file Target.QueueFull = definition.queueFull
+targetAs file Target.Queued = definition.queued
+targetAs file (Target.Starts c k a) = definition.starts c k (behaviourOf file a)
+
+abbrev pub StarterExists : List ℕ → Target → Type 0
+StarterExists file Target.NoTarget = Unit {0}
+StarterExists file Target.QueueFull = Unit {0}
+StarterExists file Target.Queued = Unit {0}
+StarterExists file (Target.Starts c k a) = (c < behaviourCount file) × (a < behaviourCount file)
+
+-- To a live session, whose slot starts at `at`.
+abbrev pub liveTarget : List ℕ → ℕ → Target
+liveTarget state at = pick (ltb (length (readQueue state 4 (at + 1040))) 4) Target.Queued Target.QueueFull
+
+-- To a free session n that would run B row r.
+pub record FreeTarget (file : List ℕ) (w n r : ℕ) (x : Target) : Type 0 where
+  pub tells : WellFormed file → r < behaviourCount file → targetAs file x ≡ pick (eqb n 0) definition.noTarget (definition.startFrom w 0 0 (behaviourOf file r))
+  pub exists : WellFormed file → r < behaviourCount file → StarterExists file x
+
+-- To session n of service q, which runs B row r.
+pub record SlotTarget (file state : List ℕ) (w q n r : ℕ) (x : Target) : Type 0 where
+  pub tells : WellFormed file → r < behaviourCount file → q < 4 → n < 4
+      → targetAs file x ≡ definition.targetOf w n (behaviourOf file r) (readState state q n)
+  pub exists : WellFormed file → r < behaviourCount file → StarterExists file x
+
+-- Of the input of O row i, to session n of its service.
+pub record Targets (file state : List ℕ) (i n : ℕ) (x : Target) : Type 0 where
+  pub tells : WellFormed file → targetAs file x ≡ definition.target (networkOf file) (readState state) (operationOf file i) n
+  pub exists : WellFormed file → StarterExists file x
