@@ -8,7 +8,7 @@ use native.Mathlib.Decide.{decLt}
 use lib.ListN.{length, take, drop, length-drop}
 use lib.Seq.{take-all}
 use lib.Dec.{eqb, leb}
-use borrow.Author.Tests.{eq-eqb, ne-eqb, le-leb, lt-leb, not-true, not-false}
+use borrow.Author.Tests.{ne-eqb, le-leb, lt-leb, not-true, not-false}
 use Rattle.scalar.specs.Value.{pick}
 use Rattle.wire.specs.Wire.{byteAt, u16At, part}
 use Rattle.wire.specs.WireLaws.{byte-past}
@@ -18,13 +18,13 @@ use Rattle.state_form.specs.Parts.{destinationForm, headForm}
 
 -- ---- zeros
 
--- The bytes from `at` to i are 0.
-pub record Clear (s : List ℕ) (at n i : ℕ) : Type 0 where
+-- z tells whether the bytes from `at` to i are 0.
+pub record Clear (s : List ℕ) (at n i : ℕ) (z : Bool) : Type 0 where
   pub low : at ≤ i
   pub high : i ≤ at + n
-  pub same : allZero s at n ≡ allZero s i (at + n - i)
+  pub same : allZero s at n ≡ (z && allZero s i (at + n - i))
 
-pub clear-none : (s : List ℕ) (at n : ℕ) → Clear s at n at
+pub clear-none : (s : List ℕ) (at n : ℕ) → Clear s at n at true
 clear-none s at n = let e : n ≡ at + n - at = omega arith in record { low = omega arith; high = omega arith; same = ap (allZero s at) e }
 
 zero-past : (s : List ℕ) (at n : ℕ) → length s ≤ at → allZero s at n ≡ true
@@ -32,26 +32,35 @@ unfolding allZero
 zero-past s at zero h = refl
 zero-past s at (suc n) h = rw (byte-past s at h, zero-past s (at + 1) n (omega arith))
 
-module _ (s : List ℕ) (at n i e : ℕ) (c : Clear s at n i) (f : e ≡ min (at + n) (length s)) where
-  one-more : i < e → allZero s at n ≡ (eqb (byteAt s i) 0 && allZero s (i + 1) (at + n - (i + 1)))
+and-true : (t : Bool) → (t && true) ≡ t
+and-true true = refl
+and-true false = refl
+
+and-assoc : (a b c : Bool) → (a && (b && c)) ≡ ((a && b) && c)
+and-assoc true b c = refl
+and-assoc false b c = refl
+
+module _ (s : List ℕ) (at n i e : ℕ) (z : Bool) (c : Clear s at n i z) (f : e ≡ min (at + n) (length s)) where
+  pub clear-next : (y : Bool) → i < e → y ≡ (z && eqb (byteAt s i) 0) → Clear s at n (i + 1) y
   unfolding allZero
-  one-more h = let d : at + n - i ≡ suc (at + n - (i + 1)) = omega arith in c .same ∙ rw d
+  clear-next y h g = record {
+    low = omega (arith, c .low);
+    high = omega arith;
+    same =
+        let d : at + n - i ≡ suc (at + n - (i + 1)) = omega arith in
+        let rest = allZero s (i + 1) (at + n - (i + 1)) in
+        c .same ∙ (ap (λ (m : ℕ). z && allZero s i m) d ∙ (and-assoc z (eqb (byteAt s i) 0) rest ∙ ap (λ (t : Bool). t && rest) (sym g)));
+  }
 
-  pub clear-next : i < e → byteAt s i ≡ 0 → Clear s at n (i + 1)
-  clear-next h z = record { low = omega (arith, c .low); high = omega arith; same = one-more h ∙ rw (eq-eqb (byteAt s i) 0 z) }
-
-  pub not-clear : i < e → (byteAt s i ≡ 0 → ⊥) → false ≡ allZero s at n
-  not-clear h z = sym (one-more h ∙ rw (ne-eqb (byteAt s i) 0 z))
-
-  pub all-clear : e ≤ i → true ≡ allZero s at n
+  pub clear-all : e ≤ i → z ≡ allZero s at n
   unfolding allZero
-  all-clear h = sym (c .same ∙ by (at + n - i) refl)
+  clear-all h = sym (c .same ∙ (ap (λ (t : Bool). z && t) (by (at + n - i) refl) ∙ and-true z))
     where
       by : (m : ℕ) → at + n - i ≡ m → allZero s i m ≡ true
       by zero g = refl
       by (suc m) g = zero-past s i (suc m) (omega (arith, c .high))
 
-pub ruleset zero-laws = (not-clear, all-clear)
+pub ruleset zero-laws = (clear-all)
 
 pub ruleset zero-again-laws = (clear-next)
 
@@ -139,10 +148,6 @@ module _ (s : List ℕ) (at k : ℕ) (e : k ≡ byteAt s (at + 1)) where
   pub destination-some : (k ≡ 0 → ⊥) → leb k 2 ≡ destinationForm s at
   unfolding destinationForm
   destination-some f = rw (sym e, ne-eqb k 0 f) (sym (and-true (leb k 2)))
-    where
-      and-true : (t : Bool) → (t && true) ≡ t
-      and-true true = refl
-      and-true false = refl
 
 pub ruleset destination-laws = (destination-nobody, destination-some)
 

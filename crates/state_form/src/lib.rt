@@ -18,20 +18,19 @@ fn end_of(s: &[u8], at: usize, n: usize) -> usize
     s.len()
 }
 
-// Are the n bytes from `at` on 0?
+// Are the n bytes from `at` on 0? The loop has no way out before its end, so that it is compiled to one over many bytes at a time.
 pub fn all_zero(s: &[u8], at: usize, n: usize) -> bool
     requires { ⌜ at + n ≤ 0x100000000 ⌝ }
     ensures { λ r. ⌜ r ≡ allZero (now (s .entry)) at n ⌝ }
 {
     let end = end_of(s, at, n);
+    let mut clear = true;
     let mut i = at;
     while i < end {
-        if s[i] != 0 {
-            return false;
-        }
+        clear = layout::both(clear, s[i] == 0);
         i += 1;
     }
-    true
+    clear
 }
 
 // The n bytes from `at` on, as far as there are.

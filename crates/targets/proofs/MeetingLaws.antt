@@ -1,6 +1,6 @@
 -- Laws of the inputs met: one for each way out of the functions.
 use Prim.Native.Nat.{ℕ, zero, suc, _+_, _-_, _<_, _≤_}
-use mathlib.Core.Path.{_≡_, refl, sym, _∙_, ap, subst}
+use mathlib.Core.Path.{_≡_, refl, sym, _∙_, ap}
 use mathlib.Core.List.{List, [], _∷_}
 use mathlib.Core.Bool.{Bool, true, false, not, _&&_, _||_}
 use native.Mathlib.Numerals.{add-one}
@@ -8,14 +8,14 @@ use native.Mathlib.Omega.{arith}
 use lib.Dec.{eqb}
 use borrow.Author.Tests.{eq-eqb, ne-eqb}
 use Rattle.scalar.specs.Value.{pick}
-use Rattle.syntax.specs.Syntax.{Direction, input, output, Operation, Optional, none, some, Service}
+use Rattle.syntax.specs.Syntax.{input, output, Operation, none, some, Service}
 use Rattle.network.specs.Layout.{operationCount, serviceCount}
 use Rattle.network.specs.Rows.{operationService, operationDirection, operationTwoWay, operationId, operationLocation, serviceLocation}
 use Rattle.network.specs.Decode.{operationOf, serviceOf, rowsFrom, networkOf}
 use Rattle.network.specs.Meets.{entry, locationOf, someAt, inFile, isInputOperation, sameKind, meets, firstOf, metInput}
 use Rattle.network.specs.NetworkLaws.{service-entry}
 use Rattle.state.specs.Shape.{isInput}
-use Rattle.moves.specs.Moves.{isInputNamed, inputNamed}
+use Rattle.moves.specs.Moves.{isInputNamed}
 use Rattle.targets.specs.declared.Met.{Met}
 use Rattle.targets.specs.Meeting.{operationMet}
 

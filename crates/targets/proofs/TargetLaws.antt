@@ -12,30 +12,30 @@ use types.Run.{OneOf, miss}
 use denote.Enum.Declared.{tagOf}
 use Rattle.wire.specs.Wire.{byteAt, u16At}
 use Rattle.scalar.specs.Value.{pick}
-use Rattle.syntax.specs.Syntax.{input, output, Operation, Behaviour, Optional, none, some, Service}
+use Rattle.syntax.specs.Syntax.{input, Behaviour, Optional, none, some, Service}
 use Rattle.typing.specs.Rules.{permits}
 use Rattle.network.specs.declared.BehaviourKind.{BehaviourKind}
 use Rattle.network.specs.Form.{WellFormed}
-use Rattle.network.specs.Layout.{behaviourCount, operationCount, serviceCount, behaviourAt}
-use Rattle.network.specs.Rows.{fieldA, fieldB, fieldC, fieldD, kindAt, isInput, isChoice, noRow, starterRow, clientRow, operationService}
-use Rattle.network.specs.Decode.{branchesFrom, behaviourFrom, behaviourTo, behaviourOf, operationOf, serviceOf, rowsFrom, networkOf, optionalBehaviour}
-use Rattle.network.specs.Shapes.{Role, asStarter, asClient}
-use Rattle.network.specs.RowLaws.{CountsKept, counts-kept}
-use Rattle.network.specs.UseLaws.{Child, InputKept, BranchKept, RowKept, behaviour-kept, branch-kept}
+use Rattle.network.specs.Layout.{behaviourCount, serviceCount, behaviourAt}
+use Rattle.network.specs.Rows.{fieldA, fieldB, kindAt, isInput, isChoice, noRow, starterRow, clientRow, operationService}
+use Rattle.network.specs.Decode.{branchesFrom, behaviourFrom, behaviourTo, behaviourOf, operationOf, serviceOf, networkOf, optionalBehaviour}
+use Rattle.network.specs.Shapes.{asStarter, asClient}
+use Rattle.network.specs.RowLaws.{counts-kept}
+use Rattle.network.specs.UseLaws.{RowKept, behaviour-kept, branch-kept}
 use Rattle.network.specs.BehaviourLaws.{behaviour-row}
-use Rattle.network.specs.NetworkLaws.{Top, top-of}
-use Rattle.network.specs.TestLaws.{lt-of, le-of, eq-of, lt-not}
+use Rattle.network.specs.NetworkLaws.{top-of}
 use Rattle.rows.specs.declared.BehaviourRow.{BehaviourRow}
 use Rattle.rows.proofs.BehaviourRow as rows
-use Rattle.rows.specs.Readers.{behaviourRowAs, behaviourRowOf}
+use Rattle.rows.specs.Readers.{behaviourRowOf}
 use Rattle.rows.specs.RowSyntax.{behaviourWith}
 use Rattle.rows.specs.RowSyntaxLaws.{behaviour-row-is}
 use Rattle.operations.specs.Directions.{directionOf}
-use Rattle.state.specs.Session.{Session, Slot, free, live, State}
+use Rattle.state.specs.Session.{free, live}
 use Rattle.state.specs.Bytes.{readEntry, readQueue, readSession, readSlot, readState}
-use Rattle.state.specs.Shape.{serviceAt, clientOf, starterOf, behaviourIn}
+use Rattle.state.specs.Shape.{clientOf, starterOf, behaviourIn}
 use Rattle.moves.specs.Targets as definition
 use Rattle.moves.specs.Moves.{permitsInput}
+use Rattle.targets.specs.SessionLaws.{serviceIn, service-none, service-some, nothing-runs, runs-where, slot-read}
 use Rattle.targets.specs.declared.Runs.{Runs}
 use Rattle.targets.specs.declared.Start.{Start}
 use Rattle.targets.specs.declared.Target.{Target}
@@ -63,38 +63,6 @@ run-of file v = go (eqb v noRow)
     go : (t : Bool) → behaviourRun file (pick t Runs.Nothing (Runs.Row v)) ≡ pick t none (some (behaviourOf file v))
     go true = refl
     go false = refl
-
-past-end : (f : ℕ → Service) (n first q : ℕ) → n ≤ q → serviceAt (rowsFrom f first n) q ≡ none
-unfolding serviceAt rowsFrom
-past-end f zero first q l = refl
-past-end f (suc n) first zero l = absurd (omega (arith, l))
-past-end f (suc n) first (suc q) l = past-end f n (suc first) q (omega (arith, l))
-
-at-row : (f : ℕ → Service) (n first q : ℕ) → q < n → serviceAt (rowsFrom f first n) q ≡ some (f (first + q))
-unfolding serviceAt rowsFrom
-at-row f zero first q l = absurd (omega (arith, l))
-at-row f (suc n) first zero l = let z : first ≡ first + 0 = omega arith in ap (λ (j : ℕ). some (f j)) z
-at-row f (suc n) first (suc q) l =
-    let z : suc first + q ≡ first + suc q = omega arith in
-    at-row f n (suc first) q (omega (arith, l)) ∙ ap (λ (j : ℕ). some (f j)) z
-
--- The service of row q.
-abbrev serviceIn : List ℕ → ℕ → Optional Service
-serviceIn file q = serviceAt (networkOf file .services) q
-
-service-none : (file : List ℕ) (q : ℕ) → serviceCount file ≤ q → serviceIn file q ≡ none
-unfolding networkOf
-service-none file q l = past-end (serviceOf file) (serviceCount file) 0 q l
-
-service-some : (file : List ℕ) (q : ℕ) → q < serviceCount file → serviceIn file q ≡ some (serviceOf file q)
-unfolding networkOf
-service-some file q l = let z : 0 + q ≡ q = omega arith in at-row (serviceOf file) (serviceCount file) 0 q l ∙ ap (λ (j : ℕ). some (serviceOf file j)) z
-
--- Nothing, where there is no such service, or no such session.
-nothing-runs : (a b : Bool) → _≡_ {A = Optional Behaviour} (pick a none (pick b none none)) none
-nothing-runs true b = refl
-nothing-runs false true = refl
-nothing-runs false false = refl
 
 pub in-no-service : (file : List ℕ) (q n : ℕ) {m : ℕ} → m ≡ serviceCount file → m ≤ q → RunsIn file q n Runs.Nothing
 unfolding behaviourRun
@@ -468,10 +436,6 @@ pub ruleset free-laws = (free-client, free-starts, free-none)
 
 -- ---- a session's slot
 
-slot-read : (s : List ℕ) (q n : ℕ) → q < 4 → n < 4 → readState s q n ≡ readSlot s (4096 * (4 * q + n))
-unfolding readState
-slot-read s q n a b = rw (lt-ltb q 4 a, lt-ltb n 4 b) refl
-
 module _ (file state : List ℕ) (w q n r : ℕ) {i j b : ℕ} (e : (i ≡ q) × (i < 65536)) (f : (j ≡ n) × (j < 65536))
     (g : b ≡ byteAt state (4096 * (4 * i + j))) where
   place : 4096 * (4 * i + j) ≡ 4096 * (4 * q + n)
@@ -511,25 +475,6 @@ module _ (file state : List ℕ) (w q n r : ℕ) {i j b : ℕ} (e : (i ≡ q) ×
 pub ruleset slot-laws = (slot-free, slot-live)
 
 -- ---- the target
-
--- Only a service of the file runs something, and only in sessions 0 to 3.
-runs-where : (file : List ℕ) (q n : ℕ) (B : Behaviour) → behaviourIn (networkOf file) q n ≡ some B → (q < serviceCount file) × (n < 4)
-runs-where file q n B e = (service (ltb q (serviceCount file)) refl, session (eqb n 0) (leb n 3) refl refl e)
-  where
-    nothing : none ≡ some B → ⊥
-    nothing f = let z : _≡_ {A = ℕ} 0 1 = cc in omega arith
-
-    service : (t : Bool) → ltb q (serviceCount file) ≡ t → q < serviceCount file
-    service true f = lt-of q (serviceCount file) f
-    service false f =
-        absurd (nothing (sym (ap (λ (v : Optional Service). pick (eqb n 0) (clientOf v) (pick (leb n 3) (starterOf v) none))
-        (service-none file q (lt-not q (serviceCount file) f)) ∙ nothing-runs (eqb n 0) (leb n 3)) ∙ e))
-
-    session : (a b : Bool) → eqb n 0 ≡ a → leb n 3 ≡ b
-        → pick a (clientOf (serviceIn file q)) (pick b (starterOf (serviceIn file q)) none) ≡ some B → n < 4
-    session true b f g h = omega (arith, eq-of n 0 f)
-    session false true f g h = omega (arith, le-of n 3 g)
-    session false false f g h = absurd (nothing h)
 
 module _ (file state : List ℕ) (i n : ℕ) {v u : ℕ} {x : Runs} (a : v ≡ operationService file i) (b : (u ≡ v) × (u < 256)) (h : RunsIn file u n x) where
   service-is : u ≡ operationService file i

@@ -1,5 +1,5 @@
--- What the answers about sessions stand for, and what the functions tell: for every file that none of 2 to 5 refuses and any state
--- bytes. On other files they end and say nothing.
+-- What the answers about sessions stand for, and what the functions tell, for any state bytes. Where a statement asks for `WellFormed`, it
+-- is for files that none of 2 to 5 refuses; on others the function ends and says nothing.
 use mathlib.Core.Path.{_≡_}
 use mathlib.Core.List.{List}
 use mathlib.Core.Bool.{Bool}
@@ -33,7 +33,7 @@ RowExists file Runs.Nothing = Unit {0}
 abbrev pub runsRow : ℕ → Runs
 runsRow v = pick (eqb v noRow) Runs.Nothing (Runs.Row v)
 
--- What session n of service q runs; `tells` holds for any file.
+-- What session n of service q runs: "clients live in session 0", the starter in "a free 1 to 3". `tells` holds for any file.
 pub record RunsIn (file : List ℕ) (q n : ℕ) (x : Runs) : Type 0 where
   pub tells : behaviourRun file x ≡ behaviourIn (networkOf file) q n
   pub exists : WellFormed file → RowExists file x
@@ -47,7 +47,7 @@ abbrev pub RowsExist : List ℕ → Start → Type 0
 RowsExist file (Start.Branch c k a) = (c < behaviourCount file) × (a < behaviourCount file)
 RowsExist file Start.Nothing = Unit {0}
 
--- B row a is an input that names O row w; 6 passes it in service q.
+-- B row a is an input that names O row w; 6 ("another service, direction or kind") passes it in service q.
 pub record NamesInput (file : List ℕ) (w a : ℕ) (x : Bool) : Type 0 where
   pub tells : a < behaviourCount file → x ≡ definition.isInputOf w (behaviourOf file a)
 
@@ -64,12 +64,12 @@ pub record StartsAmong (file : List ℕ) (w c at k n : ℕ) (x : Start) : Type 0
   pub tells : (j : ℕ) → Run file at n j → startOf file x ≡ definition.startFrom w c k (branchesFrom file (behaviourOf file) j n)
   pub exists : (j : ℕ) → Run file at n j → c < behaviourCount file → RowsExist file x
 
--- The first branch of the starter of B row r.
+-- The "first starter branch of that operation", of the starter of B row r.
 pub record StartsFrom (file : List ℕ) (w r : ℕ) (x : Start) : Type 0 where
   pub tells : WellFormed file → r < behaviourCount file → startOf file x ≡ definition.startFrom w 0 0 (behaviourOf file r)
   pub exists : WellFormed file → r < behaviourCount file → RowsExist file x
 
--- How a message gets to a session.
+-- How a message gets to a session: "queued at a live one, or starting a free 1 to 3".
 unfoldable pub targetAs : List ℕ → Target → definition.Target
 targetAs file Target.NoTarget = definition.noTarget
 targetAs file Target.QueueFull = definition.queueFull
@@ -82,11 +82,11 @@ StarterExists file Target.QueueFull = Unit {0}
 StarterExists file Target.Queued = Unit {0}
 StarterExists file (Target.Starts c k a) = (c < behaviourCount file) × (a < behaviourCount file)
 
--- To a live session, whose slot starts at `at`.
+-- To a live session, whose slot starts at `at`: "a queue of up to four messages".
 abbrev pub liveTarget : List ℕ → ℕ → Target
 liveTarget state at = pick (ltb (length (readQueue state 4 (at + 1040))) 4) Target.Queued Target.QueueFull
 
--- To a free session n that would run B row r.
+-- To a free session n, of which 0 is not started, that would run B row r.
 pub record FreeTarget (file : List ℕ) (w n r : ℕ) (x : Target) : Type 0 where
   pub tells : WellFormed file → r < behaviourCount file → targetAs file x ≡ pick (eqb n 0) definition.noTarget (definition.startFrom w 0 0 (behaviourOf file r))
   pub exists : WellFormed file → r < behaviourCount file → StarterExists file x

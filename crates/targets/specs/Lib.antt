@@ -1,3 +1,4 @@
 pub mod Meeting
 pub mod MeetingLaws
 pub mod Answers
+pub mod SessionLaws

@@ -1,11 +1,11 @@
 -- The input met is an operation of the file.
 use Prim.Native.Nat.{ℕ, zero, suc, _+_, _<_}
-use mathlib.Core.Path.{_≡_, refl, sym, _∙_, ap, subst}
+use mathlib.Core.Path.{_≡_, sym, ap}
 use mathlib.Core.List.{List}
 use mathlib.Core.Bool.{Bool, true, false}
 use native.Mathlib.Omega.{arith}
 use Rattle.scalar.specs.Value.{pick}
-use Rattle.syntax.specs.Syntax.{Operation, Optional, none, some}
+use Rattle.syntax.specs.Syntax.{Operation, none, some}
 use Rattle.network.specs.Layout.{operationCount}
 use Rattle.network.specs.Decode.{operationOf, rowsFrom, networkOf}
 use Rattle.network.specs.Meets.{meets, firstOf, metInput}

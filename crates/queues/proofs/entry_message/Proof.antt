@@ -1,0 +1,37 @@
+use Rattle.queues.proofs.Reading.{span-is}
+use borrow.Author.Needs.{needs}
+use Rattle.queues.proofs.entry_message.Statement.{statement}
+use Rattle.queues.proofs.entry_message.Tie as tie
+use Rattle.queues.proofs.entry_message.Reads as reads
+use Rattle.queues.proofs.entry_message.Lts as lts
+use Rattle.wire.proofs.index.Reads as index-reads
+use Rattle.wire.proofs.u16_at.Reads as u16-at-reads
+
+add-at : tie.Need-add-at
+add-at c = search needs
+
+mul-at : tie.Need-mul-at
+mul-at c = search needs
+
+add-at-2 : tie.Need-add-at-2
+add-at-2 c = search needs
+
+add-u16-at : tie.Need-add-u16-at
+add-u16-at c = search needs
+
+u16-at-requires : tie.Need-u16-at-requires
+u16-at-requires c κs = search needs
+
+index-requires : tie.Need-index-requires
+index-requires c κs = search needs
+
+add-t7 : tie.Need-add-t7
+add-t7 c = search needs
+
+returns : tie.Need-returns
+returns c = search (span-is, needs) depth 12
+
+pub entry-message-spec : {M : Type 1} → statement M
+entry-message-spec =
+    tie.close
+    (tie.spec add-at mul-at add-at-2 add-u16-at u16-at-requires index-requires add-t7 returns)

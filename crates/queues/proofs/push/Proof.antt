@@ -1,0 +1,62 @@
+use Rattle.queues.proofs.Writing.{push-full, push-one}
+use borrow.Author.Needs.{needs}
+use Rattle.queues.proofs.push.Statement.{statement}
+use Rattle.queues.proofs.push.Tie as tie
+use Rattle.queues.proofs.push.Reads as reads
+use Rattle.queues.proofs.push.Lts as lts
+use Rattle.queues.proofs.count.Reads as count-reads
+use Rattle.queues.proofs.put_head.Reads as put-head-reads
+use Rattle.queues.proofs.put_message.Reads as put-message-reads
+
+count-requires : tie.Need-count-requires
+count-requires c κs = search needs
+
+same-length : tie.Need-same-length
+same-length c = search needs
+
+returns : tie.Need-returns
+returns c = search (push-full, needs) depth 12
+
+add-at : tie.Need-add-at
+add-at c = search needs
+
+mul-at : tie.Need-mul-at
+mul-at c = search needs
+
+add-at-2 : tie.Need-add-at-2
+add-at-2 c = search needs
+
+cast-put-head : tie.Need-cast-put-head
+cast-put-head c = search needs
+
+put-head-requires : tie.Need-put-head-requires
+put-head-requires c κs = search needs
+
+add-put-message : tie.Need-add-put-message
+add-put-message c = search needs
+
+put-message-requires : tie.Need-put-message-requires
+put-message-requires c κs = search needs
+
+same-length-2 : tie.Need-same-length-2
+same-length-2 c = search needs
+
+returns-2 : tie.Need-returns-2
+returns-2 c = search (push-one, needs) depth 12
+
+pub push-spec : {M : Type 1} → statement M
+push-spec =
+    tie.close
+    (tie.spec
+    count-requires
+    same-length
+    returns
+    add-at
+    mul-at
+    add-at-2
+    cast-put-head
+    put-head-requires
+    add-put-message
+    put-message-requires
+    same-length-2
+    returns-2)

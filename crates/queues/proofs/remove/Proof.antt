@@ -1,0 +1,53 @@
+use Rattle.queues.proofs.Writing.{removed-is}
+use borrow.Author.Needs.{needs}
+use Rattle.queues.proofs.remove.Statement.{statement}
+use Rattle.queues.proofs.remove.Tie as tie
+use Rattle.queues.proofs.remove.Reads as reads
+use Rattle.queues.proofs.remove.Lts as lts
+use Rattle.queues.proofs.clear.Reads as clear-reads
+use Rattle.queues.proofs.move_up.Reads as move-up-reads
+
+add-at : tie.Need-add-at
+add-at c = search needs
+
+mul-at : tie.Need-mul-at
+mul-at c = search needs
+
+add-at-2 : tie.Need-add-at-2
+add-at-2 c = search needs
+
+sub-n : tie.Need-sub-n
+sub-n c = search needs
+
+mul-n : tie.Need-mul-n
+mul-n c = search needs
+
+move-up-requires : tie.Need-move-up-requires
+move-up-requires c κs = search needs
+
+add-clear : tie.Need-add-clear
+add-clear c = search needs
+
+clear-requires : tie.Need-clear-requires
+clear-requires c κs = search needs
+
+same-length : tie.Need-same-length
+same-length c = search needs
+
+returns : tie.Need-returns
+returns c = search (removed-is, needs) depth 12
+
+pub remove-spec : {M : Type 1} → statement M
+remove-spec =
+    tie.close
+    (tie.spec
+    add-at
+    mul-at
+    add-at-2
+    sub-n
+    mul-n
+    move-up-requires
+    add-clear
+    clear-requires
+    same-length
+    returns)

@@ -1,0 +1,4 @@
+pub mod Queue
+pub mod Written
+pub mod ReadLaws
+pub mod ChangeLaws

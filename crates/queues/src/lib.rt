@@ -1,0 +1,271 @@
+// The queue of a session in the bytes of a state: reading an entry, the oldest message of an operation, taking one out, queueing one more.
+// `slot` is where the session's slot starts. docs/STATE.md has the bytes.
+ghost use mathlib.Core.Path.{_≡_};
+ghost use mathlib.Core.List.{[], _∷_};
+ghost use Prim.Native.Nat.{_+_, _*_, _/_, _%_, _≤_, _<_};
+ghost use lib.ListN.{length};
+ghost use Rattle.wire.specs.Wire.{part};
+ghost use Rattle.state.specs.Bytes.{zeros, padded, u16Bytes, replyKind, replyBytes, readReply, readEntry, readQueue, readSession};
+ghost use Rattle.queues.specs.Queue.{replyOf, entryAt, messageSpan, Counted, oldestFrom, oldestIn, removed, entryHead, pushed};
+ghost use Rattle.queues.specs.Written.{written};
+
+// Where the reply to a message goes: nowhere, to an outsider under its reply number, or to a waiting row by service, session and B row.
+pub enum ReplyTo {
+    Nobody,
+    Outsider(u32),
+    WaitingRow(u8, u8, u16),
+}
+
+// The index of the oldest message of an operation, if there is one.
+pub enum OldestEntry {
+    Nothing,
+    Entry(usize),
+}
+
+// The place and the length of some bytes.
+pub struct Span {
+    pub start: usize,
+    pub len: usize,
+}
+
+// Where a reply goes, from its kind and the four bytes from `at` on.
+pub fn reply_at(state: &[u8], kind: u8, at: usize) -> ReplyTo
+    requires { ⌜ at + 4 ≤ length (now state) ⌝ }
+    ensures { λ r. ⌜ replyOf r ≡ readReply (now (state .entry)) kind at ⌝ }
+{
+    if kind == 1 {
+        return ReplyTo::Outsider(wire::u32_at(state, at));
+    }
+    if kind == 2 {
+        return ReplyTo::WaitingRow(
+            wire::byte_at(state, at),
+            wire::byte_at(state, at + 1),
+            wire::u16_at(state, at + 2),
+        );
+    }
+    ReplyTo::Nobody
+}
+
+// Where the reply to the message of the entry k goes.
+pub fn entry_reply(state: &[u8], slot: usize, k: usize) -> ReplyTo
+    requires { ⌜ (slot + 4096 ≤ length (now state)) × (k < 4) ⌝ }
+    ensures { λ r. ⌜ replyOf r ≡ readEntry (now (state .entry)) (entryAt slot k) .replyTo ⌝ }
+{
+    let at = slot + 1040 + 344 * k;
+    reply_at(state, wire::byte_at(state, at + 1), at + 4)
+}
+
+// The operation (O row) of the entry that starts at `at`.
+fn operation_at(state: &[u8], at: usize) -> u16
+    ensures { λ r. ⌜ r ≡ readEntry (now (state .entry)) at .operation ⌝ }
+{
+    let code = wire::byte_to_u16(wire::byte_at(state, at));
+    if code == 0 {
+        return 0;
+    }
+    code - 1
+}
+
+// The operation (O row) of the entry k.
+pub fn entry_operation(state: &[u8], slot: usize, k: usize) -> u16
+    requires { ⌜ (slot + 4096 ≤ length (now state)) × (k < 4) ⌝ }
+    ensures { λ r. ⌜ r ≡ readEntry (now (state .entry)) (entryAt slot k) .operation ⌝ }
+{
+    operation_at(state, slot + 1040 + 344 * k)
+}
+
+// Where the message of the entry k stands, and how many bytes it takes.
+pub fn entry_message(state: &[u8], slot: usize, k: usize) -> Span
+    requires { ⌜ (slot + 4096 ≤ length (now state)) × (k < 4) ⌝ }
+    ensures { λ r. ⌜ r ≡ messageSpan (now (state .entry)) slot k ⌝ }
+{
+    let at = slot + 1040 + 344 * k;
+    let len = wire::index(wire::u16_at(state, at + 2));
+    Span {
+        start: at + 8,
+        len: len,
+    }
+}
+
+// How many of the n entries from `at` on are used, up to the first that is not.
+fn count_from(state: &[u8], at: usize, n: usize) -> usize
+    requires { ⌜ at + 344 * n ≤ length (now state) ⌝ }
+    ensures { λ r. ⌜ Counted (now (state .entry)) n at r ⌝ }
+{
+    if n == 0 {
+        return 0;
+    }
+    if wire::byte_at(state, at) == 0 {
+        return 0;
+    }
+    count_from(state, at + 344, n - 1) + 1
+}
+
+// How many messages the queue holds.
+pub fn count(state: &[u8], slot: usize) -> usize
+    requires { ⌜ slot + 4096 ≤ length (now state) ⌝ }
+    ensures { λ r. ⌜ (r ≡ length (readSession (now (state .entry)) slot .queue)) × (r ≤ 4) ⌝ }
+{
+    count_from(state, slot + 1040, 4)
+}
+
+// The oldest message of the operation w among the n entries from `at` on, the first of which is the entry k.
+fn oldest_from(state: &[u8], at: usize, k: usize, n: usize, w: u16) -> OldestEntry
+    requires { ⌜ (at + 344 * n ≤ length (now state)) × (k + n ≤ 4) ⌝ }
+    ensures { λ r. ⌜ r ≡ oldestFrom k w (readQueue (now (state .entry)) n at) ⌝ }
+{
+    if n == 0 {
+        return OldestEntry::Nothing;
+    }
+    if wire::byte_at(state, at) == 0 {
+        return OldestEntry::Nothing;
+    }
+    if operation_at(state, at) == w {
+        return OldestEntry::Entry(k);
+    }
+    oldest_from(state, at + 344, k + 1, n - 1, w)
+}
+
+// The oldest message of the operation w.
+pub fn oldest(state: &[u8], slot: usize, w: u16) -> OldestEntry
+    requires { ⌜ slot + 4096 ≤ length (now state) ⌝ }
+    ensures { λ r. ⌜ r ≡ oldestIn w (readSession (now (state .entry)) slot .queue) ⌝ }
+{
+    oldest_from(state, slot + 1040, 0, 4, w)
+}
+
+fn put(state: &mut [u8], at: usize, x: u8)
+    requires { ⌜ at < length (now state) ⌝ }
+    ensures { λ _. ⌜ now (state .exit) ≡ written (now (state .entry)) at (x ∷ []) ⌝ }
+{
+    state[at] = x;
+}
+
+fn put_number(state: &mut [u8], at: usize, v: u16)
+    requires { ⌜ at + 2 ≤ length (now state) ⌝ }
+    ensures { λ _. ⌜ now (state .exit) ≡ written (now (state .entry)) at (u16Bytes v) ⌝ }
+{
+    put(state, at, (v % 256) as u8);
+    put(state, at + 1, (v / 256) as u8);
+}
+
+// Sets the n bytes from `at` on to 0.
+fn clear(state: &mut [u8], at: usize, n: usize)
+    requires { ⌜ at + n ≤ length (now state) ⌝ }
+    ensures { λ _. ⌜ now (state .exit) ≡ written (now (state .entry)) at (zeros n) ⌝ }
+{
+    let mut i: usize = 0;
+    while i < n {
+        state[at + i] = 0;
+        i += 1;
+    }
+}
+
+// Copies the n bytes of src from `start` on to `at`.
+fn copy(state: &mut [u8], at: usize, src: &[u8], start: usize, n: usize)
+    requires { ⌜ (at + n ≤ length (now state)) × (start + n ≤ length (now src)) ⌝ }
+    ensures { λ _. ⌜ now (state .exit) ≡ written (now (state .entry)) at (part (now (src .entry)) start n) ⌝ }
+{
+    let mut i: usize = 0;
+    while i < n {
+        state[at + i] = src[start + i];
+        i += 1;
+    }
+}
+
+// Moves the n bytes that stand `by` bytes after `at` to `at`.
+fn move_up(state: &mut [u8], at: usize, by: usize, n: usize)
+    requires { ⌜ at + by + n ≤ length (now state) ⌝ }
+    ensures { λ _. ⌜ now (state .exit) ≡ written (now (state .entry)) at (part (now (state .entry)) (at + by) n) ⌝ }
+{
+    let mut i: usize = 0;
+    while i < n {
+        let x = state[at + by + i];
+        state[at + i] = x;
+        i += 1;
+    }
+}
+
+// Takes the entry k out of the queue: the entries after it move up, and the last one is unused.
+pub fn remove(state: &mut [u8], slot: usize, k: usize)
+    requires { ⌜ (slot + 4096 ≤ length (now state)) × (k < 4) ⌝ }
+    ensures { λ _. ⌜ now (state .exit) ≡ removed (now (state .entry)) slot k ⌝ }
+{
+    let at = slot + 1040 + 344 * k;
+    let n = 344 * (3 - k);
+    move_up(state, at, 344, n);
+    clear(state, at + n, 344);
+}
+
+fn reply_kind(to: ReplyTo) -> u8
+    ensures { λ r. ⌜ r ≡ replyKind (replyOf to) ⌝ }
+{
+    match to {
+        ReplyTo::Nobody => 0,
+        ReplyTo::Outsider(_) => 1,
+        ReplyTo::WaitingRow(_, _, _) => 2,
+    }
+}
+
+// Writes the four bytes that say where a reply goes.
+fn put_reply(state: &mut [u8], at: usize, to: ReplyTo)
+    requires { ⌜ at + 4 ≤ length (now state) ⌝ }
+    ensures { λ _. ⌜ now (state .exit) ≡ written (now (state .entry)) at (replyBytes (replyOf to)) ⌝ }
+{
+    match to {
+        ReplyTo::Nobody => {
+            clear(state, at, 4);
+        }
+        ReplyTo::Outsider(number) => {
+            put_number(state, at, (number % 65536) as u16);
+            put_number(state, at + 2, (number / 65536) as u16);
+        }
+        ReplyTo::WaitingRow(service, session, row) => {
+            put(state, at, service);
+            put(state, at + 1, session);
+            put_number(state, at + 2, row);
+        }
+    }
+}
+
+// Writes what an entry holds before its message, 8 bytes: the operation w, where the reply goes, the message's length.
+fn put_head(state: &mut [u8], at: usize, w: u16, to: ReplyTo, len: u16)
+    requires { ⌜ (at + 8 ≤ length (now state)) × (w < 255) ⌝ }
+    ensures { λ _. ⌜ now (state .exit) ≡ written (now (state .entry)) at (entryHead w (replyOf to) len) ⌝ }
+{
+    put(state, at, (w + 1) as u8);
+    put(state, at + 1, reply_kind(to));
+    put_number(state, at + 2, len);
+    put_reply(state, at + 4, to);
+}
+
+// Writes an entry's message, the `len` bytes of `message` from `start` on, and zeros: 336 bytes.
+fn put_message(state: &mut [u8], at: usize, message: &[u8], start: usize, len: usize)
+    requires { ⌜ (at + 336 ≤ length (now state)) × (start + len ≤ length (now message)) × (len ≤ 336) ⌝ }
+    ensures { λ _. ⌜ now (state .exit) ≡ written (now (state .entry)) at (padded 336 (part (now (message .entry)) start len)) ⌝ }
+{
+    copy(state, at, message, start, len);
+    clear(state, at + len, 336 - len);
+}
+
+// Queues one more message, the `len` bytes of `message` from `start` on, at the first unused entry; a full queue stays.
+pub fn push(
+    state: &mut [u8],
+    slot: usize,
+    w: u16,
+    to: ReplyTo,
+    message: &[u8],
+    start: usize,
+    len: usize,
+)
+    requires { ⌜ (slot + 4096 ≤ length (now state)) × (w < 255) × (start + len ≤ length (now message)) × (len ≤ 336) ⌝ }
+    ensures { λ _. ⌜ now (state .exit) ≡ pushed (now (state .entry)) slot w (replyOf to) (part (now (message .entry)) start len) ⌝ }
+{
+    let k = count(state, slot);
+    if 4 <= k {
+        return;
+    }
+    let at = slot + 1040 + 344 * k;
+    put_head(state, at, w, to, len as u16);
+    put_message(state, at + 8, message, start, len);
+}

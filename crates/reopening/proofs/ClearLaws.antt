@@ -1,0 +1,293 @@
+-- Laws of rows set to undone: one for each way out of the functions.
+use Prim.Native.Nat.{ℕ, zero, suc, _+_, _-_, _*_, _/_, _<_, _≤_}
+use mathlib.Core.Path.{_≡_, refl, sym, _∙_, ap, subst}
+use mathlib.Core.List.{List}
+use mathlib.Core.Bool.{Bool, true, false, _&&_, _||_}
+use mathlib.Core.Logic.{inl, inr}
+use native.Mathlib.Omega.{arith}
+use native.Mathlib.Nat.{add-zero}
+use native.Mathlib.Decide.{decLt, decLe}
+use lib.Dec.{eqb, leb, ltb}
+use lib.ListN.{length}
+use borrow.Author.Tests.{eq-eqb, ne-eqb, lt-ltb, le-ltb, le-leb, lt-leb}
+use Rattle.forest.specs.Compare.{Compare, lt, eq, gt, compare}
+use Rattle.wire.specs.Wire.{byteAt, u16At, withPart}
+use Rattle.wire.specs.WireLaws.{Agree, withPart-inside, withPart-outside, length-withPart}
+use Rattle.scalar.specs.Value.{pick}
+use Rattle.syntax.specs.Rows.{hasRow}
+use Rattle.network.specs.declared.BehaviourKind.{BehaviourKind}
+use Rattle.network.specs.Layout.{behaviourCount, behaviourAt}
+use Rattle.network.specs.Rows.{fieldA, fieldB, fieldC, fieldD, kindAt}
+use Rattle.network.specs.Decode.{branchesFrom, behaviourFrom, behaviourTo, behaviourOf}
+use Rattle.rows.specs.Readers.{behaviourRowAs, behaviourRowOf}
+use Rattle.roots.specs.declared.Subs.{Subs}
+use Rattle.roots.specs.Parts.{subsIn, subsOf}
+use Rattle.state.specs.Session.{undone}
+use Rattle.state.specs.Bytes.{zeros, progressBytes}
+use Rattle.state.specs.PartLaws.{length-zeros, byte-zeros}
+use Rattle.progress.specs.declared.Progress.the-variants.{Undone}
+use Rattle.progress.specs.Meaning.{meaning}
+use Rattle.reopening.specs.Reopening.{inRows, withUndone, isRow, behaviourRows, branchRows, subRows, rowsBelow, Clears, ClearsBranches}
+use Rattle.reopening.specs.ReopeningLaws.{cleared-are}
+
+-- ---- one after another
+
+pick-or : (a b : Bool) (x : ℕ) → pick b 0 (pick a 0 x) ≡ pick (a || b) 0 x
+pick-or true true x = refl
+pick-or true false x = refl
+pick-or false b x = refl
+
+and-or : (a b x y : Bool) → (a && (b && x)) || (a && (b && y)) ≡ a && (b && (x || y))
+and-or true true x y = refl
+and-or true false x y = refl
+and-or false b x y = refl
+
+in-either : (f g h : ℕ → Bool) (slot k : ℕ) → ((i : ℕ) → h i ≡ f i || g i) → inRows f slot k || inRows g slot k ≡ inRows h slot k
+unfolding inRows
+in-either f g h slot k e =
+    let i = (k - (slot + 2416)) / 6 in
+    and-or (leb (slot + 2416) k) (ltb k (slot + 3952)) (f i) (g i)
+    ∙ ap (λ (x : Bool). leb (slot + 2416) k && (ltb k (slot + 3952) && x)) (sym (e i))
+
+in-same : (f g : ℕ → Bool) (slot k : ℕ) → ((i : ℕ) → f i ≡ g i) → inRows f slot k ≡ inRows g slot k
+unfolding inRows
+in-same f g slot k e = ap (λ (x : Bool). leb (slot + 2416) k && (ltb k (slot + 3952) && x)) (e ((k - (slot + 2416)) / 6))
+
+clears-as : {slot : ℕ} {s t : List ℕ} (f g : ℕ → Bool) → ((i : ℕ) → f i ≡ g i) → Clears f slot s t → Clears g slot s t
+clears-as {slot} {s} {t} f g e c = record {
+  long = c .long;
+  bytes = λ k. c .bytes k ∙ ap (λ (x : Bool). pick x 0 (byteAt s k)) (in-same f g slot k e);
+}
+
+clears-both : {slot : ℕ} {s t u : List ℕ} (f g h : ℕ → Bool) → Clears f slot s t → Clears g slot t u → ((i : ℕ) → h i ≡ f i || g i) → Clears h slot s u
+clears-both {slot} {s} {t} {u} f g h c d e = record {
+  long = d .long ∙ c .long;
+  bytes = λ k.
+      d .bytes k ∙ ap (pick (inRows g slot k) 0) (c .bytes k) ∙ pick-or (inRows f slot k) (inRows g slot k) (byteAt s k)
+      ∙ ap (λ (x : Bool). pick x 0 (byteAt s k)) (in-either f g h slot k e);
+}
+
+-- ---- one row
+
+and-false : (a : Bool) → a && false ≡ false
+and-false true = refl
+and-false false = refl
+
+before-row : (r slot k : ℕ) → k < slot + 2416 + 6 * r → inRows (isRow r) slot k ≡ false
+unfolding inRows isRow
+before-row r slot k l = by (decLt k (slot + 2416))
+  where
+    by : Dec (k < slot + 2416) → leb (slot + 2416) k && (ltb k (slot + 3952) && eqb ((k - (slot + 2416)) / 6) r) ≡ false
+    by (yes m) = rw (lt-leb (slot + 2416) k m) refl
+    by (no m) =
+        let e : (k - (slot + 2416)) / 6 ≡ r → ⊥ = λ q. omega arith in
+        rw (ne-eqb ((k - (slot + 2416)) / 6) r e, and-false (ltb k (slot + 3952)), and-false (leb (slot + 2416) k)) refl
+
+after-row : (r slot k : ℕ) → slot + 2416 + 6 * r + 6 ≤ k → inRows (isRow r) slot k ≡ false
+unfolding inRows isRow
+after-row r slot k l =
+    let e : (k - (slot + 2416)) / 6 ≡ r → ⊥ = λ q. omega arith in
+    rw (ne-eqb ((k - (slot + 2416)) / 6) r e, and-false (ltb k (slot + 3952)), and-false (leb (slot + 2416) k)) refl
+
+inside-row : (r slot k : ℕ) → r < 256 → slot + 2416 + 6 * r ≤ k → k < slot + 2416 + 6 * r + 6 → inRows (isRow r) slot k ≡ true
+unfolding inRows isRow
+inside-row r slot k h l m =
+    let e : (k - (slot + 2416)) / 6 ≡ r = omega arith in
+    rw (le-leb (slot + 2416) k (omega arith), lt-ltb k (slot + 3952) (omega arith), eq-eqb ((k - (slot + 2416)) / 6) r e) refl
+
+past-slot : (r slot k : ℕ) → slot + 3952 ≤ k → inRows (isRow r) slot k ≡ false
+unfolding inRows
+past-slot r slot k h = rw (le-ltb k (slot + 3952) h, and-false (leb (slot + 2416) k)) refl
+
+past-rows : (r slot k : ℕ) → 256 ≤ r → inRows (isRow r) slot k ≡ false
+past-rows r slot k h = by (decLt k (slot + 3952))
+  where
+    by : Dec (k < slot + 3952) → inRows (isRow r) slot k ≡ false
+    by (yes m) = before-row r slot k (omega arith)
+    by (no m) = past-slot r slot k (omega arith)
+
+pub clear-past : (slot r : ℕ) (s : List ℕ) → 256 ≤ r → Clears (isRow r) slot s s
+clear-past slot r s h = record { long = refl; bytes = λ k. rw (past-rows r slot k h) refl }
+
+six-zeros : progressBytes (meaning Undone) ≡ zeros 6
+unfolding progressBytes
+six-zeros = refl
+
+pub clear-put : (slot r : ℕ) (s o : List ℕ) → r < 256 → slot + 4096 ≤ length s → o ≡ withPart s (slot + 2416 + 6 * r) (progressBytes (meaning Undone))
+    → Clears (isRow r) slot s o
+clear-put slot r s o h l e =
+    let at = slot + 2416 + 6 * r in
+    let z = ap (withPart s at) six-zeros in
+    let n = length-zeros 6 in
+    let fits : at + length (zeros 6) ≤ length s = omega arith in
+    record {
+      long = ap length (e ∙ z) ∙ length-withPart s at (zeros 6) fits;
+      bytes = λ k. ap (λ (x : List ℕ). byteAt x k) (e ∙ z) ∙ by k (decLt k at) (decLt k (at + 6));
+    }
+  where
+    by : (k : ℕ) → Dec (k < slot + 2416 + 6 * r) → Dec (k < slot + 2416 + 6 * r + 6)
+        → byteAt (withPart s (slot + 2416 + 6 * r) (zeros 6)) k ≡ pick (inRows (isRow r) slot k) 0 (byteAt s k)
+    by k (yes a) b =
+        let at = slot + 2416 + 6 * r in
+        let n = length-zeros 6 in
+        let g = withPart-outside s at (zeros 6) (omega arith) k 1 (inl (omega arith)) .bytes 0 (omega arith) in
+        rw (before-row r slot k a) (rw (add-zero k) at g)
+    by k (no a) (yes b) =
+        let at = slot + 2416 + 6 * r in
+        let n = length-zeros 6 in
+        let g = withPart-inside s at (zeros 6) (omega arith) (k - at) 1 (omega arith) .bytes 0 (omega arith) in
+        let i : at + (k - at) + 0 ≡ k = omega arith in
+        rw (inside-row r slot k h (omega arith) b) (rw i at g ∙ byte-zeros 6 (k - at + 0))
+    by k (no a) (no b) =
+        let at = slot + 2416 + 6 * r in
+        let n = length-zeros 6 in
+        let g = withPart-outside s at (zeros 6) (omega arith) k 1 (inr (omega arith)) .bytes 0 (omega arith) in
+        rw (after-row r slot k (omega arith)) (rw (add-zero k) at g)
+
+pub ruleset clear-laws = (clear-past, clear-put)
+
+-- ---- behaviours
+
+or-false : (a : Bool) → a ≡ a || false
+or-false true = refl
+or-false false = refl
+
+or-assoc : (a b c : Bool) → a || (b || c) ≡ (a || b) || c
+or-assoc true b c = refl
+or-assoc false b c = refl
+
+kind-rows : (s : List ℕ) (d r i : ℕ) (k : BehaviourKind) → hasRow i (behaviourFrom s (behaviourTo s d) r (behaviourAt s r) k)
+    ≡ eqb i r || subRows s d (subsIn (behaviourRowAs k (fieldA s (behaviourAt s r)) (fieldB s (behaviourAt s r))
+    (fieldC s (behaviourAt s r)) (fieldD s (behaviourAt s r)))) i
+unfolding behaviourFrom hasRow subRows behaviourRowAs behaviourRows branchRows
+kind-rows s d r i BehaviourKind.Nil = or-false (eqb i r)
+kind-rows s d r i BehaviourKind.OneWay = or-false (eqb i r)
+kind-rows s d r i BehaviourKind.RequestResponse = refl
+kind-rows s d r i BehaviourKind.Notification = or-false (eqb i r)
+kind-rows s d r i BehaviourKind.SolicitResponse = or-false (eqb i r)
+kind-rows s d r i BehaviourKind.If = refl
+kind-rows s d r i BehaviourKind.While = refl
+kind-rows s d r i BehaviourKind.Sequence = refl
+kind-rows s d r i BehaviourKind.Parallel = refl
+kind-rows s d r i BehaviourKind.Assign = or-false (eqb i r)
+kind-rows s d r i BehaviourKind.Choice = refl
+kind-rows s d r i BehaviourKind.Branch = or-false (eqb i r)
+kind-rows s d r i BehaviourKind.Unknown = or-false (eqb i r)
+
+rows-more : (s : List ℕ) (d r i : ℕ) → behaviourRows s (suc d) r i ≡ isRow r i || subRows s d (subsOf s r) i
+unfolding behaviourRows behaviourTo subsOf behaviourRowOf isRow
+rows-more s d r i = kind-rows s d r i (kindAt s r)
+
+rows-none : (s : List ℕ) (r i : ℕ) → isRow r i ≡ behaviourRows s 0 r i
+unfolding behaviourRows behaviourTo isRow hasRow
+rows-none s r i = refl
+
+one-less : (n : ℕ) → (n ≡ 0 → ⊥) → n ≡ suc (n - 1)
+one-less zero h = absurd (h refl)
+one-less (suc n) h = omega arith
+
+pub row-alone : (s : List ℕ) (slot x r left : ℕ) (a b : List ℕ) → x ≡ r → Clears (isRow x) slot a b → left ≡ 0 → Clears (behaviourRows s left r) slot a b
+row-alone s slot x r left a b e c z =
+    clears-as (isRow x) (behaviourRows s left r) (λ i. ap (λ (y : ℕ). isRow y i) e ∙ rows-none s r i ∙ ap (λ (y : ℕ). behaviourRows s y r i) (sym z)) c
+
+module _ (s : List ℕ) (slot x r left : ℕ) (a b : List ℕ) (e : x ≡ r) (c : Clears (isRow x) slot a b) (h : left ≡ 0 → ⊥) {v : Subs} (f : v ≡ subsOf s r) where
+  rows-by : {y : Subs} → v ≡ y → (i : ℕ) → behaviourRows s left r i ≡ isRow x i || subRows s (left - 1) y i
+  rows-by g i =
+      ap (λ (n : ℕ). behaviourRows s n r i) (one-less left h) ∙ rows-more s (left - 1) r i
+      ∙ ap (λ (y : ℕ). isRow y i || subRows s (left - 1) (subsOf s r) i) (sym e) ∙ ap (λ (y : Subs). isRow x i || subRows s (left - 1) y i) (sym f ∙ g)
+
+  pub row-single : v ≡ Subs.Nothing → Clears (behaviourRows s left r) slot a b
+  unfolding subRows
+  row-single g = clears-as (isRow x) (behaviourRows s left r) (λ i. or-false (isRow x i) ∙ sym (rows-by g i)) c
+
+  pub row-one : {j : ℕ} (o : List ℕ) → v ≡ Subs.One j → Clears (behaviourRows s (left - 1) j) slot b o → Clears (behaviourRows s left r) slot a o
+  unfolding subRows
+  row-one {j} o g d = clears-both (isRow x) (behaviourRows s (left - 1) j) (behaviourRows s left r) c d (rows-by g)
+
+  pub row-two : {j k : ℕ} (m o : List ℕ) → v ≡ Subs.Two j k → Clears (behaviourRows s (left - 1) j) slot b m → Clears (behaviourRows s (left - 1) k) slot m o
+      → Clears (behaviourRows s left r) slot a o
+  unfolding subRows
+  row-two {j} {k} m o g d t =
+      clears-both (isRow x) (λ i. behaviourRows s (left - 1) j i || behaviourRows s (left - 1) k i) (behaviourRows s left r) c
+      (clears-both (behaviourRows s (left - 1) j) (behaviourRows s (left - 1) k)
+      (λ i. behaviourRows s (left - 1) j i || behaviourRows s (left - 1) k i) d t (λ i. refl))
+      (rows-by g)
+
+  pub row-run : {first n : ℕ} (o : List ℕ) {at y : ℕ} → v ≡ Subs.Run first n → at ≡ behaviourAt s first → y ≡ first
+      → ClearsBranches s slot y at n (left - 1) b o → Clears (behaviourRows s left r) slot a o
+  unfolding subRows
+  row-run {first} {n} o {at} {y} g p q d =
+      clears-both (isRow x) (branchRows s (left - 1) first n) (behaviourRows s left r) c
+      (subst (λ (z : ℕ). ClearsBranches s slot z at n (left - 1) b o) q d .clears p) (rows-by g)
+
+pub ruleset row-laws = (row-alone, row-single, row-one, row-two, row-run)
+
+-- ---- branches
+
+next-at : (s : List ℕ) (r : ℕ) → behaviourAt s r + 10 ≡ behaviourAt s (r + 1)
+unfolding behaviourAt
+next-at s r = omega arith
+
+branch-rows : (s : List ℕ) (d r n i : ℕ) → (n ≡ 0 → ⊥) → (n ≡ 1 → ⊥) → branchRows s d r n i
+    ≡ (isRow r i || (behaviourRows s d (fieldA s (behaviourAt s r)) i || behaviourRows s d (fieldB s (behaviourAt s r)) i)) || branchRows s d (r + 1) (n - 1) i
+unfolding branchRows branchesFrom hasRow isRow behaviourRows
+branch-rows s d r zero i f g = absurd (f refl)
+branch-rows s d r (suc zero) i f g = absurd (g refl)
+branch-rows s d r (suc (suc n)) i f g =
+    let a : r + 1 ≡ suc r = omega arith in
+    let b : suc (suc n) - 1 ≡ suc n = omega arith in
+    let x = hasRow i (behaviourTo s d (fieldA s (behaviourAt s r))) in
+    let y = hasRow i (behaviourTo s d (fieldB s (behaviourAt s r))) in
+    rw (a, b) (or-assoc (eqb i r) (x || y) (hasRow i (branchesFrom s (behaviourTo s d) (suc r) (suc n))))
+
+pub no-branches : (s : List ℕ) (slot r at n left : ℕ) (a b : List ℕ) → Clears (isRow r) slot a b → n ≡ 0 → ClearsBranches s slot r at n left a b
+unfolding branchRows branchesFrom hasRow isRow
+no-branches s slot r at n left a b c z =
+    record { clears = λ e. clears-as (isRow r) (branchRows s left r n) (λ i. ap (λ (m : ℕ). hasRow i (branchesFrom s (behaviourTo s left) r m)) (sym z)) c }
+
+module _ (s : List ℕ) (slot r at n left : ℕ) (a b m o : List ℕ) {j k : ℕ} (c : Clears (isRow r) slot a b) (p : j ≡ u16At s (at + 2))
+    (d : Clears (behaviourRows s left j) slot b m) (q : k ≡ u16At s (at + 4)) (t : Clears (behaviourRows s left k) slot m o) where
+  -- The rows of the first branch.
+  abbrev first-rows : ℕ → Bool
+  first-rows i = isRow r i || (behaviourRows s left j i || behaviourRows s left k i)
+
+  first-clears : Clears first-rows slot a o
+  first-clears =
+      clears-both (isRow r) (λ i. behaviourRows s left j i || behaviourRows s left k i) first-rows c
+      (clears-both (behaviourRows s left j) (behaviourRows s left k) (λ i. behaviourRows s left j i || behaviourRows s left k i) d t (λ i. refl)) (λ i. refl)
+
+  left-is : at ≡ behaviourAt s r → fieldA s (behaviourAt s r) ≡ j
+  left-is e = sym (p ∙ ap (λ (y : ℕ). u16At s (y + 2)) e)
+
+  right-is : at ≡ behaviourAt s r → fieldB s (behaviourAt s r) ≡ k
+  right-is e = sym (q ∙ ap (λ (y : ℕ). u16At s (y + 4)) e)
+
+  pub last-branch : n ≡ 1 → ClearsBranches s slot r at n left a o
+  unfolding branchRows branchesFrom hasRow isRow behaviourRows
+  last-branch z = record {
+    clears = λ e. clears-as first-rows (branchRows s left r n) (λ i.
+        let x = left-is e in
+        let y = right-is e in
+        rw (z, x, y) refl) first-clears;
+  }
+
+  pub more-branches : (w : List ℕ) → (n ≡ 0 → ⊥) → (n ≡ 1 → ⊥) → ClearsBranches s slot (r + 1) (at + 10) (n - 1) left o w
+      → ClearsBranches s slot r at n left a w
+  more-branches w f g v = record {
+    clears = λ e.
+        clears-both first-rows (branchRows s left (r + 1) (n - 1)) (branchRows s left r n) first-clears
+        (v .clears (ap (λ (y : ℕ). y + 10) e ∙ next-at s r)) (λ i. two-or-more e i);
+  }
+    where
+      two-or-more : at ≡ behaviourAt s r → (i : ℕ) → branchRows s left r n i ≡ first-rows i || branchRows s left (r + 1) (n - 1) i
+      two-or-more e i = branch-rows s left r n i f g ∙ rw (left-is e, right-is e) refl
+
+pub ruleset branches-laws = (no-branches, last-branch, more-branches)
+
+-- ---- the whole
+
+pub reopened : (s : List ℕ) (slot r n : ℕ) (a b : List ℕ) → n ≡ behaviourCount s → Clears (behaviourRows s n r) slot a b → b ≡ withUndone (rowsBelow s r) slot a
+unfolding behaviourRows behaviourOf
+reopened s slot r n a b e c = cleared-are (clears-as (behaviourRows s n r) (rowsBelow s r) (λ i. ap (λ (d : ℕ). hasRow i (behaviourTo s d r)) e) c)
+
+pub ruleset reopen-laws = (reopened)

@@ -1,0 +1,40 @@
+use Rattle.reopening.proofs.ClearLaws.{clear-laws}
+use borrow.Author.Needs.{needs}
+use Rattle.reopening.proofs.clear.Statement.{statement}
+use Rattle.reopening.proofs.clear.Tie as tie
+use Rattle.reopening.proofs.clear.Reads as reads
+use Rattle.reopening.proofs.clear.Lts as lts
+use Rattle.progress.proofs.put_progress.Reads as put-progress-reads
+
+returns : tie.Need-returns
+returns c = search clear-laws depth 12
+
+add-put-progress : tie.Need-add-put-progress
+add-put-progress c = search needs
+
+mul-put-progress : tie.Need-mul-put-progress
+mul-put-progress c = search needs
+
+add-put-progress-2 : tie.Need-add-put-progress-2
+add-put-progress-2 c = search needs
+
+put-progress-requires : tie.Need-put-progress-requires
+put-progress-requires c κs = search needs
+
+same-length : tie.Need-same-length
+same-length c = search needs
+
+returns-2 : tie.Need-returns-2
+returns-2 c = search clear-laws depth 12
+
+pub clear-spec : {M : Type 1} → statement M
+clear-spec =
+    tie.close
+    (tie.spec
+    returns
+    add-put-progress
+    mul-put-progress
+    add-put-progress-2
+    put-progress-requires
+    same-length
+    returns-2)

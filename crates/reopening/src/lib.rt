@@ -1,0 +1,83 @@
+// Taking a while's body "sets every row below it to undone" (docs/DECISIONS.md, 40): the rows of a behaviour in the slot of the state that
+// starts at `slot`. Sub-behaviours are later rows: `left` counts the rows left, so the walk ends on any bytes. Every function is exact on any
+// bytes; in a file in which each row is used once every row is written once.
+ghost use mathlib.Core.Path.{_≡_};
+ghost use Prim.Native.Nat.{_+_, _*_, _≤_, _<_};
+ghost use lib.ListN.{length};
+ghost use Rattle.reopening.specs.Reopening.{isRow, behaviourRows, rowsBelow, withUndone, Clears, ClearsBranches};
+use progress::Progress;
+use roots::Subs;
+
+// Row r alone; rows past 255 have no progress.
+fn clear(state: &mut [u8], slot: usize, r: usize)
+    requires { ⌜ slot + 4096 ≤ length (now state) ⌝ }
+    ensures { λ _. ⌜ Clears (isRow r) slot (now (state .entry)) (now (state .exit)) ⌝ }
+{
+    if 256 <= r {
+        return;
+    }
+    progress::put_progress(state, slot + 2416 + 6 * r, Progress::Undone);
+}
+
+// The rows of the behaviour of B row r; so many rows are left for its sub-behaviours.
+fn clear_row(file: &[u8], state: &mut [u8], slot: usize, r: u16, left: u16)
+    requires { ⌜ slot + 4096 ≤ length (now state) ⌝ }
+    ensures { λ _. ⌜ Clears (behaviourRows (now (file .entry)) left r) slot (now (state .entry)) (now (state .exit)) ⌝ }
+{
+    clear(state, slot, wire::index(r));
+    if left == 0 {
+        return;
+    }
+    match roots::subs_of(file, r) {
+        Subs::Nothing => {
+            return;
+        }
+        Subs::One(a) => {
+            clear_row(file, state, slot, a, left - 1);
+            return;
+        }
+        Subs::Two(a, b) => {
+            clear_row(file, state, slot, a, left - 1);
+            clear_row(file, state, slot, b, left - 1);
+            return;
+        }
+        Subs::Run(first, n) => {
+            let at = layout::behaviour_at(file, first);
+            clear_branches(file, state, slot, wire::index(first), at, n, left - 1);
+            return;
+        }
+    }
+}
+
+// The n branches from row `row` on, which stands at `at`.
+fn clear_branches(
+    file: &[u8],
+    state: &mut [u8],
+    slot: usize,
+    row: usize,
+    at: usize,
+    n: u16,
+    left: u16,
+)
+    requires { ⌜ (slot + 4096 ≤ length (now state)) × (row + n < 2000000) × (at + 10 * n < 2000000) ⌝ }
+    ensures { λ _. ⌜ ClearsBranches (now (file .entry)) slot row at n left (now (state .entry)) (now (state .exit)) ⌝ }
+{
+    clear(state, slot, row);
+    if n == 0 {
+        return;
+    }
+    clear_row(file, state, slot, wire::u16_at(file, at + 2), left);
+    clear_row(file, state, slot, wire::u16_at(file, at + 4), left);
+    if n == 1 {
+        return;
+    }
+    clear_branches(file, state, slot, row + 1, at + 10, n - 1, left);
+}
+
+// Every row of the behaviour of B row r.
+pub fn reopen(file: &[u8], state: &mut [u8], slot: usize, r: u16)
+    requires { ⌜ slot + 4096 ≤ length (now state) ⌝ }
+    ensures { λ _. ⌜ now (state .exit) ≡ withUndone (rowsBelow (now (file .entry)) r) slot (now (state .entry)) ⌝ }
+{
+    clear_row(file, state, slot, r, layout::behaviour_count(file));
+}
