@@ -58,6 +58,7 @@ split (suc k) (m ∷ l) h =
 pub record EntryStands (s : List ℕ) (slot k : ℕ) : Type 0 where
   pub bytes : part s (messageSpan s slot k .start) (messageSpan s slot k .len) ≡ messageBytes (readEntry s (entryAt slot k) .message)
   pub small : messageSpan s slot k .len ≤ 336
+  pub inside : messageSpan s slot k .start + messageSpan s slot k .len ≤ length s
   pub good : WellFormed messageDeep messageMany (readEntry s (entryAt slot k) .message)
 
 message-here : (a : List Queued) (m : Queued) (b : List Queued) → AllMessages (a ++ (m ∷ b)) → AllMessages a × WellFormed messageDeep messageMany (m .message)
@@ -66,9 +67,9 @@ message-here [] m b w = (tt, w .0)
 message-here (c ∷ a) m b w = let r = message-here a m b (w .1) in ((w .0, r .0), r .1)
 
 entry-stands : {s : List ℕ} {slot k : ℕ} (m : Queued) → WellFormed messageDeep messageMany (m .message) → Holds s (entryAt slot k) (entryBytes m)
-    → EntryStands s slot k
+    → entryAt slot k + 344 ≤ length s → EntryStands s slot k
 unfolding entryBytes messageSpan
-entry-stands {s} {slot} {k} m good h =
+entry-stands {s} {slot} {k} m good h room =
     let at = entryAt slot k in
     let l = messageBytes (m .message) in
     let len : u16At s (at + 2) ≡ length l = holds-u16 (length l) (holds-rest ((m .operation + 1) ∷ replyKind (m .replyTo) ∷ []) _ 2 refl h) in
@@ -81,6 +82,7 @@ entry-stands {s} {slot} {k} m good h =
           ap (λ (i : ℕ). part s i (u16At s (at + 2))) (sym e)
           ∙ (holds-part b (u16At s (at + 2)) (sym len) ∙ ap (λ (x : Queued). messageBytes (x .message)) (sym r));
       small = omega (arith, len, message-size (m .message) good);
+      inside = omega (arith, len, message-size (m .message) good, room);
       good = subst (λ (x : Queued). WellFormed messageDeep messageMany (x .message)) (sym r) good;
     }
 
@@ -156,6 +158,7 @@ module _ {s : List ℕ} {slot : ℕ} {S : Session} (made : WellMade S) (holds : 
       let q = subst (λ (l : List Queued). Holds s (slot + 1040) (queueBytes 4 l)) (x .whole) queue-holds in
       let e = holds-entry 4 (x .before) (x .here) (x .after) (omega (arith, x .index, h, made .upToFour)) (w .0) q in
       entry-stands (x .here) (w .1) (subst (λ (i : ℕ). Holds s (slot + 1040 + 344 * i) (entryBytes (x .here))) (x .index) e)
+      (omega (arith, slot-inside, h, made .upToFour))
 
   module _ (w : ℕ) {r : OldestEntry} (is : r ≡ oldestIn w (readSession s slot .queue)) where
     pub live-nothing : r ≡ Nothing → oldest w (S .queue) ≡ nothing

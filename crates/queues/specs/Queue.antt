@@ -17,7 +17,7 @@ use Rattle.queues.specs.declared.OldestEntry.{OldestEntry}
 use Rattle.queues.specs.declared.OldestEntry.the-variants.{Nothing, Entry}
 use Rattle.queues.specs.declared.Span.{Span}
 
--- Where a reply goes, in the terms of states.
+-- Where a reply goes, by the enum's cases, in the terms of states. 01, Moves: a state holds "where replies go".
 abbrev pub replyOf : declared.ReplyTo → ReplyTo
 replyOf Nobody = nobody
 replyOf (Outsider k) = outsider k
@@ -50,11 +50,12 @@ takenAt k [] = nothing
 takenAt zero (m ∷ l) = message m l
 takenAt (suc k) (m ∷ l) = keeping m (takenAt k l)
 
+-- What a receive takes where the oldest is at that index (ReadLaws, `oldest-taken`).
 abbrev pub takenOf : OldestEntry → List Queued → Taken
 takenOf Nothing l = nothing
 takenOf (Entry k) l = takenAt k l
 
--- The queue without the message at an index.
+-- The queue without the message at an index; the others keep their order.
 unfoldable pub without : ℕ → List Queued → List Queued
 without k [] = []
 without zero (m ∷ l) = l

@@ -63,7 +63,7 @@ clipped-inside n k h = by (compare k n)
     by (eq e) = rw (clipped-past n k (omega arith)) (omega arith)
     by (gt l) = rw (clipped-past n k (omega arith)) (omega arith)
 
--- A statement about the branch k holds if it holds of the first, given that it is the taken one, and goes on to the next.
+-- The row of the taken branch: the first one's, or that of one of the others.
 pub row-first : (first n k : ℕ) → clipped n k ≡ 0 → first + clipped n k ≡ first
 row-first first n k e = omega (arith, e)
 

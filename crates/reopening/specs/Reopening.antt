@@ -1,5 +1,5 @@
 -- Bytes in which rows are set to undone. 01, Moves: "a while whose body is done is again" ready; taking its body sets every row below it to
--- undone. `ReopeningLaws` says what this is of a state: Session's `reopen`.
+-- undone (docs/DECISIONS.md, 40). `ReopeningLaws` says what this is of a state: Session's `reopen`.
 use mathlib.Core.Path.{_≡_}
 use mathlib.Core.List.{List, [], _∷_}
 use mathlib.Core.Bool.{Bool, false, _&&_, _||_}

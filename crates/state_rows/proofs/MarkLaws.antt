@@ -2,7 +2,7 @@
 use Prim.Native.Nat.{ℕ, zero, suc, _+_, _-_, _*_, _<_, _≤_}
 use mathlib.Core.Path.{_≡_, refl, sym, _∙_, ap, subst}
 use mathlib.Core.List.{List}
-use mathlib.Core.Bool.{Bool, true, false, not, _||_}
+use mathlib.Core.Bool.{Bool, true, false, _||_}
 use native.Mathlib.Omega.{arith}
 use native.Mathlib.Numerals.{add-one}
 use lib.ListN.{getD, set, length, length-set, replicate, length-replicate}
@@ -19,7 +19,8 @@ use Rattle.rows.specs.Readers.{behaviourRowAs, behaviourRowOf}
 use Rattle.roots.specs.declared.Subs.{Subs}
 use Rattle.roots.specs.Parts.{subsIn, subsOf}
 use Rattle.syntax.specs.Rows.{hasRow}
-use Rattle.state_rows.specs.Marks.{marked, Adds, itselfRow, rowsTo, branchRows, subRows, AddsBranches, RowsOf}
+use Rattle.scalar.specs.Value.{pick}
+use Rattle.state_rows.specs.Marks.{markFor, Adds, itselfRow, rowsTo, branchRows, subRows, AddsBranches, RowsOf}
 
 -- ---- tests
 
@@ -31,35 +32,34 @@ or-false : (a : Bool) → a ≡ a || false
 or-false true = refl
 or-false false = refl
 
-or-true : (a : Bool) → a || true ≡ true
-or-true true = refl
-or-true false = refl
+pick-or : (a b : Bool) (v : ℕ) → pick b 1 (pick a 1 v) ≡ pick (a || b) 1 v
+pick-or true true v = refl
+pick-or true false v = refl
+pick-or false b v = refl
 
 -- ---- marks one after another
 
 adds-as : {l o : List ℕ} (f g : ℕ → Bool) → ((i : ℕ) → f i ≡ g i) → Adds f l o → Adds g l o
-adds-as {l} {o} f g e h = record { keeps = h .keeps; adds = λ n i k. h .adds n i k ∙ ap (λ (x : Bool). marked l i || x) (e i) }
+adds-as {l} {o} f g e h = record { keeps = h .keeps; adds = λ n i k. h .adds n i k ∙ ap (λ (x : Bool). pick x 1 (getD l i 0)) (e i) }
 
 adds-both : {l m o : List ℕ} (f g h : ℕ → Bool) → Adds f l m → Adds g m o → ((i : ℕ) → h i ≡ f i || g i) → Adds h l o
 adds-both {l} {m} {o} f g h x y e = record {
   keeps = λ n. y .keeps (x .keeps n);
   adds = λ n i k.
       y .adds (x .keeps n) i k
-      ∙ (ap (λ (z : Bool). z || g i) (x .adds n i k) ∙ (or-assoc (marked l i) (f i) (g i) ∙ ap (λ (z : Bool). marked l i || z) (sym (e i))));
+      ∙ (ap (λ (v : ℕ). pick (g i) 1 v) (x .adds n i k) ∙ (pick-or (f i) (g i) (getD l i 0) ∙ ap (λ (z : Bool). pick z 1 (getD l i 0)) (sym (e i))));
 }
 
 -- ---- one row
 
-set-marks : (l : List ℕ) (p i : ℕ) → p < length l → marked (set l p 1) i ≡ marked l i || eqb i p
-unfolding marked
+set-marks : (l : List ℕ) (p i : ℕ) → p < length l → getD (set l p 1) i 0 ≡ pick (eqb i p) 1 (getD l i 0)
 set-marks l p i h = go (compare p i)
   where
-    go : Compare p i → not (eqb (getD (set l p 1) i 0) 0) ≡ not (eqb (getD l i 0) 0) || eqb i p
-    go (lt k) = rw (getD-set-other l p i 1 0 (λ e. omega arith), ne-eqb i p (λ e. omega arith)) (or-false (not (eqb (getD l i 0) 0)))
-    go (gt k) = rw (getD-set-other l p i 1 0 (λ e. omega arith), ne-eqb i p (λ e. omega arith)) (or-false (not (eqb (getD l i 0) 0)))
+    go : Compare p i → getD (set l p 1) i 0 ≡ pick (eqb i p) 1 (getD l i 0)
+    go (lt k) = rw (ne-eqb i p (λ e. omega arith)) (getD-set-other l p i 1 0 (λ e. omega arith))
+    go (gt k) = rw (ne-eqb i p (λ e. omega arith)) (getD-set-other l p i 1 0 (λ e. omega arith))
     go (eq k) =
-        subst (λ (z : ℕ). not (eqb (getD (set l p 1) z 0) 0) ≡ not (eqb (getD l z 0) 0) || eqb z p) k
-        (rw (getD-set-same l p 1 0 h, eq-eqb p p refl) (sym (or-true (not (eqb (getD l p 0) 0)))))
+        subst (λ (z : ℕ). getD (set l p 1) z 0 ≡ pick (eqb z p) 1 (getD l z 0)) k (rw (eq-eqb p p refl) (getD-set-same l p 1 0 h))
 
 pub row-marked : (l : List ℕ) (r : ℕ) → r < 256 → Adds (itselfRow r) l (set l r 1)
 unfolding itselfRow
@@ -67,7 +67,7 @@ row-marked l r h = record { keeps = λ n. length-set l r 1 ∙ n; adds = λ n i 
 
 pub row-past : (l : List ℕ) (r : ℕ) → 256 ≤ r → Adds (itselfRow r) l l
 unfolding itselfRow
-row-past l r h = record { keeps = λ n. n; adds = λ n i k. rw (ne-eqb i r (λ e. omega arith)) (or-false (marked l i)) }
+row-past l r h = record { keeps = λ n. n; adds = λ n i k. rw (ne-eqb i r (λ e. omega arith)) }
 
 pub ruleset mark-laws = (row-marked, row-past)
 
@@ -192,12 +192,17 @@ zero-at (suc n) zero = refl
 zero-at (suc n) (suc i) = zero-at n i
 
 pub all-marked : (s o : List ℕ) (n r : ℕ) → n ≡ behaviourCount s → Adds (rowsTo s n r) (replicate 256 0) o → RowsOf s r o
-unfolding behaviourOf rowsTo marked
+unfolding behaviourOf rowsTo
 all-marked s o n r e h = record {
   all = h .keeps (length-replicate {A = ℕ} 256 0);
   rows = λ i k.
       h .adds (length-replicate {A = ℕ} 256 0) i k
-      ∙ (ap (λ (z : ℕ). not (eqb z 0) || hasRow i (behaviourTo s n r)) (zero-at 256 i) ∙ ap (λ (d : ℕ). hasRow i (behaviourTo s d r)) e);
+      ∙ (ap (λ (z : ℕ). pick (hasRow i (behaviourTo s n r)) 1 z) (zero-at 256 i)
+      ∙ (by (hasRow i (behaviourTo s n r)) ∙ ap (λ (d : ℕ). markFor (hasRow i (behaviourTo s d r))) e));
 }
+  where
+    by : (t : Bool) → pick t 1 0 ≡ markFor t
+    by true = refl
+    by false = refl
 
 pub ruleset whole-laws = (all-marked)

@@ -1,11 +1,11 @@
 -- The progress of a session's rows suits what it runs exactly if each row has a progress that it is allowed (`permitted-suits`).
 use mathlib.Core.Path.{_≡_, refl, sym, ap, _∙_}
 use mathlib.Core.List.{List}
-use mathlib.Core.Bool.{Bool, true, false, _&&_, _||_}
+use mathlib.Core.Bool.{Bool, true, false, not, _&&_, _||_}
 use mathlib.Core.Logic.{inl, inr}
 use Prim.Native.Nat.{ℕ, zero, suc, _+_, _*_, _≤_, _<_}
 use native.Mathlib.Omega.{arith}
-use lib.Dec.{ltb}
+use lib.Dec.{eqb, ltb}
 use borrow.Author.Tests.{le-ltb, ne-eqb}
 use Rattle.forest.specs.Compare.{T-of}
 use Rattle.syntax.specs.Syntax.{Network, Behaviour}
@@ -27,7 +27,7 @@ use Rattle.state.specs.Shape.{isUndone, undoneOrDone, undoneDoneOrWaits, undone
 use Rattle.state.specs.ShapeLaws.{both-ways, below-next}
 use Rattle.state.specs.RowShape.{suitsRow, PartOf}
 use Rattle.state.specs.RowLaws.{suits-row, rows-suit, row-part, part-row, quiet-each}
-use Rattle.state_rows.specs.Marks.{RowsOf}
+use Rattle.state_rows.specs.Marks.{marked, markFor, RowsOf}
 use Rattle.state_rows.specs.Allowed.{allowing, nothing, allowedBy, allowedAt, permits, permitted}
 
 -- ---- what is permitted of each kind
@@ -225,14 +225,22 @@ module _ (s : List ℕ) (w : WellFormed s) (N : Network) (rows : ℕ) (p : Progr
   abbrev one : ℕ → Bool
   one i = permits N rows (allowedAt s marks i) (p i)
 
+  marked-is : (i : ℕ) → i < 256 → marked marks i ≡ hasRow i B
+  unfolding marked
+  marked-is i k = rw (m .rows i k) (by (hasRow i B))
+    where
+      by : (t : Bool) → not (eqb (markFor t) 0) ≡ t
+      by true = refl
+      by false = refl
+
   -- Of a row of the behaviour, and of any other.
   inside : (i : ℕ) → i < 256 → hasRow i B ≡ true → one i ≡ permits N rows (allowedBy (behaviourRowOf s i)) (p i)
   unfolding allowedAt
-  inside i k e = rw (m .rows i k ∙ e)
+  inside i k e = rw (marked-is i k ∙ e)
 
   outside : (i : ℕ) → i < 256 → hasRow i B ≡ false → one i ≡ isUndone (p i)
   unfolding allowedAt
-  outside i k e = rw (m .rows i k ∙ e) (permits-undone N rows (p i))
+  outside i k e = rw (marked-is i k ∙ e) (permits-undone N rows (p i))
 
   to-each : (suits N rows p B && quietElsewhere 256 p B) ≡ true → (i : ℕ) → i < 256 → one i ≡ true
   to-each h i k = by (hasRow i B) refl
