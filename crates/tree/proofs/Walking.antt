@@ -14,38 +14,16 @@ use Rattle.forest.specs.Forest.{Forest, end, node, Tree, tree, nodeOf, Lookup, 
 use Rattle.forest.specs.ForestLaws.{find-eq, find-lt, find-gt}
 use Rattle.forest.specs.Path.{Path, path, read, readSteps}
 use Rattle.scalar.specs.Value.{Value, value, pick}
-use Rattle.tree.specs.Encode.{count, children, encode, treeDeep, treeMany}
-use Rattle.tree.specs.Decode.{headAt, scan}
+use Rattle.tree.specs.Encode.{count, children, encode}
+use Rattle.tree.specs.Decode.{headAt}
 use Rattle.tree.specs.Ids.{steps, pathOf, zeros, endsInZeros, isPath, lastOf, lastId}
 use Rattle.tree.specs.IdsLaws.{steps-stop, steps-on}
 use Rattle.tree.specs.Standing.{Row, Root, Stood, Spot, Ended, Sought, Below, Followed}
-use Rattle.tree.specs.StandingLaws.{no-bad, row-root, row-rest, row-fields, root-kids, seen, unseen, root-seen, root-unseen, root-scan}
+use Rattle.tree.specs.StandingLaws.{row-root, row-rest, row-fields, root-kids, seen, unseen, root-seen, root-unseen}
 use Rattle.tree.specs.declared.Head.{Head}
 use Rattle.tree.specs.declared.Head.the-variants.{Node, Fault}
-use Rattle.tree.specs.declared.Scan.{Scan}
-use Rattle.tree.specs.declared.Scan.the-variants.{Past, Bad}
 use Rattle.tree.specs.declared.Found.{Found}
 use Rattle.tree.specs.declared.Found.the-variants.{At, Nothing}
-
--- where a tree ends
-module _ (s : List ℕ) (at : ℕ) (h : Head) (p : h ≡ headAt s at) where
-  pub extent-fault : (e : ℕ) → h ≡ Fault → Ended s at e
-  extent-fault e q = record { ends = λ i t w. root-unseen s at i t w h p q }
-
-  module _ (i b c m : ℕ) (q : h ≡ Node i b c m) (y : Scan) (u : y ≡ scan s treeDeep c 0 treeMany m) where
-    pub extent-bad : (e : ℕ) → y ≡ Bad → Ended s at e
-    extent-bad e v = record { ends = go }
-      where
-        go : (x : ℕ) (t : Tree Value) → Root s at x t → e ≡ at + length (encode (nodeOf x t end))
-        go x (tree (value d w) ks) r = no-bad (sym (root-scan s at x d w ks r h i b c m p q) ∙ sym u ∙ v)
-
-    pub extent-past : (e l : ℕ) → y ≡ Past e l → Ended s at e
-    extent-past e l v = record { ends = go }
-      where
-        go : (x : ℕ) (t : Tree Value) → Root s at x t → e ≡ at + length (encode (nodeOf x t end))
-        go x (tree (value d w) ks) r = let k = sym (root-scan s at x d w ks r h i b c m p q) ∙ sym u ∙ v in cc
-
-pub ruleset extent-laws = (extent-fault, extent-bad, extent-past)
 
 -- the sibling with an id
 pub seek-none : (s : List ℕ) (at n id : ℕ) → n ≡ 0 → Sought s at n id Nothing

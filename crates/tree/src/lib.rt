@@ -128,17 +128,30 @@ pub fn within(s: &[u8], levels: u8, nodes: u8) -> bool
     true
 }
 
-// Where the tree at `at` ends.
+// Where the tree at `at` ends. Its nodes are passed one by one, with how many trees are still to come side by side.
 pub fn extent(s: &[u8], at: usize) -> usize
     ensures { λ r. ⌜ Ended (now (s .entry)) at r ⌝ }
 {
-    let Head::Node(_, _, count, mid) = head_at(s, at) else {
-        return at;
-    };
-    let Scan::Past(end, _) = kids(s, mid, count, 0, 6, 48) else {
-        return at;
-    };
-    end
+    let mut p = at;
+    let mut left: usize = 1;
+    while 0 < left {
+        if 255 < left {
+            return at;
+        }
+        if s.len() < 5 {
+            return at;
+        }
+        if s.len() - 5 < p {
+            return at;
+        }
+        let len = wire::wide(s[p + 4]);
+        if s.len() - 5 - p < len {
+            return at;
+        }
+        left = left - 1 + wire::wide(s[p + 3]);
+        p = p + 5 + len;
+    }
+    p
 }
 
 // The byte k of the value of the node at `at`; 0 past its end.

@@ -1,50 +1,105 @@
-use Rattle.tree.proofs.Walking.{extent-laws}
+use Prim.Native.Nat.{_-_, _≤_}
+use lib.ListN.{length}
 use native.Mathlib.Omega.{arith}
 use borrow.Author.Needs.{needs}
+use Rattle.tree.proofs.Skipping.{Passing, pass-start, pass-laws}
 use Rattle.tree.proofs.extent.Statement.{statement}
 use Rattle.tree.proofs.extent.Tie as tie
-use Rattle.tree.proofs.extent.Reads as reads
-use Rattle.tree.proofs.extent.Lts as lts
-use Rattle.tree.proofs.head_at.Reads as head-at-reads
-use Rattle.tree.proofs.kids.Reads as kids-reads
+use Rattle.wire.proofs.wide.Reads as wide-reads
 
-head-at-requires : tie.Need-head-at-requires
-head-at-requires c κs = search needs
+abbrev Inv-loop : tie.InvT-loop
+Inv-loop s at p₀ left₀ p left = Passing s at p left
 
-enum-known-count : tie.Need-enum-known-count
-enum-known-count c = search needs
+abbrev μ-loop : tie.MeasureT-loop
+μ-loop s at p₀ left₀ p left = length s - p
 
-enum-told : tie.Need-enum-told
-enum-told c = search needs
+loop-holds : tie.Need-loop-holds Inv-loop μ-loop
+loop-holds c = pass-start _ _
 
-returns : tie.Need-returns
-returns c = search extent-laws depth 12
+returns : tie.Need-returns Inv-loop μ-loop
+returns c = search pass-laws depth 12
 
-kids-requires : tie.Need-kids-requires
-kids-requires c κs = search needs
+returns-2 : tie.Need-returns-2 Inv-loop μ-loop
+returns-2 c = search pass-laws depth 12
 
-enum-known-end : tie.Need-enum-known-end
-enum-known-end c = search needs
+sub-if3 : tie.Need-sub-if3 Inv-loop μ-loop
+sub-if3 c = search needs
 
-enum-told-2 : tie.Need-enum-told-2
-enum-told-2 c = search needs
+returns-3 : tie.Need-returns-3 Inv-loop μ-loop
+returns-3 c = search pass-laws depth 12
 
-returns-2 : tie.Need-returns-2
-returns-2 c = search extent-laws depth 12
+add-wide : tie.Need-add-wide Inv-loop μ-loop
+add-wide c = search needs
 
-returns-3 : tie.Need-returns-3
-returns-3 c = search extent-laws depth 12
+shared-slice-read-wide : tie.Need-shared-slice-read-wide Inv-loop μ-loop
+shared-slice-read-wide c = search needs
+
+wide-requires : tie.Need-wide-requires Inv-loop μ-loop
+wide-requires c κs = search needs
+
+sub-if4 : tie.Need-sub-if4 Inv-loop μ-loop
+sub-if4 c = search needs
+
+sub-if4-2 : tie.Need-sub-if4-2 Inv-loop μ-loop
+sub-if4-2 c = search needs
+
+returns-4 : tie.Need-returns-4 Inv-loop μ-loop
+returns-4 c = search pass-laws depth 12
+
+sub-left : tie.Need-sub-left Inv-loop μ-loop
+sub-left c = search needs
+
+add-wide-2 : tie.Need-add-wide-2 Inv-loop μ-loop
+add-wide-2 c = search needs
+
+shared-slice-read-wide-2 : tie.Need-shared-slice-read-wide-2 Inv-loop μ-loop
+shared-slice-read-wide-2 c = search needs
+
+wide-requires-2 : tie.Need-wide-requires-2 Inv-loop μ-loop
+wide-requires-2 c κs = search needs
+
+add-left : tie.Need-add-left Inv-loop μ-loop
+add-left c = search needs
+
+add-p : tie.Need-add-p Inv-loop μ-loop
+add-p c = search needs
+
+add-p-2 : tie.Need-add-p-2 Inv-loop μ-loop
+add-p-2 c = search needs
+
+loop-less : tie.Need-loop-less Inv-loop μ-loop
+loop-less c = search needs
+
+loop-again : tie.Need-loop-again Inv-loop μ-loop
+loop-again c = search pass-laws depth 12
+
+returns-5 : tie.Need-returns-5 Inv-loop μ-loop
+returns-5 c = search pass-laws depth 12
 
 pub extent-spec : {M : Type 1} → statement M
 extent-spec =
     tie.close
     (tie.spec
-    head-at-requires
-    enum-known-count
-    enum-told
+    Inv-loop
+    μ-loop
+    loop-holds
     returns
-    kids-requires
-    enum-known-end
-    enum-told-2
     returns-2
-    returns-3)
+    sub-if3
+    returns-3
+    add-wide
+    shared-slice-read-wide
+    wide-requires
+    sub-if4
+    sub-if4-2
+    returns-4
+    sub-left
+    add-wide-2
+    shared-slice-read-wide-2
+    wide-requires-2
+    add-left
+    add-p
+    add-p-2
+    loop-less
+    loop-again
+    returns-5)
