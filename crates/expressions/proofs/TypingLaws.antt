@@ -192,7 +192,12 @@ binary-typed s e r {x} {o} {a} {b} {y} {t} {z} m n v v₂ k = subst (λ (c : Typ
           (λ c. after-operand e t (typeOf Γ (expressionOf s b)) (binaryTyping o c) (binaryType (binaryOf o) c) (v₂ .tells Γ g w (omega arith)) (binary-right e o c)),
     )))
 
+-- An operand that stands on both sides is typed once.
+pub twice-typed : (s : List ℕ) (e : Environment) (r : ℕ) {x : Part} {o : BinaryOperator} {a b : ℕ} {y z : Typing} → x ≡ partOf s r → x ≡ Part.Binary o a b
+    → Typed s e a y → a ≡ b → z ≡ binaryTyped o y y → Typed s e r z
+twice-typed s e r {x} {o} {a} {b} {y} m n v i k = binary-typed s e r m n v (subst (λ (d : ℕ). Typed s e d y) i v) k
+
 pub broken-typed : (s : List ℕ) (e : Environment) (r : ℕ) {x : Part} (y : Typing) → x ≡ partOf s r → x ≡ Part.Broken → Typed s e r y
 broken-typed s e r y p q = record { tells = λ Γ g w l. absurd (part-is s w r l p q) }
 
-pub ruleset type-laws = (constant-typed, value-typed, presence-typed, unary-typed, binary-typed, broken-typed)
+pub ruleset type-laws = (constant-typed, value-typed, presence-typed, unary-typed, binary-typed, twice-typed, broken-typed)

@@ -190,6 +190,9 @@ pub fn type_of(file: &[u8], e: Environment, r: u16) -> Typing
         }
         Part::Binary(o, a, b) => {
             let x = type_of(file, e, a);
+            if a == b {
+                return binary(o, x, x);
+            }
             let y = type_of(file, e, b);
             binary(o, x, y)
         }

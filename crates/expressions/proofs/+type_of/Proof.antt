@@ -64,20 +64,23 @@ type-of-type-of-requires-2 t c κs =
     let f = binary-falls (s .args .file .now) (s .args .r) (c .before .before .before .part-of .ensures) (c .before .o2 .given .1) in
     (omega (arith, s .pre), search needs)
 
-type-of-type-of-requires-3 : (t : ℕ) → type-of-lts.Need-type-of-requires-3 (part-of-reads.Asked, part-of-reads.Learnt, value-type-reads.Asked, value-type-reads.Learnt, presence-type-reads.Asked, presence-type-reads.Learnt, type-of-below t, type-of.Post, unary-reads.Asked, unary-reads.Learnt, binary-reads.Asked, binary-reads.Learnt) (type-of-at t) type-of.Post
-type-of-type-of-requires-3 t c κs =
-    let s = c .before .before .before .before .before .before in
-    let f = binary-falls (s .args .file .now) (s .args .r) (c .before .before .before .before .part-of .ensures) (c .before .before .o2 .given .1) in
-    (omega (arith, s .pre), search needs)
-
 type-of-binary-requires : (t : ℕ) → type-of-lts.Need-binary-requires (part-of-reads.Asked, part-of-reads.Learnt, value-type-reads.Asked, value-type-reads.Learnt, presence-type-reads.Asked, presence-type-reads.Learnt, type-of-below t, type-of.Post, unary-reads.Asked, unary-reads.Learnt, binary-reads.Asked, binary-reads.Learnt) (type-of-at t) type-of.Post
 type-of-binary-requires t c κs = search needs
 
-type-of-enum-told : (t : ℕ) → type-of-lts.Need-enum-told (part-of-reads.Asked, part-of-reads.Learnt, value-type-reads.Asked, value-type-reads.Learnt, presence-type-reads.Asked, presence-type-reads.Learnt, type-of-below t, type-of.Post, unary-reads.Asked, unary-reads.Learnt, binary-reads.Asked, binary-reads.Learnt) (type-of-at t) type-of.Post
-type-of-enum-told t c = search needs
-
 type-of-returns : (t : ℕ) → type-of-lts.Need-returns (part-of-reads.Asked, part-of-reads.Learnt, value-type-reads.Asked, value-type-reads.Learnt, presence-type-reads.Asked, presence-type-reads.Learnt, type-of-below t, type-of.Post, unary-reads.Asked, unary-reads.Learnt, binary-reads.Asked, binary-reads.Learnt) (type-of-at t) type-of.Post
 type-of-returns t c = search type-laws depth 12
+
+type-of-type-of-requires-3 : (t : ℕ) → type-of-lts.Need-type-of-requires-3 (part-of-reads.Asked, part-of-reads.Learnt, value-type-reads.Asked, value-type-reads.Learnt, presence-type-reads.Asked, presence-type-reads.Learnt, type-of-below t, type-of.Post, unary-reads.Asked, unary-reads.Learnt, binary-reads.Asked, binary-reads.Learnt) (type-of-at t) type-of.Post
+type-of-type-of-requires-3 t c κs =
+    let s = c .before .before .before .before .before .before .before in
+    let f = binary-falls (s .args .file .now) (s .args .r) (c .before .before .before .before .before .part-of .ensures) (c .before .before .before .o2 .given .1) in
+    (omega (arith, s .pre), search needs)
+
+type-of-binary-requires-2 : (t : ℕ) → type-of-lts.Need-binary-requires-2 (part-of-reads.Asked, part-of-reads.Learnt, value-type-reads.Asked, value-type-reads.Learnt, presence-type-reads.Asked, presence-type-reads.Learnt, type-of-below t, type-of.Post, unary-reads.Asked, unary-reads.Learnt, binary-reads.Asked, binary-reads.Learnt) (type-of-at t) type-of.Post
+type-of-binary-requires-2 t c κs = search needs
+
+type-of-enum-told : (t : ℕ) → type-of-lts.Need-enum-told (part-of-reads.Asked, part-of-reads.Learnt, value-type-reads.Asked, value-type-reads.Learnt, presence-type-reads.Asked, presence-type-reads.Learnt, type-of-below t, type-of.Post, unary-reads.Asked, unary-reads.Learnt, binary-reads.Asked, binary-reads.Learnt) (type-of-at t) type-of.Post
+type-of-enum-told t c = search needs
 
 type-of-returns-2 : (t : ℕ) → type-of-lts.Need-returns-2 (part-of-reads.Asked, part-of-reads.Learnt, value-type-reads.Asked, value-type-reads.Learnt, presence-type-reads.Asked, presence-type-reads.Learnt, type-of-below t, type-of.Post, unary-reads.Asked, unary-reads.Learnt, binary-reads.Asked, binary-reads.Learnt) (type-of-at t) type-of.Post
 type-of-returns-2 t c = search type-laws depth 12
@@ -94,6 +97,9 @@ type-of-returns-5 t c = search type-laws depth 12
 type-of-returns-6 : (t : ℕ) → type-of-lts.Need-returns-6 (part-of-reads.Asked, part-of-reads.Learnt, value-type-reads.Asked, value-type-reads.Learnt, presence-type-reads.Asked, presence-type-reads.Learnt, type-of-below t, type-of.Post, unary-reads.Asked, unary-reads.Learnt, binary-reads.Asked, binary-reads.Learnt) (type-of-at t) type-of.Post
 type-of-returns-6 t c = search type-laws depth 12
 
+type-of-returns-7 : (t : ℕ) → type-of-lts.Need-returns-7 (part-of-reads.Asked, part-of-reads.Learnt, value-type-reads.Asked, value-type-reads.Learnt, presence-type-reads.Asked, presence-type-reads.Learnt, type-of-below t, type-of.Post, unary-reads.Asked, unary-reads.Learnt, binary-reads.Asked, binary-reads.Learnt) (type-of-at t) type-of.Post
+type-of-returns-7 t c = search type-laws depth 12
+
 pub +type-of-spec : {M : Type 1} → statement M
 +type-of-spec = close μ-type-of λ t. type-of-lts.spec (part-of-reads.Asked, part-of-reads.Learnt, value-type-reads.Asked, value-type-reads.Learnt, presence-type-reads.Asked, presence-type-reads.Learnt, type-of-below t, type-of.Post, unary-reads.Asked, unary-reads.Learnt, binary-reads.Asked, binary-reads.Learnt)
     (type-of-at t)
@@ -109,12 +115,14 @@ pub +type-of-spec : {M : Type 1} → statement M
     (type-of-unary-requires t)
     (type-of-enum-known-o-2 t)
     (type-of-type-of-requires-2 t)
-    (type-of-type-of-requires-3 t)
     (type-of-binary-requires t)
-    (type-of-enum-told t)
     (type-of-returns t)
+    (type-of-type-of-requires-3 t)
+    (type-of-binary-requires-2 t)
+    (type-of-enum-told t)
     (type-of-returns-2 t)
     (type-of-returns-3 t)
     (type-of-returns-4 t)
     (type-of-returns-5 t)
     (type-of-returns-6 t)
+    (type-of-returns-7 t)
