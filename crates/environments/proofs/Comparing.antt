@@ -6,9 +6,9 @@ use Prim.Native.Nat.{ℕ, zero, suc, _+_, _-_, _/_, _%_, _≤_, _<_}
 use native.Mathlib.Omega.{arith}
 use native.Mathlib.Numerals.{add-one}
 use lib.ListN.{length, getD, take, drop, length-take, length-drop}
-use lib.Seq.{getD-take, getD-drop, take-suc, take-all}
+use lib.Seq.{getD-take, getD-drop, take-suc, take-take, take-all}
 use lib.Dec.{T, eqb, eqb-refl}
-use borrow.Author.Tests.{not-true, not-false}
+use borrow.Author.Tests.{not-true, not-false, eqb-true, eqb-false}
 use Rattle.forest.specs.Compare.{of-T, not-T-false, and-i}
 use Rattle.forest.specs.Forest.{Forest, end, node, Tree, tree, nodeOf, Lookup, absent, present, find, mapForest, mapTree, mapLookup}
 use Rattle.forest.specs.ForestLaws.{find-map}
@@ -40,9 +40,6 @@ use Rattle.environments.specs.Tells.{SameEnvironments, OneTyped}
 
 -- ---- bytes
 
-pub same-none : (a b : List ℕ) → take 0 a ≡ take 0 b
-same-none a b = refl
-
 at-part : (a : List ℕ) (i k : ℕ) → getD (drop i a) k 0 ≡ getD a (i + k) 0
 at-part a i k = getD-drop i a k 0
 
@@ -53,16 +50,30 @@ same-more a b i j k p q e h =
     let lb : k < length (drop j b) = rw (length-drop j b) (omega arith) in
     rw (add-one k) (take-suc (drop i a) k 0 la ∙ rw (h, at-part a i k, e, ← at-part b j k) (sym (take-suc (drop j b) k 0 lb)))
 
-pub same-end : (a b : List ℕ) (k n : ℕ) → n ≤ k → k ≤ n → take k a ≡ take k b → SameLists (take n a) (take n b) true
-same-end a b k n p q h =
-    let e : k ≡ n = omega arith in
-    record { yes = λ x. subst (λ (z : ℕ). take z a ≡ take z b) e h; no = λ x. absurd (let z : _≡_ {A = ℕ} 0 1 = cc in omega arith) }
+pub same-start : SameLists [] [] true
+same-start = record { yes = λ x. refl; no = λ x. absurd (let z : _≡_ {A = ℕ} 0 1 = cc in omega arith) }
 
-pub same-not : (a b : List ℕ) (i j k n : ℕ) → k < n → (getD a (i + k) 0 ≡ getD b (j + k) 0 → ⊥) → SameLists (take n (drop i a)) (take n (drop j b)) false
-same-not a b i j k n l f = record {
-  yes = λ x. absurd (let z : _≡_ {A = ℕ} 0 1 = cc in omega arith);
-  no = λ x e. f (sym (at-part a i k) ∙ sym (getD-take n (drop i a) k 0 l) ∙ ap (λ (z : List ℕ). getD z k 0) e ∙ getD-take n (drop j b) k 0 l ∙ at-part b j k);
-}
+pub same-next : (a b : List ℕ) (i j k : ℕ) (x y : Bool) → i + k < length a → j + k < length b → y ≡ (x && eqb (getD a (i + k) 0) (getD b (j + k) 0)) →
+    SameLists (take k (drop i a)) (take k (drop j b)) x → SameLists (take (k + 1) (drop i a)) (take (k + 1) (drop j b)) y
+same-next a b i j k x y p q e w = by x (eqb (getD a (i + k) 0) (getD b (j + k) 0)) refl refl e
+  where
+    shorter : take (k + 1) (drop i a) ≡ take (k + 1) (drop j b) → take k (drop i a) ≡ take k (drop j b)
+    shorter h = sym (take-take k (k + 1) (drop i a) (omega arith)) ∙ ap (take k) h ∙ take-take k (k + 1) (drop j b) (omega arith)
+
+    last : take (k + 1) (drop i a) ≡ take (k + 1) (drop j b) → getD a (i + k) 0 ≡ getD b (j + k) 0
+    last h =
+        sym (at-part a i k) ∙ sym (getD-take (k + 1) (drop i a) k 0 (omega arith)) ∙ ap (λ (z : List ℕ). getD z k 0) h
+        ∙ getD-take (k + 1) (drop j b) k 0 (omega arith) ∙ at-part b j k
+
+    by : (u v : Bool) → x ≡ u → eqb (getD a (i + k) 0) (getD b (j + k) 0) ≡ v → y ≡ (u && v) → SameLists (take (k + 1) (drop i a)) (take (k + 1) (drop j b)) y
+    by true true g h f = record { yes = λ z. same-more a b i j k p q (eqb-true _ _ h) (w .yes g); no = λ z. absurd (let z : _≡_ {A = ℕ} 0 1 = cc in omega arith) }
+    by true false g h f = record { yes = λ z. absurd (let z : _≡_ {A = ℕ} 0 1 = cc in omega arith); no = λ z t. eqb-false _ _ h (last t) }
+    by false v g h f = record { yes = λ z. absurd (let z : _≡_ {A = ℕ} 0 1 = cc in omega arith); no = λ z t. w .no g (shorter t) }
+
+pub same-done : (a b : List ℕ) (k n : ℕ) (x : Bool) → n ≤ k → k ≤ n → SameLists (take k a) (take k b) x → SameLists (take n a) (take n b) x
+same-done a b k n x p q h =
+    let e : k ≡ n = omega arith in
+    subst (λ (z : ℕ). SameLists (take z a) (take z b) x) e h
 
 -- ---- parts
 

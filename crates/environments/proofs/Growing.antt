@@ -1,10 +1,10 @@
 -- Putting a type where nothing stands: the bytes, the order of ids and the limits of the environment after, at each of the ways out of the code.
 use mathlib.Core.Path.{_≡_, refl, ap, sym, subst, _∙_}
-use mathlib.Core.List.{List, [], _∷_, _++_, append-nil}
+use mathlib.Core.List.{List, [], _∷_, _++_}
 use mathlib.Core.Bool.{Bool, true, false, not, _&&_}
 use Prim.Native.Nat.{ℕ, zero, suc, max, _+_, _-_, _*_, _/_, _%_, _≤_, _<_}
 use native.Mathlib.Omega.{arith}
-use lib.ListN.{length, getD, take, drop, replicate, take-append-drop, drop-of-length-le, length-take}
+use lib.ListN.{length, getD, take, drop, replicate, take-append-drop, length-take}
 use lib.Dec.{leb}
 use borrow.Author.Tests.{not-true, not-false, leb-true}
 use Rattle.forest.specs.Compare.{Compare, lt, eq, gt, compare}
@@ -33,7 +33,7 @@ use Rattle.tree.specs.EncodeLaws.{length-node}
 use Rattle.tree.specs.Ids.{steps, pathOf, Words}
 use Rattle.tree.specs.IdsLaws.{Ids, steps-ids}
 use Rattle.tree.specs.Standing.{Within}
-use Rattle.tree_edit.specs.Wrote.{Wrote, padded, stored}
+use Rattle.tree_edit.specs.Wrote.{Wrote}
 use Rattle.tree_edit.specs.Change.{replaced}
 use Rattle.types.specs.Image.{flag, markValue, image, typeTree, InRange}
 use Rattle.types.specs.ImageLaws.{measure-map, length-image, image-sound, rising-map, image-well-formed}
@@ -158,10 +158,17 @@ within-few Δ e = by (leb (nodes Δ) 48) (leb (levels Δ) 6) refl refl e
     by true false p q h = absurd (let z : _≡_ {A = ℕ} 0 1 = cc in omega arith)
     by false b p q h = absurd (let z : _≡_ {A = ℕ} 0 1 = cc in omega arith)
 
-stored-is : (b o : List ℕ) (k : ℕ) (l : List ℕ) → length b ≡ 512 → take k o ≡ l → k ≡ length l → stored b 0 512 o k ≡ l ++ replicate (512 - length l) 0
-stored-is b o k l h e n =
-    ap (λ (z : List ℕ). padded 512 o k ++ z) (drop-of-length-le b {i = 512} (omega arith)) ∙ append-nil (padded 512 o k)
-    ∙ ap (λ (z : List ℕ). z ++ replicate (512 - k) 0) e ∙ ap (λ (z : ℕ). l ++ replicate (512 - z) 0) n
+zeros-left : (n r : ℕ) → drop r (replicate {A = ℕ} n 0) ≡ replicate (n - r) 0
+zeros-left n zero = let e : n ≡ n - 0 = omega arith in ap (λ (k : ℕ). replicate k 0) e
+zeros-left zero (suc r) = let e : 0 ≡ 0 - suc r = omega arith in ap (λ (k : ℕ). replicate k 0) e
+zeros-left (suc n) (suc r) = let e : n - r ≡ suc n - suc r = omega arith in zeros-left n r ∙ ap (λ (k : ℕ). replicate k 0) e
+
+copied-is : (b′ o : List ℕ) (k r : ℕ) (l : List ℕ) → Wrote (replicate 512 0) b′ 0 r k (take k (drop 0 o)) → take k o ≡ l → k ≡ length l →
+    b′ ≡ l ++ replicate (512 - length l) 0
+copied-is b′ o k r l w e n =
+    let size : r ≡ length l = omega (arith, w .next) in
+    sym (take-append-drop r b′) ∙ ap (λ (z : List ℕ). z ++ drop r b′) (w .holds ∙ e)
+    ∙ ap (λ (z : List ℕ). l ++ z) (w .keeps ∙ zeros-left 512 r ∙ ap (λ (z : ℕ). replicate (512 - z) 0) size)
 
 environment-is : (e : Environment) (bs : List ℕ) (k : ℕ) (Δ : Types) → e ≡ record { bytes = bs; len = k } → bs ≡ bytesFor Δ ++ replicate (512 - length (bytesFor Δ)) 0 → k ≡ length (bytesFor Δ) →
     e ≡ standing Δ
@@ -221,13 +228,13 @@ module _ (g ids m : List ℕ) (row : ℕ) (s : Step) (o o′ : List ℕ) (k : �
       tells = λ Γ t e h wo f q p. absurd (omega (arith, long Γ t e h q p, bytes-length (new Γ t), fits Γ t e h wo f q p .few));
     }
 
-    pub put-type-fits : (b b′ : List ℕ) → length b ≡ 512 → b′ ≡ stored b 0 512 o′ k → (d : Environment) → d ≡ record { bytes = b′; len = k } →
+    pub put-type-fits : (b′ : List ℕ) (r : ℕ) → Wrote (replicate 512 0) b′ 0 r k (take k (drop 0 o′)) → (d : Environment) → d ≡ record { bytes = b′; len = k } →
         s ≡ record { environment = d; verdict = Done } → PutsType g ids m row s
-    put-type-fits b b′ lb sb d de se = record {
+    put-type-fits b′ r wb d de se = record {
       tells = λ Γ t e h wo f q p.
           let u = long Γ t e h q p in
           pass-answers s d (new Γ t) row se (record {
-            is = environment-is d b′ k (new Γ t) de (sb ∙ stored-is b o′ k (bytesFor (new Γ t)) lb (w .holds ∙ new-bytes Γ t e h q p) u) u;
+            is = environment-is d b′ k (new Γ t) de (copied-is b′ o′ k r (bytesFor (new Γ t)) wb (w .holds ∙ new-bytes Γ t e h q p) u) u;
             shape = fits Γ t e h wo f q p;
           });
     }

@@ -234,7 +234,7 @@ fn put_type(g: &[u8], ids: [u16; 4], m: &[u8], row: u16) -> Step
         return refuse(Refusal::EnvironmentTooLarge(row));
     }
     let mut bytes = [0u8; 512];
-    tree_edit::store(&mut bytes, 0, 512, &out, k);
+    tree_edit::append(&mut bytes, 0, &out, 0, k);
     pass(Environment {
         bytes: bytes,
         len: k,
@@ -313,19 +313,18 @@ pub fn assign(file: &[u8], e: Environment, p: u16, b: u8, row: u16) -> Step
     }
 }
 
-// Are the n bytes of a from i on those of b from j on?
+// Are the n bytes of a from i on those of b from j on? No way out of the loop, so that many bytes are compared at once.
 fn same_bytes(a: &[u8], i: usize, b: &[u8], j: usize, n: usize) -> bool
     requires { ⌜ (i + n ≤ length (now a)) × (j + n ≤ length (now b)) ⌝ }
     ensures { λ x. ⌜ SameLists (take n (drop i (now (a .entry)))) (take n (drop j (now (b .entry)))) x ⌝ }
 {
+    let mut same = true;
     let mut k: usize = 0;
     while k < n {
-        if a[i + k] != b[j + k] {
-            return false;
-        }
+        same = layout::both(same, a[i + k] == b[j + k]);
         k += 1;
     }
-    true
+    same
 }
 
 // Are two environments equal?

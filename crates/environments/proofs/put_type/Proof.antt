@@ -1,7 +1,5 @@
 use Rattle.environments.proofs.Growing.{put-type-laws, put-type-fits}
 use mathlib.Core.Path.{refl}
-use lib.ListN.{replicate, length-replicate}
-use Prim.Native.Nat.{ℕ}
 use borrow.Author.Needs.{needs}
 use Rattle.environments.proofs.put_type.Statement.{statement}
 use Rattle.environments.proofs.put_type.Tie as tie
@@ -10,8 +8,8 @@ use Rattle.environments.proofs.put_type.Lts as lts
 use Rattle.environments.proofs.pass.Reads as pass-reads
 use Rattle.environments.proofs.refuse.Reads as refuse-reads
 use Rattle.tree.proofs.within.Reads as within-reads
+use Rattle.tree_edit.proofs.append.Reads as append-reads
 use Rattle.tree_edit.proofs.put.Reads as put-reads
-use Rattle.tree_edit.proofs.store.Reads as store-reads
 
 slice-aggregate-put : tie.Need-slice-aggregate-put
 slice-aggregate-put c = search needs
@@ -37,14 +35,14 @@ refuse-requires-2 c κs = search needs
 returns-2 : tie.Need-returns-2
 returns-2 c = search put-type-laws depth 12
 
-slice-aggregate-store : tie.Need-slice-aggregate-store
-slice-aggregate-store c = search needs
+slice-aggregate-append : tie.Need-slice-aggregate-append
+slice-aggregate-append c = search needs
 
-slice-aggregate-store-2 : tie.Need-slice-aggregate-store-2
-slice-aggregate-store-2 c = search needs
+slice-aggregate-append-2 : tie.Need-slice-aggregate-append-2
+slice-aggregate-append-2 c = search needs
 
-store-requires : tie.Need-store-requires
-store-requires c κs = search needs
+append-requires : tie.Need-append-requires
+append-requires c κs = search needs
 
 pass-requires : tie.Need-pass-requires
 pass-requires c κs = search needs
@@ -52,8 +50,7 @@ pass-requires c κs = search needs
 returns-3 : tie.Need-returns-3
 returns-3 c =
     let a = c .before .before .before .before .before .before .before .before .before .before .before .before .before .before .args in
-    put-type-fits (a .g .now) (a .ids) (a .m .now) (a .row) _ _ _ _ (c .before .before .before .before .before .before .before .before .before .before .put .ensures) _ (c .before .before .before .before .before .before .before .within .ensures) (c .before .before .before .before .before .before .if1 .left) (replicate {A = ℕ} 512 0) _ (length-replicate {A = ℕ} 512 0)
-    (c .before .before .store .ensures) _ refl (c .pass .ensures)
+    put-type-fits (a .g .now) (a .ids) (a .m .now) (a .row) _ _ _ _ (c .before .before .before .before .before .before .before .before .before .before .put .ensures) _ (c .before .before .before .before .before .before .before .within .ensures) (c .before .before .before .before .before .before .if1 .left) _ _ (c .before .before .append .ensures) _ refl (c .pass .ensures)
 
 pub put-type-spec : {M : Type 1} → statement M
 put-type-spec =
@@ -67,8 +64,8 @@ put-type-spec =
     returns
     refuse-requires-2
     returns-2
-    slice-aggregate-store
-    slice-aggregate-store-2
-    store-requires
+    slice-aggregate-append
+    slice-aggregate-append-2
+    append-requires
     pass-requires
     returns-3)

@@ -1,48 +1,51 @@
-use Rattle.environments.proofs.Comparing.{same-more, same-end, same-not}
-use mathlib.Core.Path.{_≡_, refl, sym, _∙_}
+use Rattle.environments.proofs.Comparing.{same-start, same-next, same-done}
+use Rattle.environments.specs.Walk.{SameLists}
 use native.Mathlib.Omega.{arith}
+use borrow.Author.Needs.{needs}
 use lib.ListN.{take, drop}
 use Prim.Native.Nat.{_≤_, _-_}
 use Rattle.environments.proofs.same_bytes.Statement.{statement}
 use Rattle.environments.proofs.same_bytes.Tie as tie
-use Rattle.environments.proofs.same_bytes.Reads as reads
-use Rattle.environments.proofs.same_bytes.Lts as lts
+use Rattle.layout.proofs.both.Reads as both-reads
 
 abbrev Inv-loop : tie.InvT-loop
-Inv-loop a i b j n k₀ k = (k ≤ n) × (take k (drop i a) ≡ take k (drop j b))
+Inv-loop a i b j n same₀ k₀ same k = (k ≤ n) × SameLists (take k (drop i a)) (take k (drop j b)) same
 
 abbrev μ-loop : tie.MeasureT-loop
-μ-loop a i b j n k₀ k = n - k
+μ-loop a i b j n same₀ k₀ same k = n - k
 
 loop-holds : tie.Need-loop-holds Inv-loop μ-loop
-loop-holds c = (omega arith, refl)
+loop-holds c = (omega arith, same-start)
 
-add-if1 : tie.Need-add-if1 Inv-loop μ-loop
-add-if1 c = omega arith
+add-both : tie.Need-add-both Inv-loop μ-loop
+add-both c = search needs
 
-shared-slice-read-if1 : tie.Need-shared-slice-read-if1 Inv-loop μ-loop
-shared-slice-read-if1 c = omega arith
+shared-slice-read-both : tie.Need-shared-slice-read-both Inv-loop μ-loop
+shared-slice-read-both c = search needs
 
-add-if1-2 : tie.Need-add-if1-2 Inv-loop μ-loop
-add-if1-2 c = omega arith
+add-both-2 : tie.Need-add-both-2 Inv-loop μ-loop
+add-both-2 c = search needs
 
-shared-slice-read-if1-2 : tie.Need-shared-slice-read-if1-2 Inv-loop μ-loop
-shared-slice-read-if1-2 c = omega arith
+shared-slice-read-both-2 : tie.Need-shared-slice-read-both-2 Inv-loop μ-loop
+shared-slice-read-both-2 c = search needs
 
-returns : tie.Need-returns Inv-loop μ-loop
-returns c = search (same-not) depth 12
+both-requires : tie.Need-both-requires Inv-loop μ-loop
+both-requires c κs = search needs
 
 add-k : tie.Need-add-k Inv-loop μ-loop
-add-k c = omega arith
+add-k c = search needs
 
 loop-less : tie.Need-loop-less Inv-loop μ-loop
-loop-less c = omega arith
+loop-less c = search needs
 
 loop-again : tie.Need-loop-again Inv-loop μ-loop
-loop-again c = (omega arith, same-more (c .before .before .before .before .before .args .a .now) (c .before .before .before .before .before .args .b .now) (c .before .before .before .before .before .args .i) (c .before .before .before .before .before .args .j) (c .before .before .before .before .loop .k) (omega arith) (omega arith) (c .if1 .left) (c .before .before .before .before .loop .inv .1))
+loop-again c =
+    let a = c .before .before .before .before .before .before .before .args in
+    let l = c .before .before .before .before .loop in
+    (omega arith, same-next (a .a .now) (a .b .now) (a .i) (a .j) (l .k) (l .same) (c .both .result) (omega arith) (omega arith) (c .both .ensures) (l .inv .1))
 
-returns-2 : tie.Need-returns-2 Inv-loop μ-loop
-returns-2 c = search (same-end) depth 12
+returns : tie.Need-returns Inv-loop μ-loop
+returns c = search (same-done) depth 12
 
 pub same-bytes-spec : {M : Type 1} → statement M
 same-bytes-spec =
@@ -51,12 +54,12 @@ same-bytes-spec =
     Inv-loop
     μ-loop
     loop-holds
-    add-if1
-    shared-slice-read-if1
-    add-if1-2
-    shared-slice-read-if1-2
-    returns
+    add-both
+    shared-slice-read-both
+    add-both-2
+    shared-slice-read-both-2
+    both-requires
     add-k
     loop-less
     loop-again
-    returns-2)
+    returns)
