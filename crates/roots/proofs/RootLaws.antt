@@ -7,9 +7,10 @@ use mathlib.Core.Logic.{_⊎_, inl, inr, ⊎-elim}
 use native.Mathlib.Numerals.{add-one}
 use native.Mathlib.Omega.{arith}
 use lib.ListN.{getD, set, length, length-set, replicate, length-replicate}
+use Rattle.scalar.specs.Value.{pick}
 use lib.Seq.{getD-set-same, getD-set-other}
 use lib.Dec.{T, eqb, ltb}
-use borrow.Author.Tests.{eq-eqb, ne-eqb, eqb-true, eqb-false}
+use borrow.Author.Tests.{eq-eqb, ne-eqb, eqb-true, ltb-true, ltb-false}
 use Rattle.forest.specs.Compare.{Compare, lt, eq, gt, compare, T-of, of-T, not-T-false}
 use Rattle.wire.specs.Wire.{byteAt, u16At}
 use Rattle.network.specs.declared.ExpressionKind.{ExpressionKind}
@@ -27,7 +28,7 @@ use Rattle.roots.specs.declared.Operands.{Operands}
 use Rattle.roots.specs.declared.Own.{Own}
 use Rattle.roots.specs.declared.Subs.{Subs}
 use Rattle.roots.specs.Parts.{operandsIn, operandsOf, ownIn, ownOf, subsIn, subsOf}
-use Rattle.roots.specs.Marks.{marked, Adds, pathRoot, expressionRoots, behaviourRoots, branchRoots, operandRoots, ownRoots, subRoots, AddsBranches, Shares}
+use Rattle.roots.specs.Marks.{marked, Added, Adds, pathRoot, expressionRoots, behaviourRoots, branchRoots, operandRoots, ownRoots, subRoots, AddsBranches, Shares}
 
 -- ---- parts of a row
 
@@ -80,17 +81,50 @@ both-true e f = rw (e, f) refl
 
 -- ---- marks one after another
 
+or-cases : (a b : Bool) → a || b ≡ true → (a ≡ true) ⊎ (b ≡ true)
+or-cases true b e = inl refl
+or-cases false b e = inr e
+
+never : {a : Bool} → a ≡ true → a ≡ false → ⊥
+never e f = let z : _≡_ {A = ℕ} 0 1 = cc in omega arith
+
 pub adds-none : (l : List ℕ) (f : ℕ → Bool) → ((i : ℕ) → f i ≡ false) → Adds f l l
-adds-none l f e = record { keeps = λ m. m; adds = λ m i. or-false (marked l i) ∙ ap (λ (x : Bool). marked l i || x) (sym (e i)) }
+adds-none l f e = record {
+  adds = λ n h. record {
+    size = h;
+    near = λ i k. or-false (marked l i) ∙ ap (λ (x : Bool). marked l i || x) (sym (e i));
+    far = λ i k t. absurd (never t (e i));
+    keeps = λ t. t;
+    full = λ k t. t;
+  };
+}
 
 pub adds-as : {l o : List ℕ} (f g : ℕ → Bool) → ((i : ℕ) → f i ≡ g i) → Adds f l o → Adds g l o
-adds-as {l} {o} f g e h = record { keeps = h .keeps; adds = λ n i. h .adds n i ∙ ap (λ (x : Bool). marked l i || x) (e i) }
+adds-as {l} {o} f g e h = record {
+  adds = λ n k.
+      let a = h .adds n k in
+      record {
+        size = a .size;
+        near = λ i j. a .near i j ∙ ap (λ (x : Bool). marked l i || x) (e i);
+        far = λ i j t. a .far i j (e i ∙ t);
+        keeps = a .keeps;
+        full = a .full;
+      };
+}
 
 pub adds-both : {l m o : List ℕ} (f g h : ℕ → Bool) → Adds f l m → Adds g m o → ((i : ℕ) → h i ≡ f i || g i) → Adds h l o
 adds-both {l} {m} {o} f g h x y e = record {
-  keeps = λ n. y .keeps (x .keeps n);
-  adds = λ n i.
-      y .adds (x .keeps n) i ∙ (ap (λ (z : Bool). z || g i) (x .adds n i) ∙ (or-assoc (marked l i) (f i) (g i) ∙ ap (λ (z : Bool). marked l i || z) (sym (e i))));
+  adds = λ n k.
+      let a = x .adds n k in
+      let b = y .adds n (a .size) in
+      record {
+        size = b .size;
+        near = λ i j.
+            b .near i j ∙ (ap (λ (z : Bool). z || g i) (a .near i j) ∙ (or-assoc (marked l i) (f i) (g i) ∙ ap (λ (z : Bool). marked l i || z) (sym (e i))));
+        far = λ i j t. ⊎-elim (λ u. b .keeps (a .far i j u)) (λ u. b .far i j u) (or-cases (f i) (g i) (sym (e i) ∙ t));
+        keeps = λ t. b .keeps (a .keeps t);
+        full = λ j t. a .full j (b .full j t);
+      };
 }
 
 -- ---- one path
@@ -106,13 +140,62 @@ set-marks l p i h = go (compare p i)
         subst (λ (z : ℕ). not (eqb (getD (set l p 1) z 0) 0) ≡ not (eqb (getD l z 0) 0) || eqb z p) k
         (rw (getD-set-same l p 1 0 h, eq-eqb p p refl) (sym (or-true (not (eqb (getD l p 0) 0)))))
 
-pub path-marked : (s l : List ℕ) (p at v i : ℕ) → at ≡ pathAt s p → v ≡ u16At s at → i ≡ v → i < 65536 → Adds (pathRoot s p) l (set l i 1)
-unfolding pathRoot pathOf
-path-marked s l p at v i e f g h = record {
-  keeps = λ n. length-set l i 1 ∙ n;
-  adds = λ n j.
-      (set-marks l i j (omega arith) ∙ ap (λ (z : ℕ). marked l j || eqb j z) (g ∙ (f ∙ ap (u16At s) e)));
+or-left : {a : Bool} (b : Bool) → a ≡ true → a || b ≡ true
+or-left b e = rw e refl
+
+-- The mark of the id i, if it has one of its own; else the last.
+near-marked : (l : List ℕ) (i n : ℕ) → length l ≡ suc n → i < n → Added n (λ k. eqb k i) l (set l i 1)
+near-marked l i n h k = record {
+  size = length-set l i 1 ∙ h;
+  near = λ j q. set-marks l i j (omega arith);
+  far = λ j q t. absurd (let e = eqb-true j i t in omega arith);
+  keeps = λ t. set-marks l i n (omega arith) ∙ or-left (eqb n i) t;
+  full = λ q t. or-false (marked l n) ∙ (ap (λ (x : Bool). marked l n || x) (sym (ne-eqb n i (λ e. omega arith))) ∙ (sym (set-marks l i n (omega arith)) ∙ t));
 }
+
+last-marked : (l : List ℕ) (i n : ℕ) → length l ≡ suc n → n ≤ i → i < 65536 → Added n (λ k. eqb k i) l (set l n 1)
+last-marked l i n h k q = record {
+  size = length-set l n 1 ∙ h;
+  near = λ j u.
+      set-marks l n j (omega arith)
+      ∙ (ap (λ (x : Bool). marked l j || x) (ne-eqb j n (λ e. omega arith)) ∙ ap (λ (x : Bool). marked l j || x) (sym (ne-eqb j i (λ e. omega arith))));
+  far = λ j u t. last;
+  keeps = λ t. last;
+  full = λ u t. absurd (omega arith);
+}
+  where
+    last : marked (set l n 1) n ≡ true
+    last = set-marks l n n (omega arith) ∙ (ap (λ (x : Bool). marked l n || x) (eq-eqb n n refl) ∙ or-true (marked l n))
+
+id-marked : (l : List ℕ) (i n j : ℕ) → length l ≡ suc n → i < 65536 → j ≡ pick (ltb i n) i n → Added n (λ k. eqb k i) l (set l j 1)
+id-marked l i n j h q e = go (ltb i n) refl
+  where
+    at : (k : ℕ) → j ≡ k → Added n (λ k. eqb k i) l (set l k 1) → Added n (λ k. eqb k i) l (set l j 1)
+    at k f a = subst (λ (z : ℕ). Added n (λ k. eqb k i) l (set l z 1)) (sym f) a
+
+    go : (t : Bool) → ltb i n ≡ t → Added n (λ k. eqb k i) l (set l j 1)
+    go true f = at i (e ∙ ap (λ (t : Bool). pick t i n) f) (near-marked l i n h (ltb-true i n f))
+    go false f = at n (e ∙ ap (λ (t : Bool). pick t i n) f) (last-marked l i n h (ltb-false i n f) q)
+
+pub pick-inside : (i j len : ℕ) → j ≡ pick (ltb i (len - 1)) i (len - 1) → (len ≡ 0 → ⊥) → j < len
+pick-inside i j len e z = go (ltb i (len - 1)) refl
+  where
+    go : (t : Bool) → ltb i (len - 1) ≡ t → j < len
+    go true f = let g : j ≡ i = e ∙ ap (λ (t : Bool). pick t i (len - 1)) f in let h = ltb-true i (len - 1) f in omega (arith, z)
+    go false f = let g : j ≡ len - 1 = e ∙ ap (λ (t : Bool). pick t i (len - 1)) f in omega (arith, z)
+
+pub path-marked : (s l : List ℕ) (p at v i j : ℕ) → at ≡ pathAt s p → v ≡ u16At s at → i ≡ v → i < 65536 → j ≡ pick (ltb i (length l - 1)) i (length l - 1)
+    → Adds (pathRoot s p) l (set l j 1)
+unfolding pathRoot pathOf
+path-marked s l p at v i j e f g h k = record {
+  adds = λ n m.
+      let last : length l - 1 ≡ n = omega arith in
+      subst (λ (z : ℕ). Added n (λ k. eqb k z) l (set l j 1)) (g ∙ (f ∙ ap (u16At s) e))
+      (id-marked l i n j m h (k ∙ ap (λ (z : ℕ). pick (ltb i z) i z) last));
+}
+
+pub path-unmarked : (s l : List ℕ) (p : ℕ) → length l ≡ 0 → Adds (pathRoot s p) l l
+path-unmarked s l p e = record { adds = λ n m. absurd (omega arith) }
 
 -- ---- expressions
 
@@ -170,7 +253,7 @@ unfolding operandRoots
 two-operands s l m o d r {x} {a} {b} h e f y z =
     adds-both (expressionRoots s (d - 1) a) (expressionRoots s (d - 1) b) (expressionRoots s d r) y z (λ i. sym (parts-of s d r h e f i))
 
-pub ruleset path-laws = (path-marked)
+pub ruleset path-laws = (path-marked, path-unmarked)
 
 pub ruleset expression-laws = (no-levels, no-operand, path-operand, one-operand, two-operands)
 
@@ -300,93 +383,91 @@ pub ruleset branch-laws = (no-branches, more-branches)
 
 -- ---- both sides
 
--- The ids below i are not marked in both.
-pub record Apart (a b : List ℕ) (i : ℕ) : Type 0 where
-  pub apart : (k : ℕ) → k < i → marked a k ≡ true → marked b k ≡ true → ⊥
+pub shares-none : (a b : List ℕ) → Shares a b 0 false
+shares-none a b = record { found = λ e. absurd (let z : _≡_ {A = ℕ} 0 1 = cc in omega arith); none = λ e i h. absurd (omega arith) }
 
-not-both : {a : Bool} → a ≡ true → a ≡ false → ⊥
-not-both e f = let z : _≡_ {A = ℕ} 0 1 = cc in omega arith
-
-marks-not : (l : List ℕ) (i : ℕ) → getD l i 0 ≡ 0 → marked l i ≡ true → ⊥
+-- The mark i besides.
+pub shares-next : (a b : List ℕ) (i : ℕ) (x y z : Bool) → Shares a b i x → y ≡ (not (eqb (getD a i 0) 0) && not (eqb (getD b i 0) 0)) → z ≡ (x || y) → Shares a b (i + 1) z
 unfolding marked
-marks-not l i h e = not-both e (rw (eq-eqb (getD l i 0) 0 h) refl)
-
-pub apart-none : (a b : List ℕ) → Apart a b 0
-apart-none a b = record { apart = λ k h. absurd (omega arith) }
-
-apart-more : (a b : List ℕ) (i : ℕ) → Apart a b i → (marked a i ≡ true → marked b i ≡ true → ⊥) → Apart a b (i + 1)
-apart-more a b i h g = record { apart = λ k l x y. go k l x y (compare k i) }
+shares-next a b i x y z h e f = record { found = λ t. ⊎-elim old new (or-cases x y (sym f ∙ t)); none = λ t k l u v. at k u v (neither t) (compare k i) l }
   where
-    go : (k : ℕ) → k < i + 1 → marked a k ≡ true → marked b k ≡ true → Compare k i → ⊥
-    go k l x y (lt j) = h .apart k j x y
-    go k l x y (gt j) = omega arith
-    go k l x y (eq j) = g (subst (λ (z : ℕ). marked a z ≡ true) j x) (subst (λ (z : ℕ). marked b z ≡ true) j y)
+    old : x ≡ true → (k : ℕ) × (k < i + 1) × (marked a k ≡ true) × (marked b k ≡ true)
+    old t = let w = h .found t in (w .0, (let q = w .1 in omega arith), w .2, w .3)
 
--- At the id i: are both marked?
-pub apart-next : (a b : List ℕ) (i : ℕ) (x : Bool) → Apart a b i → x ≡ (not (eqb (getD a i 0) 0) && not (eqb (getD b i 0) 0)) → x ≡ false → Apart a b (i + 1)
-unfolding marked
-apart-next a b i x h e f = apart-more a b i h (λ u v. not-both (e ∙ both-true u v) f)
+    new : y ≡ true → (k : ℕ) × (k < i + 1) × (marked a k ≡ true) × (marked b k ≡ true)
+    new t = let w = and-of (not (eqb (getD a i 0) 0)) (not (eqb (getD b i 0) 0)) (sym e ∙ t) in (i, omega arith, w .0, w .1)
 
-pub found-both : (a b : List ℕ) (i : ℕ) (x : Bool) → x ≡ (not (eqb (getD a i 0) 0) && not (eqb (getD b i 0) 0)) → x ≡ true → Shares a b true
-unfolding marked
-found-both a b i x e f =
-    let u = and-of (not (eqb (getD a i 0) 0)) (not (eqb (getD b i 0) 0)) (sym e ∙ f) in
-    record { found = λ g. (i, u .0, u .1); none = λ n g. absurd (not-both refl g) }
+    neither : z ≡ false → (x ≡ false) × (y ≡ false)
+    neither t = by x y refl refl (sym f ∙ t)
+      where
+        by : (p q : Bool) → x ≡ p → y ≡ q → p || q ≡ false → (x ≡ false) × (y ≡ false)
+        by true q m n o = absurd (let z : _≡_ {A = ℕ} 0 1 = cc in omega arith)
+        by false true m n o = absurd (let z : _≡_ {A = ℕ} 0 1 = cc in omega arith)
+        by false false m n o = (m, n)
 
-getD-past : (l : List ℕ) (i : ℕ) → length l ≤ i → getD l i 0 ≡ 0
-getD-past [] i h = refl
-getD-past (x ∷ l) zero h = absurd (omega arith)
-getD-past (x ∷ l) (suc i) h = getD-past l i (omega arith)
+    at : (k : ℕ) → marked a k ≡ true → marked b k ≡ true → (x ≡ false) × (y ≡ false) → Compare k i → k < i + 1 → ⊥
+    at k u v w (lt j) l = h .none (w .0) k j u v
+    at k u v w (gt j) l = omega arith
+    at k u v w (eq j) l = never (e ∙ both-true (subst (λ (q : ℕ). marked a q ≡ true) j u) (subst (λ (q : ℕ). marked b q ≡ true) j v)) (w .1)
 
-pub none-both : (a b : List ℕ) (i : ℕ) → Apart a b i → 65536 ≤ i → Shares a b false
-none-both a b i h k = record { found = λ e. absurd (not-both e refl); none = λ n e j x y. go n j x y (compare j i) }
-  where
-    past : (j : ℕ) → length a ≤ j → marked a j ≡ true → ⊥
-    past j l x = marks-not a j (getD-past a j l) x
-
-    go : length a ≡ 65536 → (j : ℕ) → marked a j ≡ true → marked b j ≡ true → Compare j i → ⊥
-    go n j x y (lt l) = h .apart j l x y
-    go n j x y (eq l) = past j (omega arith) x
-    go n j x y (gt l) = past j (omega arith) x
-
-pub ruleset share-laws = (found-both, none-both)
-
-pub ruleset again-laws = (apart-next)
+pub shares-all : (a b : List ℕ) (i n : ℕ) (x : Bool) → Shares a b i x → i ≤ n → n ≤ i → Shares a b n x
+shares-all a b i n x h p q = let e : i ≡ n = omega arith in subst (λ (k : ℕ). Shares a b k x) e h
 
 -- ---- the test
-
--- No id is marked.
-pub record Clear (l : List ℕ) : Type 0 where
-  pub room : length l ≡ 65536
-  pub clear : (i : ℕ) → marked l i ≡ false
 
 zero-at : (n i : ℕ) → _≡_ {A = ℕ} (getD (replicate n 0) i 0) 0
 zero-at zero i = refl
 zero-at (suc n) zero = refl
 zero-at (suc n) (suc i) = zero-at n i
 
-pub clear-new : (n : ℕ) → n ≡ 65536 → Clear (replicate n 0)
+clear : (n i : ℕ) → marked (replicate n 0) i ≡ false
 unfolding marked
-clear-new n e = record { room = length-replicate n 0 ∙ e; clear = λ i. rw (zero-at n i) refl }
+clear n i = rw (zero-at n i) refl
 
 roots-of : (s : List ℕ) (n r i : ℕ) → n ≡ behaviourCount s → behaviourRoots s n r i ≡ occurs i (behaviourOf s r)
 unfolding behaviourRoots behaviourOf
 roots-of s n r i e = ap (λ (d : ℕ). occurs i (behaviourTo s d r)) e
 
-pub not-shared : (s l o m p : List ℕ) (n a b : ℕ) (x : Bool) → Clear l → Clear m → n ≡ behaviourCount s → Adds (behaviourRoots s n a) l o
-    → Adds (behaviourRoots s n b) m p → Shares o p x → not x ≡ noSharedRoot (behaviourOf s a) (behaviourOf s b)
-not-shared s l o m p n a b x cl cm e f g h = go x refl
-  where
-    side : {l o : List ℕ} (r : ℕ) → Clear l → Adds (behaviourRoots s n r) l o → (i : ℕ) → marked o i ≡ occurs i (behaviourOf s r)
-    side {l} {o} r c d i = d .adds (c .room) i ∙ (ap (λ (z : Bool). z || behaviourRoots s n r i) (c .clear i) ∙ roots-of s n r i e)
+-- Both sides marked, each from no mark.
+module _ (s o p : List ℕ) (n a b c m : ℕ) (room : m ≡ suc c) (e : n ≡ behaviourCount s) (f : Adds (behaviourRoots s n a) (replicate m 0) o)
+    (g : Adds (behaviourRoots s n b) (replicate m 0) p) (x : Bool) (h : Shares o p c x) where
+  from : {o : List ℕ} (r : ℕ) → Adds (behaviourRoots s n r) (replicate m 0) o → Added c (behaviourRoots s n r) (replicate m 0) o
+  from r d = d .adds c (length-replicate m 0 ∙ room)
 
-    go : (y : Bool) → x ≡ y → not y ≡ noSharedRoot (behaviourOf s a) (behaviourOf s b)
-    go true k =
-        let w = h .found k in
-        sym (not-T-false (noSharedRoot (behaviourOf s a) (behaviourOf s b)) (λ t.
-        no-shared-sound (behaviourOf s a) (behaviourOf s b) t (w .0) (T-of (sym (side a cl f (w .0)) ∙ w .1)) (T-of (sym (side b cm g (w .0)) ∙ w .2))))
-    go false k =
-        sym (of-T (noSharedRoot (behaviourOf s a) (behaviourOf s b)) (no-shared-complete (behaviourOf s a) (behaviourOf s b) (λ i u v.
-        h .none (f .keeps (cl .room)) k i (side a cl f i ∙ of-T (occurs i (behaviourOf s a)) u) (side b cm g i ∙ of-T (occurs i (behaviourOf s b)) v))))
+  side : {o : List ℕ} (r : ℕ) → Adds (behaviourRoots s n r) (replicate m 0) o → (i : ℕ) → i < c → marked o i ≡ occurs i (behaviourOf s r)
+  side {o} r d i k =
+      from r d .near i k ∙ (ap (λ (z : Bool). z || behaviourRoots s n r i) (clear m i) ∙ roots-of s n r i e)
 
-pub ruleset test-laws = (not-shared)
+  beyond : {o : List ℕ} (r : ℕ) → Adds (behaviourRoots s n r) (replicate m 0) o → (i : ℕ) → c ≤ i → T (occurs i (behaviourOf s r)) → marked o c ≡ true
+  beyond {o} r d i k t = from r d .far i k (roots-of s n r i e ∙ of-T (occurs i (behaviourOf s r)) t)
+
+  pub found-shared : x ≡ true → false ≡ noSharedRoot (behaviourOf s a) (behaviourOf s b)
+  found-shared k =
+      let w = h .found k in
+      sym (not-T-false (noSharedRoot (behaviourOf s a) (behaviourOf s b)) (λ t.
+      no-shared-sound (behaviourOf s a) (behaviourOf s b) t (w .0) (T-of (sym (side a f (w .0) (w .1)) ∙ w .2)) (T-of (sym (side b g (w .0) (w .1)) ∙ w .3))))
+
+  none-shared : x ≡ false → ((i : ℕ) → c ≤ i → T (occurs i (behaviourOf s a)) → T (occurs i (behaviourOf s b)) → ⊥) → true ≡ noSharedRoot (behaviourOf s a) (behaviourOf s b)
+  none-shared k far = sym (of-T (noSharedRoot (behaviourOf s a) (behaviourOf s b)) (no-shared-complete (behaviourOf s a) (behaviourOf s b) (λ i u v. by i u v (compare i c))))
+    where
+      by : (i : ℕ) → T (occurs i (behaviourOf s a)) → T (occurs i (behaviourOf s b)) → Compare i c → ⊥
+      by i u v (lt j) = h .none k i j (side a f i j ∙ of-T (occurs i (behaviourOf s a)) u) (side b g i j ∙ of-T (occurs i (behaviourOf s b)) v)
+      by i u v (eq j) = far i (omega arith) u v
+      by i u v (gt j) = far i (omega arith) u v
+
+  unmarked : (l : List ℕ) → getD l c 0 ≡ 0 → marked l c ≡ true → ⊥
+  unfolding marked
+  unmarked l z t = never t (rw (eq-eqb (getD l c 0) 0 z) refl)
+
+  pub left-near : x ≡ false → getD o c 0 ≡ 0 → true ≡ noSharedRoot (behaviourOf s a) (behaviourOf s b)
+  left-near k z = none-shared k (λ i j u v. unmarked o z (beyond a f i j u))
+
+  pub right-near : x ≡ false → getD p c 0 ≡ 0 → true ≡ noSharedRoot (behaviourOf s a) (behaviourOf s b)
+  right-near k z = none-shared k (λ i j u v. unmarked p z (beyond b g i j v))
+
+  pub all-marked : 65536 ≤ c → not x ≡ noSharedRoot (behaviourOf s a) (behaviourOf s b)
+  all-marked q = by x refl
+    where
+      by : (y : Bool) → x ≡ y → not y ≡ noSharedRoot (behaviourOf s a) (behaviourOf s b)
+      by true k = found-shared k
+      by false k = none-shared k (λ i j u v. never (from a f .full q (beyond a f i j u)) (clear m c))

@@ -2,7 +2,7 @@
 use mathlib.Core.Path.{_≡_}
 use mathlib.Core.List.{List}
 use mathlib.Core.Bool.{Bool, true, false, not, _||_}
-use Prim.Native.Nat.{ℕ}
+use Prim.Native.Nat.{ℕ, suc, _<_, _≤_}
 use lib.ListN.{getD, length}
 use lib.Dec.{eqb}
 use Rattle.network.specs.Layout.{behaviourAt}
@@ -16,14 +16,16 @@ use Rattle.roots.specs.declared.Subs.{Subs}
 unfoldable pub marked : List ℕ → ℕ → Bool
 marked marks i = not (eqb (getD marks i 0) 0)
 
--- A mark for each id.
-abbrev pub Marks : List ℕ → Type 0
-Marks marks = length marks ≡ 65536
+-- With a mark for each id below n and the mark n for all others: the ids of which f holds are marked besides.
+pub record Added (n : ℕ) (f : ℕ → Bool) (before after : List ℕ) : Type 0 where
+  pub size : length after ≡ suc n
+  pub near : (i : ℕ) → i < n → marked after i ≡ (marked before i || f i)
+  pub far : (i : ℕ) → n ≤ i → f i ≡ true → marked after n ≡ true
+  pub keeps : marked before n ≡ true → marked after n ≡ true
+  pub full : 65536 ≤ n → marked after n ≡ true → marked before n ≡ true
 
--- The ids of which f holds are marked besides.
 pub record Adds (f : ℕ → Bool) (before after : List ℕ) : Type 0 where
-  pub keeps : Marks before → Marks after
-  pub adds : Marks before → (i : ℕ) → marked after i ≡ (marked before i || f i)
+  pub adds : (n : ℕ) → length before ≡ suc n → Added n f before after
 
 -- The root ids of the path p, of the E row r to d levels, of the B row r with d rows left, and of n branches from row r on.
 unfoldable pub pathRoot : List ℕ → ℕ → ℕ → Bool
@@ -62,7 +64,7 @@ subRoots s d (Subs.Run first n) i = branchRoots s d first n i
 pub record AddsBranches (s : List ℕ) (at n d : ℕ) (before after : List ℕ) : Type 0 where
   pub adds : (r : ℕ) → at ≡ behaviourAt s r → Adds (branchRoots s d r n) before after
 
--- x tells whether an id is marked in both.
-pub record Shares (a b : List ℕ) (x : Bool) : Type 0 where
-  pub found : x ≡ true → (i : ℕ) × (marked a i ≡ true) × (marked b i ≡ true)
-  pub none : Marks a → x ≡ false → (i : ℕ) → marked a i ≡ true → marked b i ≡ true → ⊥
+-- x tells whether one of the first n marks is set in both.
+pub record Shares (a b : List ℕ) (n : ℕ) (x : Bool) : Type 0 where
+  pub found : x ≡ true → (i : ℕ) × (i < n) × (marked a i ≡ true) × (marked b i ≡ true)
+  pub none : x ≡ false → (i : ℕ) → i < n → marked a i ≡ true → marked b i ≡ true → ⊥

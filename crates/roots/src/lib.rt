@@ -1,7 +1,8 @@
 // Root ids that occur in expressions and behaviours, and refusal 11: "Parallel sides share a root". One walk over each side marks the
 // root ids that occur there. Every function is exact on any bytes.
 ghost use mathlib.Core.Path.{_≡_};
-ghost use Prim.Native.Nat.{ℕ, _+_, _*_, _<_};
+ghost use Prim.Native.Nat.{ℕ, _+_, _*_, _<_, _≤_};
+ghost use lib.ListN.{length};
 ghost use Rattle.network.specs.Decode.{behaviourOf};
 ghost use Rattle.typing.specs.Occurs.{noSharedRoot};
 ghost use Rattle.roots.specs.Parts.{operandsIn, operandsOf, ownIn, ownOf, subsIn, subsOf};
@@ -110,16 +111,20 @@ pub fn subs_of(s: &[u8], r: u16) -> Subs
     subs_in(rows::behaviour_row(s, r))
 }
 
-// Marks the root id of the path p.
-fn mark_path(s: &[u8], marks: &mut [u8; 65536], p: u16)
+// Marks the root id of the path p: each id below the number of the last mark has a mark, all others share the last.
+fn mark_path(s: &[u8], marks: &mut [u8], p: u16)
     ensures { λ _. ⌜ Adds (pathRoot (now (s .entry)) p) (now (marks .entry)) (now (marks .exit)) ⌝ }
 {
+    if marks.len() == 0 {
+        return;
+    }
     let i = wire::index(wire::u16_at(s, layout::path_at(s, p)));
-    marks[i] = 1;
+    let j = layout::smaller(i, marks.len() - 1);
+    marks[j] = 1;
 }
 
 // Marks the root ids of E row r, to so many levels.
-fn mark_expression(s: &[u8], marks: &mut [u8; 65536], r: u16, levels: u8)
+fn mark_expression(s: &[u8], marks: &mut [u8], r: u16, levels: u8)
     ensures { λ _. ⌜ Adds (expressionRoots (now (s .entry)) levels r) (now (marks .entry)) (now (marks .exit)) ⌝ }
 {
     if levels == 0 {
@@ -146,7 +151,7 @@ fn mark_expression(s: &[u8], marks: &mut [u8; 65536], r: u16, levels: u8)
 }
 
 // Marks the root ids that B row r names itself.
-fn mark_own(s: &[u8], marks: &mut [u8; 65536], r: u16)
+fn mark_own(s: &[u8], marks: &mut [u8], r: u16)
     ensures { λ _. ⌜ Adds (ownRoots (now (s .entry)) (ownOf (now (s .entry)) r)) (now (marks .entry)) (now (marks .exit)) ⌝ }
 {
     match own_of(s, r) {
@@ -175,7 +180,7 @@ fn mark_own(s: &[u8], marks: &mut [u8; 65536], r: u16)
 }
 
 // Marks the root ids of the behaviour of B row r; so many rows are left for its sub-behaviours.
-fn mark_row(s: &[u8], marks: &mut [u8; 65536], r: u16, left: u16)
+fn mark_row(s: &[u8], marks: &mut [u8], r: u16, left: u16)
     ensures { λ _. ⌜ Adds (behaviourRoots (now (s .entry)) left r) (now (marks .entry)) (now (marks .exit)) ⌝ }
 {
     if left == 0 {
@@ -203,7 +208,7 @@ fn mark_row(s: &[u8], marks: &mut [u8; 65536], r: u16, left: u16)
 }
 
 // Marks the root ids of the n branches whose rows stand from `at` on.
-fn mark_branches(s: &[u8], marks: &mut [u8; 65536], at: usize, n: u16, left: u16)
+fn mark_branches(s: &[u8], marks: &mut [u8], at: usize, n: u16, left: u16)
     requires { ⌜ at + 10 * n < 2000000 ⌝ }
     ensures { λ _. ⌜ AddsBranches (now (s .entry)) at n left (now (marks .entry)) (now (marks .exit)) ⌝ }
 {
@@ -215,28 +220,51 @@ fn mark_branches(s: &[u8], marks: &mut [u8; 65536], at: usize, n: u16, left: u16
     mark_branches(s, marks, at + 10, n - 1, left);
 }
 
-// Is a root id marked on both sides?
-fn shares(a: &[u8; 65536], b: &[u8; 65536]) -> bool
-    ensures { λ x. ⌜ Shares (now (a .entry)) (now (b .entry)) x ⌝ }
+// Is one of the first n marks set on both sides? No way out of the loop, so that many marks are compared at once.
+fn shares(a: &[u8], b: &[u8], n: usize) -> bool
+    requires { ⌜ (n ≤ length (now a)) × (n ≤ length (now b)) ⌝ }
+    ensures { λ x. ⌜ Shares (now (a .entry)) (now (b .entry)) n x ⌝ }
 {
+    let mut found = false;
     let mut i: usize = 0;
-    while i < 65536 {
-        if layout::both(a[i] != 0, b[i] != 0) {
-            return true;
-        }
+    while i < n {
+        let two = layout::both(a[i] != 0, b[i] != 0);
+        found = layout::either(found, two);
         i += 1;
     }
-    false
+    found
 }
 
-// "no root id (a path's first id) occurs on both sides": of the behaviours of the rows a and b.
+// The same for all ids, with a mark for each.
+fn no_shared_far(file: &[u8], a: u16, b: u16) -> bool
+    ensures { λ x. ⌜ x ≡ noSharedRoot (behaviourOf (now (file .entry)) a) (behaviourOf (now (file .entry)) b) ⌝ }
+{
+    let rows = layout::behaviour_count(file);
+    let mut left = [0u8; 65537];
+    mark_row(file, &mut left, a, rows);
+    let mut right = [0u8; 65537];
+    mark_row(file, &mut right, b, rows);
+    !shares(&left, &right, 65536)
+}
+
+// "no root id (a path's first id) occurs on both sides": of the behaviours of the rows a and b. Ids below 1024 have a mark each; only
+// where others occur on both sides is it done with a mark for each id.
 pub fn no_shared_root(file: &[u8], a: u16, b: u16) -> bool
     ensures { λ x. ⌜ x ≡ noSharedRoot (behaviourOf (now (file .entry)) a) (behaviourOf (now (file .entry)) b) ⌝ }
 {
     let rows = layout::behaviour_count(file);
-    let mut left = [0u8; 65536];
+    let mut left = [0u8; 1025];
     mark_row(file, &mut left, a, rows);
-    let mut right = [0u8; 65536];
+    let mut right = [0u8; 1025];
     mark_row(file, &mut right, b, rows);
-    !shares(&left, &right)
+    if shares(&left, &right, 1024) {
+        return false;
+    }
+    if left[1024] == 0 {
+        return true;
+    }
+    if right[1024] == 0 {
+        return true;
+    }
+    no_shared_far(file, a, b)
 }

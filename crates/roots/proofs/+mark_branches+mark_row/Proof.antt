@@ -1,7 +1,6 @@
-use Rattle.roots.proofs.RootLaws.{row-laws}
+use Rattle.roots.proofs.RootLaws.{row-laws, branch-laws}
 use borrow.Author.Needs.{needs}
 use native.Mathlib.Omega.{arith}
-use Rattle.roots.proofs.RootLaws.{branch-laws}
 use Prim.Native.Nat.{_+_, _*_}
 use Prim.Native.Nat.{ℕ, _<_}
 use borrow.Fn.Kinds.{In}
@@ -74,6 +73,9 @@ mark-branches-sub-mark-branches t c = search needs
 mark-branches-mark-branches-requires : (t : ℕ) → mark-branches-lts.Need-mark-branches-requires (u16-at-reads.Asked, u16-at-reads.Learnt, mark-row-below t, mark-row.Post, mark-branches-below t, mark-branches.Post) (mark-branches-at t) mark-branches.Post
 mark-branches-mark-branches-requires t c κs = (omega arith, search needs)
 
+mark-branches-same-length : (t : ℕ) → mark-branches-lts.Need-same-length (u16-at-reads.Asked, u16-at-reads.Learnt, mark-row-below t, mark-row.Post, mark-branches-below t, mark-branches.Post) (mark-branches-at t) mark-branches.Post
+mark-branches-same-length t c = search needs
+
 mark-branches-returns-2 : (t : ℕ) → mark-branches-lts.Need-returns-2 (u16-at-reads.Asked, u16-at-reads.Learnt, mark-row-below t, mark-row.Post, mark-branches-below t, mark-branches.Post) (mark-branches-at t) mark-branches.Post
 mark-branches-returns-2 t c = search branch-laws depth 12
 
@@ -89,6 +91,9 @@ mark-row-subs-of-requires t c κs = search needs
 mark-row-enum-told : (t : ℕ) → mark-row-lts.Need-enum-told (mark-own-reads.Asked, mark-own-reads.Learnt, subs-of-reads.Asked, subs-of-reads.Learnt, mark-row-below t, mark-row.Post, behaviour-at-reads.Asked, behaviour-at-reads.Learnt, mark-branches-below t, mark-branches.Post) (mark-row-at t) mark-row.Post
 mark-row-enum-told t c = search needs
 
+mark-row-same-length : (t : ℕ) → mark-row-lts.Need-same-length (mark-own-reads.Asked, mark-own-reads.Learnt, subs-of-reads.Asked, subs-of-reads.Learnt, mark-row-below t, mark-row.Post, behaviour-at-reads.Asked, behaviour-at-reads.Learnt, mark-branches-below t, mark-branches.Post) (mark-row-at t) mark-row.Post
+mark-row-same-length t c = search needs
+
 mark-row-returns-2 : (t : ℕ) → mark-row-lts.Need-returns-2 (mark-own-reads.Asked, mark-own-reads.Learnt, subs-of-reads.Asked, subs-of-reads.Learnt, mark-row-below t, mark-row.Post, behaviour-at-reads.Asked, behaviour-at-reads.Learnt, mark-branches-below t, mark-branches.Post) (mark-row-at t) mark-row.Post
 mark-row-returns-2 t c = search row-laws depth 12
 
@@ -100,6 +105,9 @@ mark-row-sub-mark-row t c = search needs
 
 mark-row-mark-row-requires : (t : ℕ) → mark-row-lts.Need-mark-row-requires (mark-own-reads.Asked, mark-own-reads.Learnt, subs-of-reads.Asked, subs-of-reads.Learnt, mark-row-below t, mark-row.Post, behaviour-at-reads.Asked, behaviour-at-reads.Learnt, mark-branches-below t, mark-branches.Post) (mark-row-at t) mark-row.Post
 mark-row-mark-row-requires t c κs = (omega arith, search needs)
+
+mark-row-same-length-2 : (t : ℕ) → mark-row-lts.Need-same-length-2 (mark-own-reads.Asked, mark-own-reads.Learnt, subs-of-reads.Asked, subs-of-reads.Learnt, mark-row-below t, mark-row.Post, behaviour-at-reads.Asked, behaviour-at-reads.Learnt, mark-branches-below t, mark-branches.Post) (mark-row-at t) mark-row.Post
+mark-row-same-length-2 t c = search needs
 
 mark-row-returns-3 : (t : ℕ) → mark-row-lts.Need-returns-3 (mark-own-reads.Asked, mark-own-reads.Learnt, subs-of-reads.Asked, subs-of-reads.Learnt, mark-row-below t, mark-row.Post, behaviour-at-reads.Asked, behaviour-at-reads.Learnt, mark-branches-below t, mark-branches.Post) (mark-row-at t) mark-row.Post
 mark-row-returns-3 t c = search row-laws depth 12
@@ -119,6 +127,9 @@ mark-row-sub-mark-row-3 t c = search needs
 mark-row-mark-row-requires-3 : (t : ℕ) → mark-row-lts.Need-mark-row-requires-3 (mark-own-reads.Asked, mark-own-reads.Learnt, subs-of-reads.Asked, subs-of-reads.Learnt, mark-row-below t, mark-row.Post, behaviour-at-reads.Asked, behaviour-at-reads.Learnt, mark-branches-below t, mark-branches.Post) (mark-row-at t) mark-row.Post
 mark-row-mark-row-requires-3 t c κs = (omega arith, search needs)
 
+mark-row-same-length-3 : (t : ℕ) → mark-row-lts.Need-same-length-3 (mark-own-reads.Asked, mark-own-reads.Learnt, subs-of-reads.Asked, subs-of-reads.Learnt, mark-row-below t, mark-row.Post, behaviour-at-reads.Asked, behaviour-at-reads.Learnt, mark-branches-below t, mark-branches.Post) (mark-row-at t) mark-row.Post
+mark-row-same-length-3 t c = search needs
+
 mark-row-returns-4 : (t : ℕ) → mark-row-lts.Need-returns-4 (mark-own-reads.Asked, mark-own-reads.Learnt, subs-of-reads.Asked, subs-of-reads.Learnt, mark-row-below t, mark-row.Post, behaviour-at-reads.Asked, behaviour-at-reads.Learnt, mark-branches-below t, mark-branches.Post) (mark-row-at t) mark-row.Post
 mark-row-returns-4 t c = search row-laws depth 12
 
@@ -133,6 +144,9 @@ mark-row-sub-mark-branches t c = search needs
 
 mark-row-mark-branches-requires : (t : ℕ) → mark-row-lts.Need-mark-branches-requires (mark-own-reads.Asked, mark-own-reads.Learnt, subs-of-reads.Asked, subs-of-reads.Learnt, mark-row-below t, mark-row.Post, behaviour-at-reads.Asked, behaviour-at-reads.Learnt, mark-branches-below t, mark-branches.Post) (mark-row-at t) mark-row.Post
 mark-row-mark-branches-requires t c κs = (omega arith, search needs)
+
+mark-row-same-length-4 : (t : ℕ) → mark-row-lts.Need-same-length-4 (mark-own-reads.Asked, mark-own-reads.Learnt, subs-of-reads.Asked, subs-of-reads.Learnt, mark-row-below t, mark-row.Post, behaviour-at-reads.Asked, behaviour-at-reads.Learnt, mark-branches-below t, mark-branches.Post) (mark-row-at t) mark-row.Post
+mark-row-same-length-4 t c = search needs
 
 mark-row-returns-5 : (t : ℕ) → mark-row-lts.Need-returns-5 (mark-own-reads.Asked, mark-own-reads.Learnt, subs-of-reads.Asked, subs-of-reads.Learnt, mark-row-below t, mark-row.Post, behaviour-at-reads.Asked, behaviour-at-reads.Learnt, mark-branches-below t, mark-branches.Post) (mark-row-at t) mark-row.Post
 mark-row-returns-5 t c = search row-laws depth 12
@@ -151,6 +165,7 @@ pub +mark-branches+mark-row-spec : {M : Type 1} → statement M
     (mark-branches-add-mark-branches t)
     (mark-branches-sub-mark-branches t)
     (mark-branches-mark-branches-requires t)
+    (mark-branches-same-length t)
     (mark-branches-returns-2 t))
     λ t. mark-row-lts.spec (
       mark-own-reads.Asked,
@@ -170,19 +185,23 @@ pub +mark-branches+mark-row-spec : {M : Type 1} → statement M
     (mark-row-mark-own-requires t)
     (mark-row-subs-of-requires t)
     (mark-row-enum-told t)
+    (mark-row-same-length t)
     (mark-row-returns-2 t)
     (mark-row-enum-known-a t)
     (mark-row-sub-mark-row t)
     (mark-row-mark-row-requires t)
+    (mark-row-same-length-2 t)
     (mark-row-returns-3 t)
     (mark-row-enum-known-a-2 t)
     (mark-row-sub-mark-row-2 t)
     (mark-row-mark-row-requires-2 t)
     (mark-row-sub-mark-row-3 t)
     (mark-row-mark-row-requires-3 t)
+    (mark-row-same-length-3 t)
     (mark-row-returns-4 t)
     (mark-row-enum-known-first t)
     (mark-row-behaviour-at-requires t)
     (mark-row-sub-mark-branches t)
     (mark-row-mark-branches-requires t)
+    (mark-row-same-length-4 t)
     (mark-row-returns-5 t)

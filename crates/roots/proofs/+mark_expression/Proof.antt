@@ -49,6 +49,9 @@ mark-expression-enum-known-p t c = search needs
 mark-expression-mark-path-requires : (t : ℕ) → mark-expression-lts.Need-mark-path-requires (operands-of-reads.Asked, operands-of-reads.Learnt, mark-path-reads.Asked, mark-path-reads.Learnt, mark-expression-below t, mark-expression.Post) (mark-expression-at t) mark-expression.Post
 mark-expression-mark-path-requires t c κs = search needs
 
+mark-expression-same-length : (t : ℕ) → mark-expression-lts.Need-same-length (operands-of-reads.Asked, operands-of-reads.Learnt, mark-path-reads.Asked, mark-path-reads.Learnt, mark-expression-below t, mark-expression.Post) (mark-expression-at t) mark-expression.Post
+mark-expression-same-length t c = search needs
+
 mark-expression-returns-3 : (t : ℕ) → mark-expression-lts.Need-returns-3 (operands-of-reads.Asked, operands-of-reads.Learnt, mark-path-reads.Asked, mark-path-reads.Learnt, mark-expression-below t, mark-expression.Post) (mark-expression-at t) mark-expression.Post
 mark-expression-returns-3 t c = search expression-laws depth 12
 
@@ -68,6 +71,9 @@ mark-expression-mark-expression-requires :
       mark-expression.Post,
     ) (mark-expression-at t) mark-expression.Post
 mark-expression-mark-expression-requires t c κs = (omega arith, search needs)
+
+mark-expression-same-length-2 : (t : ℕ) → mark-expression-lts.Need-same-length-2 (operands-of-reads.Asked, operands-of-reads.Learnt, mark-path-reads.Asked, mark-path-reads.Learnt, mark-expression-below t, mark-expression.Post) (mark-expression-at t) mark-expression.Post
+mark-expression-same-length-2 t c = search needs
 
 mark-expression-returns-4 : (t : ℕ) → mark-expression-lts.Need-returns-4 (operands-of-reads.Asked, operands-of-reads.Learnt, mark-path-reads.Asked, mark-path-reads.Learnt, mark-expression-below t, mark-expression.Post) (mark-expression-at t) mark-expression.Post
 mark-expression-returns-4 t c = search expression-laws depth 12
@@ -103,6 +109,9 @@ mark-expression-mark-expression-requires-3 :
     ) (mark-expression-at t) mark-expression.Post
 mark-expression-mark-expression-requires-3 t c κs = (omega arith, search needs)
 
+mark-expression-same-length-3 : (t : ℕ) → mark-expression-lts.Need-same-length-3 (operands-of-reads.Asked, operands-of-reads.Learnt, mark-path-reads.Asked, mark-path-reads.Learnt, mark-expression-below t, mark-expression.Post) (mark-expression-at t) mark-expression.Post
+mark-expression-same-length-3 t c = search needs
+
 mark-expression-returns-5 : (t : ℕ) → mark-expression-lts.Need-returns-5 (operands-of-reads.Asked, operands-of-reads.Learnt, mark-path-reads.Asked, mark-path-reads.Learnt, mark-expression-below t, mark-expression.Post) (mark-expression-at t) mark-expression.Post
 mark-expression-returns-5 t c = search expression-laws depth 12
 
@@ -116,14 +125,17 @@ pub +mark-expression-spec : {M : Type 1} → statement M
     (mark-expression-returns-2 t)
     (mark-expression-enum-known-p t)
     (mark-expression-mark-path-requires t)
+    (mark-expression-same-length t)
     (mark-expression-returns-3 t)
     (mark-expression-enum-known-a t)
     (mark-expression-sub-mark-expression t)
     (mark-expression-mark-expression-requires t)
+    (mark-expression-same-length-2 t)
     (mark-expression-returns-4 t)
     (mark-expression-enum-known-a-2 t)
     (mark-expression-sub-mark-expression-2 t)
     (mark-expression-mark-expression-requires-2 t)
     (mark-expression-sub-mark-expression-3 t)
     (mark-expression-mark-expression-requires-3 t)
+    (mark-expression-same-length-3 t)
     (mark-expression-returns-5 t)

@@ -1,10 +1,9 @@
 use Rattle.roots.proofs.RootLaws.{own-laws}
 use native.Mathlib.Omega.{arith}
 use borrow.Author.Needs.{needs}
+use borrow.Author.Needs.{needs}
 use Rattle.roots.proofs.mark_own.Statement.{statement}
 use Rattle.roots.proofs.mark_own.Tie as tie
-use Rattle.roots.proofs.mark_own.Reads as reads
-use Rattle.roots.proofs.mark_own.Lts as lts
 use Rattle.roots.proofs.mark_expression.Reads as mark-expression-reads
 use Rattle.roots.proofs.mark_path.Reads as mark-path-reads
 use Rattle.roots.proofs.own_of.Reads as own-of-reads
@@ -24,6 +23,9 @@ enum-known-p c = search needs
 mark-path-requires : tie.Need-mark-path-requires
 mark-path-requires c κs = search needs
 
+same-length : tie.Need-same-length
+same-length c = search needs
+
 returns-2 : tie.Need-returns-2
 returns-2 c = search own-laws depth 12
 
@@ -36,6 +38,9 @@ mark-path-requires-2 c κs = search needs
 mark-path-requires-3 : tie.Need-mark-path-requires-3
 mark-path-requires-3 c κs = search needs
 
+same-length-2 : tie.Need-same-length-2
+same-length-2 c = search needs
+
 returns-3 : tie.Need-returns-3
 returns-3 c = search own-laws depth 12
 
@@ -44,6 +49,9 @@ enum-known-e c = search needs
 
 mark-expression-requires : tie.Need-mark-expression-requires
 mark-expression-requires c κs = search needs
+
+same-length-3 : tie.Need-same-length-3
+same-length-3 c = search needs
 
 returns-4 : tie.Need-returns-4
 returns-4 c = search own-laws depth 12
@@ -57,6 +65,9 @@ mark-expression-requires-2 c κs = search needs
 mark-path-requires-4 : tie.Need-mark-path-requires-4
 mark-path-requires-4 c κs = search needs
 
+same-length-4 : tie.Need-same-length-4
+same-length-4 c = search needs
+
 returns-5 : tie.Need-returns-5
 returns-5 c = search own-laws depth 12
 
@@ -69,15 +80,19 @@ mark-own-spec =
     returns
     enum-known-p
     mark-path-requires
+    same-length
     returns-2
     enum-known-p-2
     mark-path-requires-2
     mark-path-requires-3
+    same-length-2
     returns-3
     enum-known-e
     mark-expression-requires
+    same-length-3
     returns-4
     enum-known-e-2
     mark-expression-requires-2
     mark-path-requires-4
+    same-length-4
     returns-5)
