@@ -39,7 +39,8 @@ use Rattle.behaviours.specs.Rows.{behaviourBy, Sub, BranchSubs, KeptBy}
 use Rattle.behaviours.specs.Checks.{Checks, Sequences}
 use Rattle.behaviours.specs.KindLaws.{row-is}
 use Rattle.outputs.specs.Outputs.{verdictOf}
-use Rattle.starters.specs.Starters.{branchAt, branchList, Run, Gives, Each, Against, OneEach, UnitesAll, Joins, Starts, Clients}
+use Rattle.starters.specs.Starters.{branchAt, branchList, Run, Gives, Each, Against, OneEach, UnitesAll, Joins, Gathers, Starts, Clients}
+use Rattle.starters.specs.declared.Gathered.{Gathered}
 
 -- ---- runs of branches
 
@@ -356,6 +357,70 @@ joins-union file q row at n left {x} {u} {s} o i p m = record {
 
 pub ruleset join-laws = (joins-not, joins-union)
 
+-- ---- each branch once
+
+abbrev concluded : ℕ → Types → List Types → Checked Types
+concluded row Γ Γs = atRow row (require (oneTypeFrom true Γ Γs) EnvironmentsDiffer (limited (yields (unionFrom Γ Γs))))
+
+-- Nothing is told of what is not sure.
+not-sure : {b : Bool} {A : Type 0} → b ≡ false → b ≡ true → A
+not-sure e f = absurd (let z : _≡_ {A = ℕ} 0 1 = cc in omega arith)
+
+pub gathers-unsure : (file : List ℕ) (q row at n left : ℕ) (u : Environment) {x : Gathered} → x .sure ≡ false → Gathers file q row at n left u x
+gathers-unsure file q row at n left u e = record { tells = λ f. not-sure e f; rises = λ f. not-sure e f }
+
+conclude-none : (row : ℕ) (Γ : Types) → within Γ ≡ true → passed Γ ≡ concluded row Γ []
+unfolding oneTypeFrom unionFrom
+conclude-none row Γ e = limited-within row Γ e
+
+pub gathers-none : (file : List ℕ) (q row at n left : ℕ) (u : Environment) {x : Gathered} {s : Step} → n ≡ 0 → s ≡ record { environment = u; verdict = Done }
+    → x .step ≡ s → Gathers file q row at n left u x
+unfolding checkEach next
+gathers-none file q row at n left u {x} {s} z p i = record {
+  tells = λ f j Γ g h.
+      answers-as (conclude-none row Γ (shape-within Γ (g .shape))
+      ∙ ap (λ (y : List Behaviour). next (checkEach q y) (concluded row Γ)) (sym (list-none file j n z)))
+      (subst (λ (y : Step). Answers y (passed Γ)) (sym (i ∙ p)) (answers-pass g));
+  rises = λ f j Γs h e. subst AllRising (sym (none-given q file j n Γs z e)) none-rising;
+}
+
+next-more : (row : ℕ) (Γ Δ : Types) (x : Checked (List Types)) → oneType Δ Γ ≡ true → next x (concluded row (union Δ Γ)) ≡ next (next x (λ Δs. passed (Δ ∷ Δs))) (concluded row Γ)
+unfolding next oneTypeFrom unionFrom
+next-more row Γ Δ (refused w) o = refl
+next-more row Γ Δ (passed Δs) o = ap (λ (t : Bool). atRow row (require (oneTypeFrom t (union Δ Γ) Δs) EnvironmentsDiffer (limited (yields (unionFrom (union Δ Γ) Δs))))) (sym o)
+
+module _ (file : List ℕ) (q row at n left : ℕ) (u : Environment) {s : Step} (z : n ≡ 0 → ⊥) (k : Gives file q at left s) where
+  pub gathers-refused : {x : Gathered} {why : Refusal} → s .verdict ≡ Refused why → x .step ≡ s → Gathers file q row at n left u x
+  unfolding checkEach next
+  gathers-refused {x} {why} v i = record {
+    tells = λ f j Γ g h.
+        let y = answers-refused (answered file q at n left z k j h) why v in
+        answers-as (sym (ap (λ (b : List Behaviour). next (checkEach q b) (concluded row Γ)) (list-more file j n z)
+        ∙ ap (λ (c : Checked Types). next (next c (λ Δ. next (checkEach q (branchList file (suc j) (n - 1))) (λ Δs. passed (Δ ∷ Δs)))) (concluded row Γ)) (y .0)))
+        (answers-refuse why (i ∙ y .1));
+    rises = λ f j Γs h e. let d = split file q at n left z k j Γs h e in absurd (not-refused (sym (answers-refused (answered file q at n left z k j h) why v .0) ∙ d .5));
+  }
+
+  pub gathers-more : {t : Step} {x : Gathered} {o : Bool} → s .verdict ≡ Done → OneTyped (s .environment) u o → not o ≡ false → Unites (s .environment) u row t → t .verdict ≡ Done
+      → Gathers file q row (at + 10) (n - 1) left (t .environment) x → Gathers file q row at n left u x
+  unfolding checkEach next
+  gathers-more {t} {x} {o} v ot i m w r = record {
+    tells = λ f j Γ g h.
+        let p = answers-done (answered file q at n left z k j h) v in
+        let same = sym (ot .tells (p .0) Γ (p .2) g) ∙ not-false o i in
+        let y = answers-done (m .tells (p .0) Γ (p .2) g same) w in
+        let e = limited-given row (union (p .0) Γ) (y .0) (y .1) in
+        answers-as (next-more row Γ (p .0) (checkEach q (branchList file (suc j) (n - 1))) same
+        ∙ sym (ap (λ (b : List Behaviour). next (checkEach q b) (concluded row Γ)) (list-more file j n z)
+        ∙ ap (λ (c : Checked Types). next (next c (λ Δ. next (checkEach q (branchList file (suc j) (n - 1))) (λ Δs. passed (Δ ∷ Δs)))) (concluded row Γ)) (p .1)))
+        (r .tells f (suc j) (union (p .0) Γ) (subst (λ (x : Types). StandsFor (t .environment) x) (sym e) (y .2)) (run-next file at n left j z h));
+    rises = λ f j Γs h e.
+        let p = split file q at n left z k j Γs h e in
+        subst AllRising (sym (p .2)) (some-rising (p .0) (p .1) (p .3 .shape .rising) (r .rises f (suc j) (p .1) (run-next file at n left j z h) (p .4)));
+  }
+
+pub ruleset gather-laws = (gathers-none, gathers-refused, gathers-more, gathers-unsure)
+
 -- ---- starters and clients
 
 choice-row : (file : List ℕ) (r : ℕ) → kindAt file r ≡ BehaviourKind.Choice
@@ -369,8 +434,8 @@ branches-listed : (q r first n : ℕ) (file : List ℕ) → checkStarter q (choi
 unfolding branchList branchesOf rowOf
 branches-listed q r first n file = refl
 
-module _ (file : List ℕ) (q r : ℕ) {left row first n at : ℕ} {v : Verdict} (a : left ≡ behaviourCount file) (b : row ≡ behaviourAt file r) (c : first ≡ u16At file (row + 2))
-    (d : n ≡ u16At file (row + 4)) (e : at ≡ behaviourAt file first) (k : Each file q at n left v) where
+module _ (file : List ℕ) (q r : ℕ) {left row first n at : ℕ} (a : left ≡ behaviourCount file) (b : row ≡ behaviourAt file r) (c : first ≡ u16At file (row + 2))
+    (d : n ≡ u16At file (row + 4)) (e : at ≡ behaviourAt file first) where
   kept : WellFormed file → r < behaviourCount file → kindAt file r ≡ BehaviourKind.Choice
       → (checkStarter q (behaviourOf file r) ≡ next (checkEach q (branchList file first n)) (λ Γs. atRow r (require (oneTypeEach Γs) EnvironmentsDiffer (limited (yields (unionOf Γs))))))
       × Run file at n left first
@@ -381,34 +446,60 @@ module _ (file : List ℕ) (q r : ℕ) {left row first n at : ℕ} {v : Verdict}
       ∙ ap (BehaviourRow.Choice first) (sym y))) in
       (ap (checkStarter q) (h .0) ∙ branches-listed q r first n file, record { form = w; there = e; subs = h .1 .1 })
 
-  pub starts-refused : {why : Refusal} {s : Step} → v ≡ Refused why → s ≡ stepOf (refused why) → Starts file q r s
+  in-order : (Γs : List Types) → AllRising Γs → concluded r end Γs ≡ atRow r (require (oneTypeEach Γs) EnvironmentsDiffer (limited (yields (unionOf Γs))))
+  in-order Γs w = go (oneTypeEach Γs) refl
+    where
+      go : (t : Bool) → oneTypeEach Γs ≡ t → concluded r end Γs ≡ atRow r (require (oneTypeEach Γs) EnvironmentsDiffer (limited (yields (unionOf Γs))))
+      go true f =
+          ap (λ (t : Bool). atRow r (require t EnvironmentsDiffer (limited (yields (unionFrom end Γs))))) (oneType-in-order Γs w)
+          ∙ ap (λ (y : Types). atRow r (require (oneTypeEach Γs) EnvironmentsDiffer (limited (yields y)))) (union-in-order Γs w (each-one-sound Γs (T-of f)))
+      go false f =
+          ap (λ (t : Bool). atRow r (require t EnvironmentsDiffer (limited (yields (unionFrom end Γs))))) (oneType-in-order Γs w ∙ f)
+          ∙ sym (ap (λ (t : Bool). atRow r (require t EnvironmentsDiffer (limited (yields (unionOf Γs))))) f)
+
+  pub starts-gathered : {u : Environment} {x : Gathered} → u ≡ standing end → Gathers file q r at n left u x → x .sure ≡ true → Starts file q r (x .step)
   unfolding next
-  starts-refused {why} {s} f p = record {
-    tells = λ w l i.
-        let h = kept w l i in
-        answers-as (sym (h .0 ∙ ap (λ (y : Checked (List Types)). next y (λ Γs. atRow r (require (oneTypeEach Γs) EnvironmentsDiffer (limited (yields (unionOf Γs))))))
-        (all-refused (checkEach q (branchList file first n)) (sym (k .tells first (h .1)) ∙ f)))) (answers-refuse why p);
+  starts-gathered {u} {x} p m i = record {
+    tells = λ w l o.
+        let h = kept w l o in
+        answers-as (go (checkEach q (branchList file first n)) (λ Γs y. m .rises i first Γs (h .1) y) ∙ sym (h .0))
+        (m .tells i first end (subst (λ (f : Environment). StandsFor f end) (sym p) stands-empty) (h .1));
   }
     where
-      all-refused : (x : Checked (List Types)) → verdictOf x ≡ Refused why → x ≡ refused why
-      all-refused (refused w) g = cc
-      all-refused (passed Γs) g = absurd (let z : _≡_ {A = ℕ} 0 1 = cc in omega arith)
+      go : (y : Checked (List Types)) → ((Γs : List Types) → y ≡ passed Γs → AllRising Γs)
+          → next y (concluded r end) ≡ next y (λ Γs. atRow r (require (oneTypeEach Γs) EnvironmentsDiffer (limited (yields (unionOf Γs)))))
+      go (refused w) f = refl
+      go (passed Γs) f = in-order Γs (f Γs refl)
 
-  pub starts-joined : {s : Step} → v ≡ Done → Joins file q r at n left s → Starts file q r s
-  unfolding next
-  starts-joined {s} f m = record {
-    tells = λ w l i.
-        let h = kept w l i in
-        let g = all-passed (checkEach q (branchList file first n)) (sym (k .tells first (h .1)) ∙ f) in
-        answers-as (sym (h .0 ∙ ap (λ (y : Checked (List Types)). next y (λ Γs. atRow r (require (oneTypeEach Γs) EnvironmentsDiffer (limited (yields (unionOf Γs)))))) (g .1)))
-        (m .tells first (g .0) (h .1) (g .1) (k .rises first (g .0) (h .1) (g .1)));
-  }
-    where
-      all-passed : (x : Checked (List Types)) → verdictOf x ≡ Done → (Γs : List Types) × (x ≡ passed Γs)
-      all-passed (refused w) g = absurd (let z : _≡_ {A = ℕ} 0 1 = cc in omega arith)
-      all-passed (passed Γs) g = (Γs, refl)
+  module _ {v : Verdict} (k : Each file q at n left v) where
+    pub starts-refused : {why : Refusal} {s : Step} → v ≡ Refused why → s ≡ stepOf (refused why) → Starts file q r s
+    unfolding next
+    starts-refused {why} {s} f p = record {
+      tells = λ w l i.
+          let h = kept w l i in
+          answers-as (sym (h .0 ∙ ap (λ (y : Checked (List Types)). next y (λ Γs. atRow r (require (oneTypeEach Γs) EnvironmentsDiffer (limited (yields (unionOf Γs))))))
+          (all-refused (checkEach q (branchList file first n)) (sym (k .tells first (h .1)) ∙ f)))) (answers-refuse why p);
+    }
+      where
+        all-refused : (x : Checked (List Types)) → verdictOf x ≡ Refused why → x ≡ refused why
+        all-refused (refused w) g = cc
+        all-refused (passed Γs) g = absurd (let z : _≡_ {A = ℕ} 0 1 = cc in omega arith)
 
-pub ruleset start-laws = (starts-refused, starts-joined)
+    pub starts-joined : {s : Step} → v ≡ Done → Joins file q r at n left s → Starts file q r s
+    unfolding next
+    starts-joined {s} f m = record {
+      tells = λ w l i.
+          let h = kept w l i in
+          let g = all-passed (checkEach q (branchList file first n)) (sym (k .tells first (h .1)) ∙ f) in
+          answers-as (sym (h .0 ∙ ap (λ (y : Checked (List Types)). next y (λ Γs. atRow r (require (oneTypeEach Γs) EnvironmentsDiffer (limited (yields (unionOf Γs)))))) (g .1)))
+          (m .tells first (g .0) (h .1) (g .1) (k .rises first (g .0) (h .1) (g .1)));
+    }
+      where
+        all-passed : (x : Checked (List Types)) → verdictOf x ≡ Done → (Γs : List Types) × (x ≡ passed Γs)
+        all-passed (refused w) g = absurd (let z : _≡_ {A = ℕ} 0 1 = cc in omega arith)
+        all-passed (passed Γs) g = (Γs, refl)
+
+pub ruleset start-laws = (starts-gathered, starts-refused, starts-joined)
 
 pub client-checks : (file : List ℕ) (q r : ℕ) {left : ℕ} {e : Environment} {s : Step} → left ≡ behaviourCount file → e ≡ standing end → Checks file q r left e s → Clients file q r s
 client-checks file q r {left} {e} a p k = record {

@@ -6,7 +6,7 @@ use Prim.Native.Nat.{ℕ, _+_, _<_, _≤_}
 use Rattle.refusal.specs.declared.Verdict.{Verdict}
 use Rattle.forest.specs.Forest.{end}
 use Rattle.syntax.specs.Syntax.{Types, Behaviour, sequence}
-use Rattle.typing.specs.Result.{yields, require, Checked, passed, atRow}
+use Rattle.typing.specs.Result.{yields, require, Checked, passed, atRow, next}
 use Rattle.typing.specs.Checker.{limited, check}
 use Rattle.typing.specs.NetworkRules.{branchesOf, unionOf}
 use Rattle.typing.specs.NetworkLaws.{AllRising}
@@ -23,6 +23,7 @@ use Rattle.environments.specs.declared.Step.{Step}
 use Rattle.environments.specs.Environment.{StandsFor, Answers}
 use Rattle.behaviours.specs.Rows.{BranchSubs}
 use Rattle.outputs.specs.Outputs.{verdictOf}
+use Rattle.starters.specs.declared.Gathered.{Gathered}
 
 -- The branch at row j, and the n branches from row j on, as behaviours.
 abbrev pub branchAt : List ℕ → ℕ → Behaviour
@@ -59,6 +60,13 @@ pub record UnitesAll (file : List ℕ) (q row at n left : ℕ) (u : Environment)
 pub record Joins (file : List ℕ) (q row at n left : ℕ) (s : Step) : Type 0 where
   pub tells : (j : ℕ) (Γs : List Types) → Run file at n left j → checkEach q (branchList file j n) ≡ passed Γs → AllRising Γs
       → Answers s (atRow row (require (oneTypeEach Γs) EnvironmentsDiffer (limited (yields (unionOf Γs)))))
+
+-- The environments of the branches join Γ, the union of those before, one after another: the first refusal, 10, 12 or the union, where x is
+-- sure of it.
+pub record Gathers (file : List ℕ) (q row at n left : ℕ) (u : Environment) (x : Gathered) : Type 0 where
+  pub tells : x .sure ≡ true → (j : ℕ) (Γ : Types) → StandsFor u Γ → Run file at n left j → Answers (x .step) (next (checkEach q (branchList file j n))
+      (λ Γs. atRow row (require (oneTypeFrom true Γ Γs) EnvironmentsDiffer (limited (yields (unionFrom Γ Γs))))))
+  pub rises : x .sure ≡ true → (j : ℕ) (Γs : List Types) → Run file at n left j → checkEach q (branchList file j n) ≡ passed Γs → AllRising Γs
 
 -- The starter of row r, a choice; the client of row r.
 pub record Starts (file : List ℕ) (q r : ℕ) (s : Step) : Type 0 where

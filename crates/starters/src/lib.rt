@@ -1,11 +1,18 @@
 // Starters and clients: "Starter branches and clients start from empty Γ; a root bound by two branches has one type, else 10; the starter's
-// environment is their union." Branches are checked again where their environments are compared and united, so none is kept.
+// environment is their union." Each branch is checked once, and its environment united with those before it. Only where a root has two types
+// or the union passes the limit are the branches checked again and compared two by two, for 10 comes before 12.
 ghost use Prim.Native.Nat.{ℕ, _+_, _*_, _<_};
-ghost use Rattle.starters.specs.Starters.{Gives, Each, Against, OneEach, UnitesAll, Joins, Starts, Clients};
+ghost use Rattle.starters.specs.Starters.{Gives, Each, Against, OneEach, UnitesAll, Joins, Gathers, Starts, Clients};
 use environments::Environment;
 use environments::Step;
 use refusal::Refusal;
 use refusal::Verdict;
+
+// What the branches give, one after the other; or that it is not sure.
+pub struct Gathered {
+    pub sure: bool,
+    pub step: Step,
+}
 
 // The branch whose row stands at `at`, from the empty environment.
 fn branch(file: &[u8], q: u16, at: usize, left: u16) -> Step
@@ -100,6 +107,44 @@ fn join(file: &[u8], q: u16, row: u16, at: usize, n: u16, left: u16) -> Step
     unite_all(file, q, row, at, n, left, environments::empty())
 }
 
+// The n branches whose rows stand from `at` on, after those whose union is u: not sure where a root has two types or the union is too large.
+fn gather(file: &[u8], q: u16, row: u16, at: usize, n: u16, left: u16, u: Environment) -> Gathered
+    requires { ⌜ at + 10 * n < 2000000 ⌝ }
+    ensures { λ x. ⌜ Gathers (now (file .entry)) q row at n left u x ⌝ }
+{
+    if n == 0 {
+        return Gathered {
+            sure: true,
+            step: environments::pass(u),
+        };
+    }
+    let one = branch(file, q, at, left);
+    let v = one.verdict;
+    let Verdict::Done = v else {
+        return Gathered {
+            sure: true,
+            step: one,
+        };
+    };
+    let d = one.environment;
+    if !environments::one_type(d, u) {
+        return Gathered {
+            sure: false,
+            step: one,
+        };
+    }
+    let both = environments::unite(d, u, row);
+    let w = both.verdict;
+    let Verdict::Done = w else {
+        return Gathered {
+            sure: false,
+            step: both,
+        };
+    };
+    let more = both.environment;
+    gather(file, q, row, at + 10, n - 1, left, more)
+}
+
 // The starter of the service row q, whose row r is a choice.
 pub fn check_starter(file: &[u8], q: u16, r: u16) -> Step
     ensures { λ s. ⌜ Starts (now (file .entry)) q r s ⌝ }
@@ -109,6 +154,11 @@ pub fn check_starter(file: &[u8], q: u16, r: u16) -> Step
     let first = wire::u16_at(file, row + 2);
     let n = wire::u16_at(file, row + 4);
     let at = layout::behaviour_at(file, first);
+    let all = gather(file, q, r, at, n, left, environments::empty());
+    if all.sure {
+        let s = all.step;
+        return s;
+    }
     match each(file, q, at, n, left) {
         Verdict::Refused(why) => environments::refuse(why),
         Verdict::Done => join(file, q, r, at, n, left),

@@ -1,14 +1,15 @@
 use Rattle.starters.proofs.StarterLaws.{start-laws}
-use native.Mathlib.Omega.{arith}
 use borrow.Author.Needs.{needs}
 use Rattle.starters.proofs.check_starter.Statement.{statement}
 use Rattle.starters.proofs.check_starter.Tie as tie
 use Rattle.starters.proofs.check_starter.Reads as reads
 use Rattle.starters.proofs.check_starter.Lts as lts
+use Rattle.environments.proofs.empty.Reads as empty-reads
 use Rattle.environments.proofs.refuse.Reads as refuse-reads
 use Rattle.layout.proofs.behaviour_at.Reads as behaviour-at-reads
 use Rattle.layout.proofs.behaviour_count.Reads as behaviour-count-reads
 use Rattle.starters.proofs.each.Reads as each-reads
+use Rattle.starters.proofs.gather.Reads as gather-reads
 use Rattle.starters.proofs.join.Reads as join-reads
 use Rattle.wire.proofs.u16_at.Reads as u16-at-reads
 
@@ -33,6 +34,15 @@ u16-at-requires-2 c κs = search needs
 behaviour-at-requires-2 : tie.Need-behaviour-at-requires-2
 behaviour-at-requires-2 c κs = search needs
 
+empty-requires : tie.Need-empty-requires
+empty-requires c κs = search needs
+
+gather-requires : tie.Need-gather-requires
+gather-requires c κs = search needs
+
+returns : tie.Need-returns
+returns c = search start-laws depth 12
+
 each-requires : tie.Need-each-requires
 each-requires c κs = search needs
 
@@ -48,11 +58,11 @@ enum-told c = search needs
 join-requires : tie.Need-join-requires
 join-requires c κs = search needs
 
-returns : tie.Need-returns
-returns c = search start-laws depth 12
-
 returns-2 : tie.Need-returns-2
 returns-2 c = search start-laws depth 12
+
+returns-3 : tie.Need-returns-3
+returns-3 c = search start-laws depth 12
 
 pub check-starter-spec : {M : Type 1} → statement M
 check-starter-spec =
@@ -65,10 +75,13 @@ check-starter-spec =
     add-u16-at-2
     u16-at-requires-2
     behaviour-at-requires-2
+    empty-requires
+    gather-requires
+    returns
     each-requires
     enum-known-why
     refuse-requires
     enum-told
     join-requires
-    returns
-    returns-2)
+    returns-2
+    returns-3)
