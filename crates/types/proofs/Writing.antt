@@ -21,6 +21,8 @@ use Rattle.forest.specs.Forest.{mapTree}
 use Rattle.scalar.specs.Value.{Value}
 use Rattle.syntax.specs.Syntax.{MessageType}
 use Rattle.subtyping.specs.Subtype.{isSubtype}
+use Rattle.subtyping.specs.SubtypeLaws.{subtype-refl, subtype-complete}
+use Rattle.forest.specs.Compare.{of-T}
 use Rattle.tree_edit.specs.Wrote.{Wrote}
 use Rattle.tree_edit.specs.WroteLaws.{wrote-none, wrote-more, wrote-as, wrote-all-of}
 use Rattle.types.specs.Image.{flag, markValue, image, typeTree, typeAs}
@@ -158,6 +160,15 @@ written-root o e t h w = record {
 
 as-written : (t u : MessageType) → isSubtype (typeAs false (typeTree t)) u ≡ isSubtype t u
 as-written (tree (mark m b) k) (tree (mark n c) l) = ap (λ (z : MessageType). isSubtype z (tree (mark n c) l)) (type-back (tree (mark true b) k))
+
+-- A type is ≤ itself.
+pub order-same : (file : List ℕ) (r t : ℕ) → r ≡ t → RowsOrder file r t true
+order-same file r t e = record {
+  tells = λ wf lr lt.
+      let rises = type-shape file wf r lr .rising in
+      let itself = of-T (isSubtype (typeOf file r) (typeOf file r)) (subtype-complete (typeOf file r) (typeOf file r) rises rises (subtype-refl (typeOf file r))) in
+      sym (subst (λ (u : ℕ). isSubtype (typeOf file r) (typeOf file u) ≡ true) e itself);
+}
 
 pub order-rows : (file : List ℕ) (r t : ℕ) (o o′ : List ℕ) (e : ℕ) (x : Bool) → Octets file → TypeWritten file r o o′ e → TreeUnder false o′ 0 file t x → RowsOrder file r t x
 order-rows file r t o o′ e x oct h k = record {

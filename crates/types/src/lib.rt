@@ -262,6 +262,9 @@ pub fn write_type(out: &mut [u8], file: &[u8], r: u16) -> usize
 pub fn row_order(file: &[u8], r: u16, t: u16) -> bool
     ensures { λ x. ⌜ RowsOrder (now (file .entry)) r t x ⌝ }
 {
+    if r == t {
+        return true;
+    }
     tree::octets(file);
     let mut m = [0u8; 112];
     let _n = write_type(&mut m, file, r);
