@@ -2,7 +2,7 @@
 use Prim.Native.Nat.{ℕ, zero, suc, _+_, _-_, _<_, _≤_}
 use mathlib.Core.Path.{_≡_, refl, sym, _∙_, ap}
 use mathlib.Core.List.{List}
-use mathlib.Core.Bool.{Bool, true, false, not, _||_}
+use mathlib.Core.Bool.{Bool, true, false, not, _&&_, _||_}
 use lib.Dec.{eqb, ltb}
 use native.Mathlib.Omega.{arith}
 use borrow.Author.Tests.{eq-eqb, ne-eqb}
@@ -10,8 +10,8 @@ use Rattle.scalar.specs.Value.{pick}
 use Rattle.network.specs.declared.Broken.{Broken}
 use Rattle.network.specs.declared.Broken.the-variants.{Nowhere}
 use Rattle.network.specs.Least.{least, rule, leastOver}
-use Rattle.network.specs.Layout.{typeCount, typeAt}
-use Rattle.network.specs.Rows.{inRun, typeId, laterRun, childrenFit, idBefore, childRule, childIds, rootFits, locationFits, replyFits}
+use Rattle.network.specs.Layout.{typeCount, typeAt, operationAt}
+use Rattle.network.specs.Rows.{inRun, typeId, laterRun, childrenFit, idBefore, childRule, childIds, rootFits, locationFits, replyFits, operationId, sameService, sameName, repeatRule}
 use Rattle.layout.specs.LeastFacts.{rule-true}
 use Rattle.layout.specs.Loops.{Swept, swept-more, OnlyRun, clip, run-none, run-done}
 
@@ -58,6 +58,17 @@ unfolding replyFits
 reply-other s d t e f = simp (ne-eqb d 0 e, ne-eqb d 1 f)
 
 pub ruleset operation-laws = (location-in, location-out, location-other, reply-one, reply-two, reply-other)
+
+-- Other ids do not repeat.
+pub other-ids : (s : List ℕ) (r q x y : ℕ) → x ≡ operationId s r → y ≡ operationId s q → (x ≡ y → ⊥) → Nowhere ≡ repeatRule s r q
+unfolding repeatRule sameName
+other-ids s r q x y a b h = rw (ne-eqb (operationId s r) (operationId s q) (λ e. h (a ∙ e ∙ sym b))) (go (sameService s r q))
+  where
+    go : (t : Bool) → Nowhere ≡ rule (not (t && false)) (operationAt s r) Nowhere
+    go true = sym (rule-true true (operationAt s r) refl)
+    go false = sym (rule-true true (operationAt s r) refl)
+
+pub ruleset repeat-laws = (other-ids)
 
 -- ---- the children of a T row
 

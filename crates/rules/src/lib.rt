@@ -180,6 +180,9 @@ fn same_name(s: &[u8], r: u16, q: u16) -> bool
 fn repeat_rule(s: &[u8], r: u16, q: u16) -> Broken
     ensures { λ m. ⌜ m ≡ repeatRule (now (s .entry)) r q ⌝ }
 {
+    if rows::operation_id(s, r) != rows::operation_id(s, q) {
+        return Broken::Nowhere;
+    }
     let same = both(same_service(s, r, q), same_name(s, r, q));
     rule(!same, layout::operation_at(s, r), Broken::Nowhere)
 }

@@ -1,7 +1,17 @@
 use Rattle.network.specs.Rows.{repeatRule}
+use Rattle.rules.proofs.RuleLaws.{repeat-laws}
 use borrow.Author.Needs.{needs}
 use Rattle.rules.proofs.repeat_rule.Statement.{statement}
 use Rattle.rules.proofs.repeat_rule.Tie as tie
+
+operation-id-requires : tie.Need-operation-id-requires
+operation-id-requires c κs = search needs
+
+operation-id-requires-2 : tie.Need-operation-id-requires-2
+operation-id-requires-2 c κs = search needs
+
+returns : tie.Need-returns
+returns c = search repeat-laws depth 12
 
 same-service-requires : tie.Need-same-service-requires
 same-service-requires c κs = search needs
@@ -18,17 +28,20 @@ operation-at-requires c κs = search needs
 rule-requires : tie.Need-rule-requires
 rule-requires c κs = search needs
 
-returns : tie.Need-returns
+returns-2 : tie.Need-returns-2
 unfolding repeatRule
-returns c = cc
+returns-2 c = cc
 
 pub repeat-rule-spec : {M : Type 1} → statement M
 repeat-rule-spec =
     tie.close
     (tie.spec
+    operation-id-requires
+    operation-id-requires-2
+    returns
     same-service-requires
     same-name-requires
     both-requires
     operation-at-requires
     rule-requires
-    returns)
+    returns-2)
