@@ -158,6 +158,12 @@ pub find-step : (s : List ℕ) (d n last left at i b c m e l : ℕ) (h : Head) (
     r′ ≡ scan s (d - 1) c 0 (left - 1) m → r′ ≡ Past e l → r ≡ scan s d (n - 1) i l e → r ≡ scan s d n last left at
 find-step s d n last left at i b c m e l h r r′ x y g p q k u v z = scan-step s d n last left at x y i b c m e l r (omega (arith, g)) (got p q) k (sym u ∙ v) z
 
+-- a node without children
+pub find-leaf : (s : List ℕ) (d n last left at i b c m : ℕ) (h : Head) (r : Scan) → (d ≡ 0 → ⊥) → (n ≡ 0 → ⊥) → (left ≡ 0 → ⊥) → h ≡ headAt s at → h ≡ Node i b c m → last < i →
+    c ≡ 0 → r ≡ scan s d (n - 1) i (left - 1) m → r ≡ scan s d n last left at
+find-leaf s d n last left at i b c m h r x y g p q k z w =
+    find-step s d n last left at i b c m m (left - 1) h r (Past m (left - 1)) x y g p q k (rw z (done s (d - 1) 0 (left - 1) m)) refl w
+
 pub find-head : (s : List ℕ) (d n last left at : ℕ) (h : Head) → (d ≡ 0 → ⊥) → (n ≡ 0 → ⊥) → (left ≡ 0 → ⊥) → h ≡ headAt s at → h ≡ Fault → Bad ≡ scan s d n last left at
 find-head s d n last left at h e f g p q = scan-head s d n last left at e f (omega (arith, g)) (fault s at p q)
 
@@ -165,4 +171,4 @@ pub find-kids : (s : List ℕ) (d n last left at i b c m : ℕ) (h : Head) (r : 
     r ≡ scan s (d - 1) c 0 (left - 1) m → r ≡ Bad → Bad ≡ scan s d n last left at
 find-kids s d n last left at i b c m h r x y g p q k u v = scan-kids s d n last left at x y i b c m (omega (arith, g)) (got p q) k (sym u ∙ v)
 
-pub ruleset kids-laws = (scan-done, scan-flat, scan-full, find-head, find-id, find-kids, find-step)
+pub ruleset kids-laws = (scan-done, scan-flat, scan-full, find-head, find-id, find-kids, find-leaf, find-step)

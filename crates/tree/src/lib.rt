@@ -75,6 +75,9 @@ pub fn kids(s: &[u8], at: usize, n: u8, last: u16, levels: u8, left: u8) -> Scan
     if id <= last {
         return Scan::Bad;
     }
+    if count == 0 {
+        return kids(s, mid, n - 1, id, levels, left - 1);
+    }
     let Scan::Past(next, rest) = kids(s, mid, count, 0, levels - 1, left - 1) else {
         return Scan::Bad;
     };
