@@ -134,7 +134,13 @@ walk-rest s d first n left f m k r x a b g p q h e o =
     let u : spent s (suc (d - 1)) (first + 1) (n - 1) k ≡ spent s (suc (d - 1)) first (suc (n - 1)) (suc (left - 1)) = suc-rest s (d - 1) first (n - 1) (left - 1) k v in
     cc
 
-pub ruleset walk-laws = (walk-done, walk-flat, walk-full, walk-large, walk-rest)
+-- A row without children.
+pub walk-leaf : (s : List ℕ) (d first n left m : ℕ) (x : Spent) → (n ≡ 0 → ⊥) → (d ≡ 0 → ⊥) → (left ≡ 0 → ⊥) → m ≡ childCount s first → m ≡ 0 →
+    x ≡ spent s d (first + 1) (n - 1) (left - 1) → x ≡ spent s d first n left
+walk-leaf s d first n left m x a b g q z o =
+    walk-rest s d first n left (firstChild s first) m (left - 1) (Left (left - 1)) x a b g refl q (walk-done s (d - 1) (firstChild s first) m (left - 1) z) refl o
+
+pub ruleset walk-laws = (walk-done, walk-flat, walk-full, walk-large, walk-leaf, walk-rest)
 
 and-true : (a : Bool) → a && true ≡ a
 and-true true = refl

@@ -47,8 +47,11 @@ fn walk(s: &[u8], first: usize, n: usize, levels: u8, left: u8) -> Spent
     if left == 0 {
         return Spent::Large;
     }
-    let from = first_of(s, first);
     let many = children_of(s, first);
+    if many == 0 {
+        return walk(s, first + 1, n - 1, levels, left - 1);
+    }
+    let from = first_of(s, first);
     let Spent::Left(rest) = walk(s, from, many, levels - 1, left - 1) else {
         return Spent::Large;
     };
