@@ -345,7 +345,11 @@ unfolding subRoots
 run-subs s l m o d r at {x} {a} {n} h y e f g z =
     adds-both (ownRoots s (ownOf s r)) (branchRoots s (d - 1) a n) (behaviourRoots s d r) y (z .adds a g) (subs-are s d r h e f)
 
-pub ruleset row-laws = (no-rows, no-subs, one-sub, two-subs, run-subs)
+-- What the row that was read names itself.
+pub row-own : (s l o : List ℕ) (r : ℕ) {x : BehaviourRow} {y : Own} → x ≡ behaviourRowOf s r → y ≡ ownIn x → Adds (ownRoots s y) l o → Adds (ownRoots s (ownOf s r)) l o
+row-own s l o r {x} {y} e f a = subst (λ (z : Own). Adds (ownRoots s z) l o) (own-are s r e f) a
+
+pub ruleset row-laws = (no-rows, no-subs, one-sub, two-subs, run-subs, row-own, subs-of-row)
 
 -- ---- branches
 

@@ -150,11 +150,11 @@ fn mark_expression(s: &[u8], marks: &mut [u8], r: u16, levels: u8)
     }
 }
 
-// Marks the root ids that B row r names itself.
-fn mark_own(s: &[u8], marks: &mut [u8], r: u16)
-    ensures { λ _. ⌜ Adds (ownRoots (now (s .entry)) (ownOf (now (s .entry)) r)) (now (marks .entry)) (now (marks .exit)) ⌝ }
+// Marks the root ids that a B row names itself.
+fn mark_own(s: &[u8], marks: &mut [u8], own: Own)
+    ensures { λ _. ⌜ Adds (ownRoots (now (s .entry)) own) (now (marks .entry)) (now (marks .exit)) ⌝ }
 {
-    match own_of(s, r) {
+    match own {
         Own::Nothing => {
             return;
         }
@@ -186,8 +186,9 @@ fn mark_row(s: &[u8], marks: &mut [u8], r: u16, left: u16)
     if left == 0 {
         return;
     }
-    mark_own(s, marks, r);
-    match subs_of(s, r) {
+    let row = rows::behaviour_row(s, r);
+    mark_own(s, marks, own_in(row));
+    match subs_in(row) {
         Subs::Nothing => {
             return;
         }

@@ -13,7 +13,9 @@ use Rattle.roots.proofs.mark_row.Kinds as mark-row-kinds
 use Rattle.roots.proofs.+mark_branches+mark_row.Lts-mark_row as mark-row-lts
 use Rattle.layout.proofs.behaviour_at.Reads as behaviour-at-reads
 use Rattle.roots.proofs.mark_own.Reads as mark-own-reads
-use Rattle.roots.proofs.subs_of.Reads as subs-of-reads
+use Rattle.roots.proofs.own_in.Reads as own-in-reads
+use Rattle.roots.proofs.subs_in.Reads as subs-in-reads
+use Rattle.rows.proofs.behaviour_row.Reads as behaviour-row-reads
 use Rattle.wire.proofs.u16_at.Reads as u16-at-reads
 use Rattle.roots.proofs.+mark_branches+mark_row.{statement}
 use Rattle.roots.proofs.+mark_branches+mark_row.Tie.{close}
@@ -79,76 +81,82 @@ mark-branches-same-length t c = search needs
 mark-branches-returns-2 : (t : ℕ) → mark-branches-lts.Need-returns-2 (u16-at-reads.Asked, u16-at-reads.Learnt, mark-row-below t, mark-row.Post, mark-branches-below t, mark-branches.Post) (mark-branches-at t) mark-branches.Post
 mark-branches-returns-2 t c = search branch-laws depth 12
 
-mark-row-returns : (t : ℕ) → mark-row-lts.Need-returns (mark-own-reads.Asked, mark-own-reads.Learnt, subs-of-reads.Asked, subs-of-reads.Learnt, mark-row-below t, mark-row.Post, behaviour-at-reads.Asked, behaviour-at-reads.Learnt, mark-branches-below t, mark-branches.Post) (mark-row-at t) mark-row.Post
+mark-row-returns : (t : ℕ) → mark-row-lts.Need-returns (behaviour-row-reads.Asked, behaviour-row-reads.Learnt, own-in-reads.Asked, own-in-reads.Learnt, mark-own-reads.Asked, mark-own-reads.Learnt, subs-in-reads.Asked, subs-in-reads.Learnt, mark-row-below t, mark-row.Post, behaviour-at-reads.Asked, behaviour-at-reads.Learnt, mark-branches-below t, mark-branches.Post) (mark-row-at t) mark-row.Post
 mark-row-returns t c = search row-laws depth 12
 
-mark-row-mark-own-requires : (t : ℕ) → mark-row-lts.Need-mark-own-requires (mark-own-reads.Asked, mark-own-reads.Learnt, subs-of-reads.Asked, subs-of-reads.Learnt, mark-row-below t, mark-row.Post, behaviour-at-reads.Asked, behaviour-at-reads.Learnt, mark-branches-below t, mark-branches.Post) (mark-row-at t) mark-row.Post
+mark-row-behaviour-row-requires : (t : ℕ) → mark-row-lts.Need-behaviour-row-requires (behaviour-row-reads.Asked, behaviour-row-reads.Learnt, own-in-reads.Asked, own-in-reads.Learnt, mark-own-reads.Asked, mark-own-reads.Learnt, subs-in-reads.Asked, subs-in-reads.Learnt, mark-row-below t, mark-row.Post, behaviour-at-reads.Asked, behaviour-at-reads.Learnt, mark-branches-below t, mark-branches.Post) (mark-row-at t) mark-row.Post
+mark-row-behaviour-row-requires t c κs = search needs
+
+mark-row-own-in-requires : (t : ℕ) → mark-row-lts.Need-own-in-requires (behaviour-row-reads.Asked, behaviour-row-reads.Learnt, own-in-reads.Asked, own-in-reads.Learnt, mark-own-reads.Asked, mark-own-reads.Learnt, subs-in-reads.Asked, subs-in-reads.Learnt, mark-row-below t, mark-row.Post, behaviour-at-reads.Asked, behaviour-at-reads.Learnt, mark-branches-below t, mark-branches.Post) (mark-row-at t) mark-row.Post
+mark-row-own-in-requires t c κs = search needs
+
+mark-row-mark-own-requires : (t : ℕ) → mark-row-lts.Need-mark-own-requires (behaviour-row-reads.Asked, behaviour-row-reads.Learnt, own-in-reads.Asked, own-in-reads.Learnt, mark-own-reads.Asked, mark-own-reads.Learnt, subs-in-reads.Asked, subs-in-reads.Learnt, mark-row-below t, mark-row.Post, behaviour-at-reads.Asked, behaviour-at-reads.Learnt, mark-branches-below t, mark-branches.Post) (mark-row-at t) mark-row.Post
 mark-row-mark-own-requires t c κs = search needs
 
-mark-row-subs-of-requires : (t : ℕ) → mark-row-lts.Need-subs-of-requires (mark-own-reads.Asked, mark-own-reads.Learnt, subs-of-reads.Asked, subs-of-reads.Learnt, mark-row-below t, mark-row.Post, behaviour-at-reads.Asked, behaviour-at-reads.Learnt, mark-branches-below t, mark-branches.Post) (mark-row-at t) mark-row.Post
-mark-row-subs-of-requires t c κs = search needs
+mark-row-subs-in-requires : (t : ℕ) → mark-row-lts.Need-subs-in-requires (behaviour-row-reads.Asked, behaviour-row-reads.Learnt, own-in-reads.Asked, own-in-reads.Learnt, mark-own-reads.Asked, mark-own-reads.Learnt, subs-in-reads.Asked, subs-in-reads.Learnt, mark-row-below t, mark-row.Post, behaviour-at-reads.Asked, behaviour-at-reads.Learnt, mark-branches-below t, mark-branches.Post) (mark-row-at t) mark-row.Post
+mark-row-subs-in-requires t c κs = search needs
 
-mark-row-enum-told : (t : ℕ) → mark-row-lts.Need-enum-told (mark-own-reads.Asked, mark-own-reads.Learnt, subs-of-reads.Asked, subs-of-reads.Learnt, mark-row-below t, mark-row.Post, behaviour-at-reads.Asked, behaviour-at-reads.Learnt, mark-branches-below t, mark-branches.Post) (mark-row-at t) mark-row.Post
+mark-row-enum-told : (t : ℕ) → mark-row-lts.Need-enum-told (behaviour-row-reads.Asked, behaviour-row-reads.Learnt, own-in-reads.Asked, own-in-reads.Learnt, mark-own-reads.Asked, mark-own-reads.Learnt, subs-in-reads.Asked, subs-in-reads.Learnt, mark-row-below t, mark-row.Post, behaviour-at-reads.Asked, behaviour-at-reads.Learnt, mark-branches-below t, mark-branches.Post) (mark-row-at t) mark-row.Post
 mark-row-enum-told t c = search needs
 
-mark-row-same-length : (t : ℕ) → mark-row-lts.Need-same-length (mark-own-reads.Asked, mark-own-reads.Learnt, subs-of-reads.Asked, subs-of-reads.Learnt, mark-row-below t, mark-row.Post, behaviour-at-reads.Asked, behaviour-at-reads.Learnt, mark-branches-below t, mark-branches.Post) (mark-row-at t) mark-row.Post
+mark-row-same-length : (t : ℕ) → mark-row-lts.Need-same-length (behaviour-row-reads.Asked, behaviour-row-reads.Learnt, own-in-reads.Asked, own-in-reads.Learnt, mark-own-reads.Asked, mark-own-reads.Learnt, subs-in-reads.Asked, subs-in-reads.Learnt, mark-row-below t, mark-row.Post, behaviour-at-reads.Asked, behaviour-at-reads.Learnt, mark-branches-below t, mark-branches.Post) (mark-row-at t) mark-row.Post
 mark-row-same-length t c = search needs
 
-mark-row-returns-2 : (t : ℕ) → mark-row-lts.Need-returns-2 (mark-own-reads.Asked, mark-own-reads.Learnt, subs-of-reads.Asked, subs-of-reads.Learnt, mark-row-below t, mark-row.Post, behaviour-at-reads.Asked, behaviour-at-reads.Learnt, mark-branches-below t, mark-branches.Post) (mark-row-at t) mark-row.Post
+mark-row-returns-2 : (t : ℕ) → mark-row-lts.Need-returns-2 (behaviour-row-reads.Asked, behaviour-row-reads.Learnt, own-in-reads.Asked, own-in-reads.Learnt, mark-own-reads.Asked, mark-own-reads.Learnt, subs-in-reads.Asked, subs-in-reads.Learnt, mark-row-below t, mark-row.Post, behaviour-at-reads.Asked, behaviour-at-reads.Learnt, mark-branches-below t, mark-branches.Post) (mark-row-at t) mark-row.Post
 mark-row-returns-2 t c = search row-laws depth 12
 
-mark-row-enum-known-a : (t : ℕ) → mark-row-lts.Need-enum-known-a (mark-own-reads.Asked, mark-own-reads.Learnt, subs-of-reads.Asked, subs-of-reads.Learnt, mark-row-below t, mark-row.Post, behaviour-at-reads.Asked, behaviour-at-reads.Learnt, mark-branches-below t, mark-branches.Post) (mark-row-at t) mark-row.Post
+mark-row-enum-known-a : (t : ℕ) → mark-row-lts.Need-enum-known-a (behaviour-row-reads.Asked, behaviour-row-reads.Learnt, own-in-reads.Asked, own-in-reads.Learnt, mark-own-reads.Asked, mark-own-reads.Learnt, subs-in-reads.Asked, subs-in-reads.Learnt, mark-row-below t, mark-row.Post, behaviour-at-reads.Asked, behaviour-at-reads.Learnt, mark-branches-below t, mark-branches.Post) (mark-row-at t) mark-row.Post
 mark-row-enum-known-a t c = search needs
 
-mark-row-sub-mark-row : (t : ℕ) → mark-row-lts.Need-sub-mark-row (mark-own-reads.Asked, mark-own-reads.Learnt, subs-of-reads.Asked, subs-of-reads.Learnt, mark-row-below t, mark-row.Post, behaviour-at-reads.Asked, behaviour-at-reads.Learnt, mark-branches-below t, mark-branches.Post) (mark-row-at t) mark-row.Post
+mark-row-sub-mark-row : (t : ℕ) → mark-row-lts.Need-sub-mark-row (behaviour-row-reads.Asked, behaviour-row-reads.Learnt, own-in-reads.Asked, own-in-reads.Learnt, mark-own-reads.Asked, mark-own-reads.Learnt, subs-in-reads.Asked, subs-in-reads.Learnt, mark-row-below t, mark-row.Post, behaviour-at-reads.Asked, behaviour-at-reads.Learnt, mark-branches-below t, mark-branches.Post) (mark-row-at t) mark-row.Post
 mark-row-sub-mark-row t c = search needs
 
-mark-row-mark-row-requires : (t : ℕ) → mark-row-lts.Need-mark-row-requires (mark-own-reads.Asked, mark-own-reads.Learnt, subs-of-reads.Asked, subs-of-reads.Learnt, mark-row-below t, mark-row.Post, behaviour-at-reads.Asked, behaviour-at-reads.Learnt, mark-branches-below t, mark-branches.Post) (mark-row-at t) mark-row.Post
+mark-row-mark-row-requires : (t : ℕ) → mark-row-lts.Need-mark-row-requires (behaviour-row-reads.Asked, behaviour-row-reads.Learnt, own-in-reads.Asked, own-in-reads.Learnt, mark-own-reads.Asked, mark-own-reads.Learnt, subs-in-reads.Asked, subs-in-reads.Learnt, mark-row-below t, mark-row.Post, behaviour-at-reads.Asked, behaviour-at-reads.Learnt, mark-branches-below t, mark-branches.Post) (mark-row-at t) mark-row.Post
 mark-row-mark-row-requires t c κs = (omega arith, search needs)
 
-mark-row-same-length-2 : (t : ℕ) → mark-row-lts.Need-same-length-2 (mark-own-reads.Asked, mark-own-reads.Learnt, subs-of-reads.Asked, subs-of-reads.Learnt, mark-row-below t, mark-row.Post, behaviour-at-reads.Asked, behaviour-at-reads.Learnt, mark-branches-below t, mark-branches.Post) (mark-row-at t) mark-row.Post
+mark-row-same-length-2 : (t : ℕ) → mark-row-lts.Need-same-length-2 (behaviour-row-reads.Asked, behaviour-row-reads.Learnt, own-in-reads.Asked, own-in-reads.Learnt, mark-own-reads.Asked, mark-own-reads.Learnt, subs-in-reads.Asked, subs-in-reads.Learnt, mark-row-below t, mark-row.Post, behaviour-at-reads.Asked, behaviour-at-reads.Learnt, mark-branches-below t, mark-branches.Post) (mark-row-at t) mark-row.Post
 mark-row-same-length-2 t c = search needs
 
-mark-row-returns-3 : (t : ℕ) → mark-row-lts.Need-returns-3 (mark-own-reads.Asked, mark-own-reads.Learnt, subs-of-reads.Asked, subs-of-reads.Learnt, mark-row-below t, mark-row.Post, behaviour-at-reads.Asked, behaviour-at-reads.Learnt, mark-branches-below t, mark-branches.Post) (mark-row-at t) mark-row.Post
+mark-row-returns-3 : (t : ℕ) → mark-row-lts.Need-returns-3 (behaviour-row-reads.Asked, behaviour-row-reads.Learnt, own-in-reads.Asked, own-in-reads.Learnt, mark-own-reads.Asked, mark-own-reads.Learnt, subs-in-reads.Asked, subs-in-reads.Learnt, mark-row-below t, mark-row.Post, behaviour-at-reads.Asked, behaviour-at-reads.Learnt, mark-branches-below t, mark-branches.Post) (mark-row-at t) mark-row.Post
 mark-row-returns-3 t c = search row-laws depth 12
 
-mark-row-enum-known-a-2 : (t : ℕ) → mark-row-lts.Need-enum-known-a-2 (mark-own-reads.Asked, mark-own-reads.Learnt, subs-of-reads.Asked, subs-of-reads.Learnt, mark-row-below t, mark-row.Post, behaviour-at-reads.Asked, behaviour-at-reads.Learnt, mark-branches-below t, mark-branches.Post) (mark-row-at t) mark-row.Post
+mark-row-enum-known-a-2 : (t : ℕ) → mark-row-lts.Need-enum-known-a-2 (behaviour-row-reads.Asked, behaviour-row-reads.Learnt, own-in-reads.Asked, own-in-reads.Learnt, mark-own-reads.Asked, mark-own-reads.Learnt, subs-in-reads.Asked, subs-in-reads.Learnt, mark-row-below t, mark-row.Post, behaviour-at-reads.Asked, behaviour-at-reads.Learnt, mark-branches-below t, mark-branches.Post) (mark-row-at t) mark-row.Post
 mark-row-enum-known-a-2 t c = search needs
 
-mark-row-sub-mark-row-2 : (t : ℕ) → mark-row-lts.Need-sub-mark-row-2 (mark-own-reads.Asked, mark-own-reads.Learnt, subs-of-reads.Asked, subs-of-reads.Learnt, mark-row-below t, mark-row.Post, behaviour-at-reads.Asked, behaviour-at-reads.Learnt, mark-branches-below t, mark-branches.Post) (mark-row-at t) mark-row.Post
+mark-row-sub-mark-row-2 : (t : ℕ) → mark-row-lts.Need-sub-mark-row-2 (behaviour-row-reads.Asked, behaviour-row-reads.Learnt, own-in-reads.Asked, own-in-reads.Learnt, mark-own-reads.Asked, mark-own-reads.Learnt, subs-in-reads.Asked, subs-in-reads.Learnt, mark-row-below t, mark-row.Post, behaviour-at-reads.Asked, behaviour-at-reads.Learnt, mark-branches-below t, mark-branches.Post) (mark-row-at t) mark-row.Post
 mark-row-sub-mark-row-2 t c = search needs
 
-mark-row-mark-row-requires-2 : (t : ℕ) → mark-row-lts.Need-mark-row-requires-2 (mark-own-reads.Asked, mark-own-reads.Learnt, subs-of-reads.Asked, subs-of-reads.Learnt, mark-row-below t, mark-row.Post, behaviour-at-reads.Asked, behaviour-at-reads.Learnt, mark-branches-below t, mark-branches.Post) (mark-row-at t) mark-row.Post
+mark-row-mark-row-requires-2 : (t : ℕ) → mark-row-lts.Need-mark-row-requires-2 (behaviour-row-reads.Asked, behaviour-row-reads.Learnt, own-in-reads.Asked, own-in-reads.Learnt, mark-own-reads.Asked, mark-own-reads.Learnt, subs-in-reads.Asked, subs-in-reads.Learnt, mark-row-below t, mark-row.Post, behaviour-at-reads.Asked, behaviour-at-reads.Learnt, mark-branches-below t, mark-branches.Post) (mark-row-at t) mark-row.Post
 mark-row-mark-row-requires-2 t c κs = (omega arith, search needs)
 
-mark-row-sub-mark-row-3 : (t : ℕ) → mark-row-lts.Need-sub-mark-row-3 (mark-own-reads.Asked, mark-own-reads.Learnt, subs-of-reads.Asked, subs-of-reads.Learnt, mark-row-below t, mark-row.Post, behaviour-at-reads.Asked, behaviour-at-reads.Learnt, mark-branches-below t, mark-branches.Post) (mark-row-at t) mark-row.Post
+mark-row-sub-mark-row-3 : (t : ℕ) → mark-row-lts.Need-sub-mark-row-3 (behaviour-row-reads.Asked, behaviour-row-reads.Learnt, own-in-reads.Asked, own-in-reads.Learnt, mark-own-reads.Asked, mark-own-reads.Learnt, subs-in-reads.Asked, subs-in-reads.Learnt, mark-row-below t, mark-row.Post, behaviour-at-reads.Asked, behaviour-at-reads.Learnt, mark-branches-below t, mark-branches.Post) (mark-row-at t) mark-row.Post
 mark-row-sub-mark-row-3 t c = search needs
 
-mark-row-mark-row-requires-3 : (t : ℕ) → mark-row-lts.Need-mark-row-requires-3 (mark-own-reads.Asked, mark-own-reads.Learnt, subs-of-reads.Asked, subs-of-reads.Learnt, mark-row-below t, mark-row.Post, behaviour-at-reads.Asked, behaviour-at-reads.Learnt, mark-branches-below t, mark-branches.Post) (mark-row-at t) mark-row.Post
+mark-row-mark-row-requires-3 : (t : ℕ) → mark-row-lts.Need-mark-row-requires-3 (behaviour-row-reads.Asked, behaviour-row-reads.Learnt, own-in-reads.Asked, own-in-reads.Learnt, mark-own-reads.Asked, mark-own-reads.Learnt, subs-in-reads.Asked, subs-in-reads.Learnt, mark-row-below t, mark-row.Post, behaviour-at-reads.Asked, behaviour-at-reads.Learnt, mark-branches-below t, mark-branches.Post) (mark-row-at t) mark-row.Post
 mark-row-mark-row-requires-3 t c κs = (omega arith, search needs)
 
-mark-row-same-length-3 : (t : ℕ) → mark-row-lts.Need-same-length-3 (mark-own-reads.Asked, mark-own-reads.Learnt, subs-of-reads.Asked, subs-of-reads.Learnt, mark-row-below t, mark-row.Post, behaviour-at-reads.Asked, behaviour-at-reads.Learnt, mark-branches-below t, mark-branches.Post) (mark-row-at t) mark-row.Post
+mark-row-same-length-3 : (t : ℕ) → mark-row-lts.Need-same-length-3 (behaviour-row-reads.Asked, behaviour-row-reads.Learnt, own-in-reads.Asked, own-in-reads.Learnt, mark-own-reads.Asked, mark-own-reads.Learnt, subs-in-reads.Asked, subs-in-reads.Learnt, mark-row-below t, mark-row.Post, behaviour-at-reads.Asked, behaviour-at-reads.Learnt, mark-branches-below t, mark-branches.Post) (mark-row-at t) mark-row.Post
 mark-row-same-length-3 t c = search needs
 
-mark-row-returns-4 : (t : ℕ) → mark-row-lts.Need-returns-4 (mark-own-reads.Asked, mark-own-reads.Learnt, subs-of-reads.Asked, subs-of-reads.Learnt, mark-row-below t, mark-row.Post, behaviour-at-reads.Asked, behaviour-at-reads.Learnt, mark-branches-below t, mark-branches.Post) (mark-row-at t) mark-row.Post
+mark-row-returns-4 : (t : ℕ) → mark-row-lts.Need-returns-4 (behaviour-row-reads.Asked, behaviour-row-reads.Learnt, own-in-reads.Asked, own-in-reads.Learnt, mark-own-reads.Asked, mark-own-reads.Learnt, subs-in-reads.Asked, subs-in-reads.Learnt, mark-row-below t, mark-row.Post, behaviour-at-reads.Asked, behaviour-at-reads.Learnt, mark-branches-below t, mark-branches.Post) (mark-row-at t) mark-row.Post
 mark-row-returns-4 t c = search row-laws depth 12
 
-mark-row-enum-known-first : (t : ℕ) → mark-row-lts.Need-enum-known-first (mark-own-reads.Asked, mark-own-reads.Learnt, subs-of-reads.Asked, subs-of-reads.Learnt, mark-row-below t, mark-row.Post, behaviour-at-reads.Asked, behaviour-at-reads.Learnt, mark-branches-below t, mark-branches.Post) (mark-row-at t) mark-row.Post
+mark-row-enum-known-first : (t : ℕ) → mark-row-lts.Need-enum-known-first (behaviour-row-reads.Asked, behaviour-row-reads.Learnt, own-in-reads.Asked, own-in-reads.Learnt, mark-own-reads.Asked, mark-own-reads.Learnt, subs-in-reads.Asked, subs-in-reads.Learnt, mark-row-below t, mark-row.Post, behaviour-at-reads.Asked, behaviour-at-reads.Learnt, mark-branches-below t, mark-branches.Post) (mark-row-at t) mark-row.Post
 mark-row-enum-known-first t c = search needs
 
-mark-row-behaviour-at-requires : (t : ℕ) → mark-row-lts.Need-behaviour-at-requires (mark-own-reads.Asked, mark-own-reads.Learnt, subs-of-reads.Asked, subs-of-reads.Learnt, mark-row-below t, mark-row.Post, behaviour-at-reads.Asked, behaviour-at-reads.Learnt, mark-branches-below t, mark-branches.Post) (mark-row-at t) mark-row.Post
+mark-row-behaviour-at-requires : (t : ℕ) → mark-row-lts.Need-behaviour-at-requires (behaviour-row-reads.Asked, behaviour-row-reads.Learnt, own-in-reads.Asked, own-in-reads.Learnt, mark-own-reads.Asked, mark-own-reads.Learnt, subs-in-reads.Asked, subs-in-reads.Learnt, mark-row-below t, mark-row.Post, behaviour-at-reads.Asked, behaviour-at-reads.Learnt, mark-branches-below t, mark-branches.Post) (mark-row-at t) mark-row.Post
 mark-row-behaviour-at-requires t c κs = search needs
 
-mark-row-sub-mark-branches : (t : ℕ) → mark-row-lts.Need-sub-mark-branches (mark-own-reads.Asked, mark-own-reads.Learnt, subs-of-reads.Asked, subs-of-reads.Learnt, mark-row-below t, mark-row.Post, behaviour-at-reads.Asked, behaviour-at-reads.Learnt, mark-branches-below t, mark-branches.Post) (mark-row-at t) mark-row.Post
+mark-row-sub-mark-branches : (t : ℕ) → mark-row-lts.Need-sub-mark-branches (behaviour-row-reads.Asked, behaviour-row-reads.Learnt, own-in-reads.Asked, own-in-reads.Learnt, mark-own-reads.Asked, mark-own-reads.Learnt, subs-in-reads.Asked, subs-in-reads.Learnt, mark-row-below t, mark-row.Post, behaviour-at-reads.Asked, behaviour-at-reads.Learnt, mark-branches-below t, mark-branches.Post) (mark-row-at t) mark-row.Post
 mark-row-sub-mark-branches t c = search needs
 
-mark-row-mark-branches-requires : (t : ℕ) → mark-row-lts.Need-mark-branches-requires (mark-own-reads.Asked, mark-own-reads.Learnt, subs-of-reads.Asked, subs-of-reads.Learnt, mark-row-below t, mark-row.Post, behaviour-at-reads.Asked, behaviour-at-reads.Learnt, mark-branches-below t, mark-branches.Post) (mark-row-at t) mark-row.Post
+mark-row-mark-branches-requires : (t : ℕ) → mark-row-lts.Need-mark-branches-requires (behaviour-row-reads.Asked, behaviour-row-reads.Learnt, own-in-reads.Asked, own-in-reads.Learnt, mark-own-reads.Asked, mark-own-reads.Learnt, subs-in-reads.Asked, subs-in-reads.Learnt, mark-row-below t, mark-row.Post, behaviour-at-reads.Asked, behaviour-at-reads.Learnt, mark-branches-below t, mark-branches.Post) (mark-row-at t) mark-row.Post
 mark-row-mark-branches-requires t c κs = (omega arith, search needs)
 
-mark-row-same-length-4 : (t : ℕ) → mark-row-lts.Need-same-length-4 (mark-own-reads.Asked, mark-own-reads.Learnt, subs-of-reads.Asked, subs-of-reads.Learnt, mark-row-below t, mark-row.Post, behaviour-at-reads.Asked, behaviour-at-reads.Learnt, mark-branches-below t, mark-branches.Post) (mark-row-at t) mark-row.Post
+mark-row-same-length-4 : (t : ℕ) → mark-row-lts.Need-same-length-4 (behaviour-row-reads.Asked, behaviour-row-reads.Learnt, own-in-reads.Asked, own-in-reads.Learnt, mark-own-reads.Asked, mark-own-reads.Learnt, subs-in-reads.Asked, subs-in-reads.Learnt, mark-row-below t, mark-row.Post, behaviour-at-reads.Asked, behaviour-at-reads.Learnt, mark-branches-below t, mark-branches.Post) (mark-row-at t) mark-row.Post
 mark-row-same-length-4 t c = search needs
 
-mark-row-returns-5 : (t : ℕ) → mark-row-lts.Need-returns-5 (mark-own-reads.Asked, mark-own-reads.Learnt, subs-of-reads.Asked, subs-of-reads.Learnt, mark-row-below t, mark-row.Post, behaviour-at-reads.Asked, behaviour-at-reads.Learnt, mark-branches-below t, mark-branches.Post) (mark-row-at t) mark-row.Post
+mark-row-returns-5 : (t : ℕ) → mark-row-lts.Need-returns-5 (behaviour-row-reads.Asked, behaviour-row-reads.Learnt, own-in-reads.Asked, own-in-reads.Learnt, mark-own-reads.Asked, mark-own-reads.Learnt, subs-in-reads.Asked, subs-in-reads.Learnt, mark-row-below t, mark-row.Post, behaviour-at-reads.Asked, behaviour-at-reads.Learnt, mark-branches-below t, mark-branches.Post) (mark-row-at t) mark-row.Post
 mark-row-returns-5 t c = search row-laws depth 12
 
 pub +mark-branches+mark-row-spec : {M : Type 1} → statement M
@@ -168,10 +176,14 @@ pub +mark-branches+mark-row-spec : {M : Type 1} → statement M
     (mark-branches-same-length t)
     (mark-branches-returns-2 t))
     λ t. mark-row-lts.spec (
+      behaviour-row-reads.Asked,
+      behaviour-row-reads.Learnt,
+      own-in-reads.Asked,
+      own-in-reads.Learnt,
       mark-own-reads.Asked,
       mark-own-reads.Learnt,
-      subs-of-reads.Asked,
-      subs-of-reads.Learnt,
+      subs-in-reads.Asked,
+      subs-in-reads.Learnt,
       mark-row-below t,
       mark-row.Post,
       behaviour-at-reads.Asked,
@@ -182,8 +194,10 @@ pub +mark-branches+mark-row-spec : {M : Type 1} → statement M
     (mark-row-at t)
     mark-row.Post
     (mark-row-returns t)
+    (mark-row-behaviour-row-requires t)
+    (mark-row-own-in-requires t)
     (mark-row-mark-own-requires t)
-    (mark-row-subs-of-requires t)
+    (mark-row-subs-in-requires t)
     (mark-row-enum-told t)
     (mark-row-same-length t)
     (mark-row-returns-2 t)
