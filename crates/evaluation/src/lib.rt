@@ -30,7 +30,7 @@ pub enum Source {
     Stuck,
 }
 
-// What evaluation answers. The root value stands beside its source; where it is stuck it is void.
+// What evaluation answers: the source, and the root value beside it, which says nothing where the source is stuck.
 pub struct Evaluated {
     pub source: Source,
     pub root: Operand,
