@@ -74,7 +74,7 @@ module _ (file s : List ℕ) (q n : ℕ) where
         tells = λ w G st.
             let at = 4096 * (4 * q + n) in
             let g : G q n ≡ live (readSession s at) = slot-is G st ∙ ap (λ (t : Bool). pick t free (live (readSession s at)))
-                (ne-eqb (byteAt s at) 0 (λ k. z (v ∙ (ap (byteAt s) place ∙ k)))) in
+            (ne-eqb (byteAt s at) 0 (λ k. z (v ∙ (ap (byteAt s) place ∙ k)))) in
             subst (λ (p : ℕ). InSession file s G q n p b) (sym place) (record {
               session = readSession s at;
               service = omega (arith, l);

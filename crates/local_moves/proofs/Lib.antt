@@ -1,0 +1,4 @@
+mod ReachedLaws
+mod MarkLaws
+mod RowLaws
+mod ValueLaws

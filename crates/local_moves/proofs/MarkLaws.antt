@@ -1,0 +1,90 @@
+-- Ready rows: a row's progress, at each of the ways out of the code.
+use mathlib.Core.Path.{_≡_, refl, sym, ap, _∙_}
+use mathlib.Core.Bool.{Bool, true, false, not}
+use Prim.Native.Nat.{ℕ}
+use native.Mathlib.Omega.{arith}
+use Rattle.refusal.specs.declared.Refusal.the-variants.{MoveNotAllowed}
+use Rattle.state.specs.Session.{Progress, undone, done, waits, received, taken}
+use Rattle.state.specs.Shape.{isUndone}
+use Rattle.progress.specs.declared.Progress as coded
+use Rattle.progress.specs.declared.Progress.the-variants.{Undone, Done, Waits, Taken, FromOutsider, FromRow, FromNobody}
+use Rattle.progress.specs.Meaning.{meaning}
+use Rattle.moves.specs.Moves.{Result, require, ifUndone, ifReadyWhile}
+use Rattle.local_moves.specs.Local.{readyWhile}
+
+module _ (y : coded.Progress) (q : Progress) (e : meaning y ≡ q) where
+  pub undone-undone : y ≡ Undone → true ≡ isUndone q
+  undone-undone h = rw (sym e ∙ ap meaning h) refl
+
+  pub undone-done : y ≡ Done → false ≡ isUndone q
+  undone-done h = rw (sym e ∙ ap meaning h) refl
+
+  pub undone-waits : y ≡ Waits → false ≡ isUndone q
+  undone-waits h = rw (sym e ∙ ap meaning h) refl
+
+  pub undone-taken : {k : ℕ} → y ≡ Taken k → false ≡ isUndone q
+  undone-taken h = rw (sym e ∙ ap meaning h) refl
+
+  pub undone-outsider : {v : ℕ} → y ≡ FromOutsider v → false ≡ isUndone q
+  undone-outsider h = rw (sym e ∙ ap meaning h) refl
+
+  pub undone-row : {a b c : ℕ} → y ≡ FromRow a b c → false ≡ isUndone q
+  undone-row h = rw (sym e ∙ ap meaning h) refl
+
+  pub undone-nobody : y ≡ FromNobody → false ≡ isUndone q
+  undone-nobody h = rw (sym e ∙ ap meaning h) refl
+
+  module _ (d : Bool) where
+    pub ready-undone : y ≡ Undone → true ≡ readyWhile q d
+    ready-undone h = rw (sym e ∙ ap meaning h) refl
+
+    pub ready-done : y ≡ Done → false ≡ readyWhile q d
+    ready-done h = rw (sym e ∙ ap meaning h) refl
+
+    pub ready-waits : y ≡ Waits → false ≡ readyWhile q d
+    ready-waits h = rw (sym e ∙ ap meaning h) refl
+
+    pub ready-taken : {k : ℕ} {x : Bool} → y ≡ Taken k → x ≡ d → x ≡ readyWhile q d
+    ready-taken h g = rw (sym e ∙ ap meaning h) g
+
+    pub ready-outsider : {v : ℕ} → y ≡ FromOutsider v → false ≡ readyWhile q d
+    ready-outsider h = rw (sym e ∙ ap meaning h) refl
+
+    pub ready-row : {a b c : ℕ} → y ≡ FromRow a b c → false ≡ readyWhile q d
+    ready-row h = rw (sym e ∙ ap meaning h) refl
+
+    pub ready-nobody : y ≡ FromNobody → false ≡ readyWhile q d
+    ready-nobody h = rw (sym e ∙ ap meaning h) refl
+
+pub ruleset undone-laws = (undone-undone, undone-done, undone-waits, undone-taken, undone-outsider, undone-row, undone-nobody)
+
+pub ruleset ready-laws = (ready-undone, ready-done, ready-waits, ready-taken, ready-outsider, ready-row, ready-nobody)
+
+-- The definition's tests, as tests.
+pub if-undone : (p : Progress) (x : Result) → ifUndone p x ≡ require (isUndone p) MoveNotAllowed x
+if-undone undone x = refl
+if-undone done x = refl
+if-undone waits x = refl
+if-undone (received to) x = refl
+if-undone (taken k) x = refl
+
+pub if-ready-while : (p : Progress) (d : Bool) (x : Result) → ifReadyWhile p d x ≡ require (readyWhile p d) MoveNotAllowed x
+if-ready-while undone d x = refl
+if-ready-while done d x = refl
+if-ready-while waits d x = refl
+if-ready-while (received to) d x = refl
+if-ready-while (taken k) d x = refl
+
+pub held : {b c : Bool} → b ≡ c → not b ≡ false → c ≡ true
+held {b} {c} e f = sym e ∙ by b f
+  where
+    by : (b : Bool) → not b ≡ false → b ≡ true
+    by true f = refl
+    by false f = absurd (let z : _≡_ {A = ℕ} 0 1 = cc in omega arith)
+
+pub failed : {b c : Bool} → b ≡ c → not b ≡ true → c ≡ false
+failed {b} {c} e f = sym e ∙ by b f
+  where
+    by : (b : Bool) → not b ≡ true → b ≡ false
+    by true f = absurd (let z : _≡_ {A = ℕ} 0 1 = cc in omega arith)
+    by false f = refl

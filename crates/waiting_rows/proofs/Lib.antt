@@ -1,0 +1,2 @@
+mod WaitLaws
+mod ReplyLaws

@@ -1,0 +1,228 @@
+-- Rows that wait, at each of the ways out of the code.
+use mathlib.Core.Path.{_≡_, refl, sym, ap, _∙_}
+use mathlib.Core.Bool.{Bool, true, false, not, _&&_}
+use mathlib.Core.List.{List, [], _∷_}
+use Prim.Native.Nat.{ℕ, _<_, _≤_}
+use native.Mathlib.Omega.{arith}
+use types.Run.{OneOf, miss}
+use denote.Enum.Declared.{tagOf}
+use lib.Dec.{eqb}
+use lib.ListN.{getD}
+use Rattle.forest.specs.Compare.{T-of}
+use Rattle.forest.specs.Path.{Path}
+use Rattle.refusal.specs.declared.Refusal.the-variants.{MoveNotAllowed}
+use Rattle.syntax.specs.Syntax.{Operation, output, Optional, some, Behaviour}
+use Rattle.syntax.specs.Rows.{hasRow, atRow}
+use Rattle.typing.specs.Rules.{sameBool, sameDirection, permits}
+use Rattle.network.specs.declared.BehaviourKind.{BehaviourKind}
+use Rattle.network.specs.Form.{WellFormed}
+use Rattle.network.specs.Layout.{behaviourCount}
+use Rattle.network.specs.Rows.{kindAt}
+use Rattle.network.specs.RowLaws.{counts-kept}
+use Rattle.network.specs.OnceLaws.{rows-of}
+use Rattle.network.specs.Decode.{pathOf, operationOf, behaviourOf}
+use Rattle.rows.specs.declared.BehaviourRow.{BehaviourRow}
+use Rattle.rows.proofs.BehaviourRow as rows
+use Rattle.rows.specs.Readers.{behaviourRowAs, behaviourRowOf}
+use Rattle.operations.specs.Directions.{directionOf}
+use Rattle.behaviours.specs.Rows.{behaviourBy}
+use Rattle.behaviours.specs.KindLaws.{row-is}
+use Rattle.state_rows.specs.Marks.{markFor, RowsOf}
+use Rattle.state.specs.Session.{Progress, Session}
+use Rattle.state.specs.Bytes.{readSession}
+use Rattle.progress.specs.declared.Progress as coded
+use Rattle.progress.specs.Meaning.{meaning}
+use Rattle.progress.proofs.Progress as progress
+use Rattle.moves.specs.Moves.{Result, notAllowed, require, ifWaiting, onWaitingRow}
+use Rattle.waiting_rows.specs.declared.Waiting.{Waiting}
+use Rattle.waiting_rows.specs.Waiting.{HasRow, WaitsAt}
+use Rattle.waiting_rows.specs.PartLaws.{at-each-row, row-absent, row-present}
+
+apart : {A : Type 0} → false ≡ true → A
+apart e = absurd (let z : _≡_ {A = ℕ} 0 1 = cc in omega arith)
+
+not-true : (t : Bool) → not t ≡ true → t ≡ false
+not-true true e = apart e
+not-true false e = refl
+
+not-false : (t : Bool) → not t ≡ false → t ≡ true
+not-false true e = refl
+not-false false e = apart (sym e)
+
+-- ---- `has_row`
+
+module _ (file : List ℕ) (b r : ℕ) where
+  pub far-row : 255 < r → HasRow file b r false
+  far-row l = record { tells = λ w k. by (hasRow r (behaviourOf file b)) refl w k; small = λ e. apart e }
+    where
+      by : (t : Bool) → hasRow r (behaviourOf file b) ≡ t → WellFormed file → b < behaviourCount file → false ≡ t
+      by true e w k = absurd (omega (arith, l, rows-of file w b r k (T-of e) .1, counts-kept file w .behaviours))
+      by false e w k = refl
+
+  pub near-row : (marks : List ℕ) (i : ℕ) → r ≤ 255 → RowsOf file b marks → i ≡ r → HasRow file b r (not (eqb (getD marks i 0) 0))
+  near-row marks i l m e = record {
+    tells = λ w k.
+        ap (λ (j : ℕ). not (eqb (getD marks j 0) 0)) e
+        ∙ (ap (λ (y : ℕ). not (eqb y 0)) (m .rows r (omega (arith, l))) ∙ by (hasRow r (behaviourOf file b)));
+    small = λ _. omega (arith, l);
+  }
+    where
+      by : (t : Bool) → not (eqb (markFor t) 0) ≡ t
+      by true = refl
+      by false = refl
+
+pub ruleset row-laws = (far-row, near-row)
+
+-- ---- what a row asks
+
+-- `onWaitingRow` of row r, by the row that a reader gives.
+abbrev asks : List ℕ → ℕ → Session → ℕ → BehaviourRow → (Operation → Path → Result) → Result
+asks file q S r BehaviourRow.Nil f = notAllowed
+asks file q S r (BehaviourRow.OneWay o x) f = notAllowed
+asks file q S r (BehaviourRow.RequestResponse o x c d) f = notAllowed
+asks file q S r (BehaviourRow.Notification o e) f = notAllowed
+asks file q S r (BehaviourRow.SolicitResponse o e x) f =
+    ifWaiting (S .progress r) (require (permits q output true (operationOf file o)) MoveNotAllowed (f (operationOf file o) (pathOf file x)))
+asks file q S r (BehaviourRow.If e a b) f = notAllowed
+asks file q S r (BehaviourRow.While e b) f = notAllowed
+asks file q S r (BehaviourRow.Sequence a b) f = notAllowed
+asks file q S r (BehaviourRow.Parallel a b) f = notAllowed
+asks file q S r (BehaviourRow.Assign x e) f = notAllowed
+asks file q S r (BehaviourRow.Choice a n) f = notAllowed
+asks file q S r (BehaviourRow.Branch a b) f = notAllowed
+asks file q S r BehaviourRow.Unknown f = notAllowed
+
+module _ (file : List ℕ) (q : ℕ) (S : Session) (f : Operation → Path → Result) where
+  asks-by : (r : ℕ) (x : BehaviourRow) → onWaitingRow q S (some (behaviourBy file r x)) f ≡ asks file q S r x f
+  asks-by r BehaviourRow.Nil = refl
+  asks-by r (BehaviourRow.OneWay o x) = refl
+  asks-by r (BehaviourRow.RequestResponse o x c d) = refl
+  asks-by r (BehaviourRow.Notification o e) = refl
+  asks-by r (BehaviourRow.SolicitResponse o e x) = refl
+  asks-by r (BehaviourRow.If e a b) = refl
+  asks-by r (BehaviourRow.While e b) = refl
+  asks-by r (BehaviourRow.Sequence a b) = refl
+  asks-by r (BehaviourRow.Parallel a b) = refl
+  asks-by r (BehaviourRow.Assign x e) = refl
+  asks-by r (BehaviourRow.Choice a n) = refl
+  asks-by r (BehaviourRow.Branch a b) = refl
+  asks-by r BehaviourRow.Unknown = refl
+
+  asks-own : WellFormed file → (r : ℕ) → r < behaviourCount file → onWaitingRow q S (some (behaviourOf file r)) f ≡ asks file q S r (behaviourRowOf file r) f
+  asks-own w r l =
+      let k = row-is file w r (behaviourCount file) (record { exists = l; enough = omega arith }) refl refl in
+      ap (λ (b : Behaviour). onWaitingRow q S (some b) f) (k .0) ∙ asks-by r (behaviourRowOf file r)
+
+  asks-branch : (r : ℕ) → kindAt file r ≡ BehaviourKind.Branch → notAllowed ≡ asks file q S r (behaviourRowOf file r) f
+  unfolding behaviourRowOf behaviourRowAs
+  asks-branch r e = rw e refl
+
+  row-asks : WellFormed file → (b r : ℕ) → b < behaviourCount file → hasRow r (behaviourOf file b) ≡ true
+      → onWaitingRow q S (atRow r (behaviourOf file b)) f ≡ asks file q S r (behaviourRowOf file r) f
+  row-asks w b r l h =
+      let p = row-present r (behaviourOf file b) h in
+      ap (λ (x : Optional Behaviour). onWaitingRow q S x f) (p .1)
+      ∙ at-each-row file w (λ i c. onWaitingRow q S (some c) f ≡ asks file q S i (behaviourRowOf file i) f) (asks-own w)
+      (λ i e c d m. asks-branch i e) (λ i e c d. asks-branch i e) b r l (p .0) (p .1)
+
+-- ---- `waiting_at`
+
+and-of : (a b : Bool) → (a && b) ≡ true → b ≡ true
+and-of true b e = e
+and-of false b e = apart e
+
+same-true : (b : Bool) → sameBool b true ≡ true → b ≡ true
+same-true true e = refl
+same-true false e = e
+
+two-way : (q : ℕ) (o : Operation) → permits q output true o ≡ true → o .twoWay ≡ true
+unfolding permits
+two-way q o e = same-true (o .twoWay) (and-of (sameDirection (o .direction) output) (sameBool (o .twoWay) true) (and-of (eqb (o .service) q) _ e))
+
+nowhere : {o p : ℕ} {A : Type 0} → Waiting.NotAllowed ≡ Waiting.Row o p → A
+nowhere e = absurd (let z : _≡_ {A = ℕ} 0 1 = cc in omega arith)
+
+module _ (file s : List ℕ) (slot b q r : ℕ) {t : Bool} (h : HasRow file b r t) where
+  abbrev S : Session
+  S = readSession s slot
+
+  pub no-row : not t ≡ true → WaitsAt file s slot b q r Waiting.NotAllowed
+  no-row y = record {
+    tells = λ w l f.
+        sym (ap (λ (x : Optional Behaviour). onWaitingRow q S x f) (row-absent r (behaviourOf file b) (sym (h .tells w l) ∙ not-true t y)));
+    exists = λ w l. tt;
+    small = λ o p e. nowhere e;
+  }
+
+  module _ (y : not t ≡ false) {row : BehaviourRow} (e : row ≡ behaviourRowOf file r) where
+    runs : WellFormed file → b < behaviourCount file → hasRow r (behaviourOf file b) ≡ true
+    runs w l = sym (h .tells w l) ∙ not-false t y
+
+    not-allowed : ((f : Operation → Path → Result) → asks file q S r row f ≡ notAllowed) → WaitsAt file s slot b q r Waiting.NotAllowed
+    not-allowed g = record {
+      tells = λ w l f. sym (row-asks file q S f w b r l (runs w l) ∙ (ap (λ (x : BehaviourRow). asks file q S r x f) (sym e) ∙ g f));
+      exists = λ w l. tt;
+      small = λ o p e. nowhere e;
+    }
+
+    pub no-solicit : OneOf (0 ∷ 1 ∷ 2 ∷ 3 ∷ 5 ∷ 6 ∷ 7 ∷ 8 ∷ 9 ∷ 10 ∷ 11 ∷ 12 ∷ []) (tagOf rows.the-type row) → WaitsAt file s slot b q r Waiting.NotAllowed
+    no-solicit k = not-allowed (λ f. other row f k)
+      where
+        other : (x : BehaviourRow) (f : Operation → Path → Result)
+            → OneOf (0 ∷ 1 ∷ 2 ∷ 3 ∷ 5 ∷ 6 ∷ 7 ∷ 8 ∷ 9 ∷ 10 ∷ 11 ∷ 12 ∷ []) (tagOf rows.the-type x) → asks file q S r x f ≡ notAllowed
+        other BehaviourRow.Nil f k = refl
+        other (BehaviourRow.OneWay o x) f k = refl
+        other (BehaviourRow.RequestResponse o x c d) f k = refl
+        other (BehaviourRow.Notification o e) f k = refl
+        other (BehaviourRow.SolicitResponse o e x) f k = absurd (miss (0 ∷ 1 ∷ 2 ∷ 3 ∷ 5 ∷ 6 ∷ 7 ∷ 8 ∷ 9 ∷ 10 ∷ 11 ∷ 12 ∷ []) 4 tt k)
+        other (BehaviourRow.If e a b) f k = refl
+        other (BehaviourRow.While e b) f k = refl
+        other (BehaviourRow.Sequence a b) f k = refl
+        other (BehaviourRow.Parallel a b) f k = refl
+        other (BehaviourRow.Assign x e) f k = refl
+        other (BehaviourRow.Choice a n) f k = refl
+        other (BehaviourRow.Branch a b) f k = refl
+        other BehaviourRow.Unknown f k = refl
+
+    module _ {o d x : ℕ} (g : row ≡ BehaviourRow.SolicitResponse o d x) (p : coded.Progress) (m : meaning p ≡ S .progress r) where
+      abbrev Next : (Operation → Path → Result) → Result
+      Next f = require (permits q output true (operationOf file o)) MoveNotAllowed (f (operationOf file o) (pathOf file x))
+
+      solicits : (f : Operation → Path → Result) → asks file q S r row f ≡ ifWaiting (meaning p) (Next f)
+      solicits f = ap (λ (z : BehaviourRow). asks file q S r z f) g ∙ ap (λ (z : Progress). ifWaiting z (Next f)) (sym m)
+
+      pub no-waits : OneOf (0 ∷ 1 ∷ 3 ∷ 4 ∷ 5 ∷ 6 ∷ []) (tagOf progress.the-type p) → WaitsAt file s slot b q r Waiting.NotAllowed
+      no-waits k = not-allowed (λ f. solicits f ∙ other p (Next f) k)
+        where
+          other : (p : coded.Progress) (z : Result) → OneOf (0 ∷ 1 ∷ 3 ∷ 4 ∷ 5 ∷ 6 ∷ []) (tagOf progress.the-type p) → ifWaiting (meaning p) z ≡ notAllowed
+          other coded.Progress.Undone z k = refl
+          other coded.Progress.Done z k = refl
+          other coded.Progress.Waits z k = absurd (miss (0 ∷ 1 ∷ 3 ∷ 4 ∷ 5 ∷ 6 ∷ []) 2 tt k)
+          other (coded.Progress.Taken n) z k = refl
+          other (coded.Progress.FromOutsider v) z k = refl
+          other (coded.Progress.FromRow a b c) z k = refl
+          other coded.Progress.FromNobody z k = refl
+
+      module _ (k : p ≡ coded.Progress.Waits) {v : Bool} (z : v ≡ permits q (directionOf false) true (operationOf file o)) where
+        waiting : (f : Operation → Path → Result) → asks file q S r row f ≡ require v MoveNotAllowed (f (operationOf file o) (pathOf file x))
+        waiting f =
+            solicits f ∙ (ap (λ (c : coded.Progress). ifWaiting (meaning c) (Next f)) k
+            ∙ ap (λ (c : Bool). require c MoveNotAllowed (f (operationOf file o) (pathOf file x))) (sym z))
+
+        pub not-permitted : not v ≡ true → WaitsAt file s slot b q r Waiting.NotAllowed
+        not-permitted n =
+            not-allowed (λ f. waiting f ∙ ap (λ (c : Bool). require c MoveNotAllowed (f (operationOf file o) (pathOf file x))) (not-true v n))
+
+        pub row-waits : not v ≡ false → WaitsAt file s slot b q r (Waiting.Row o x)
+        row-waits n = record {
+          tells = λ w l f.
+              sym (row-asks file q S f w b r l (runs w l) ∙ (ap (λ (c : BehaviourRow). asks file q S r c f) (sym e)
+              ∙ (waiting f ∙ ap (λ (c : Bool). require c MoveNotAllowed (f (operationOf file o) (pathOf file x))) (not-false v n))));
+          exists = λ w l.
+              let i = rows-of file w b r l (T-of (runs w l)) .1 in
+              let kept = row-is file w r (behaviourCount file) (record { exists = i; enough = omega arith }) e g .1 in
+              (kept .0, kept .2, two-way q (operationOf file o) (sym z ∙ not-false v n));
+          small = λ a c u. h .small (not-false t y);
+        }
+
+pub ruleset wait-laws = (no-row, no-solicit, no-waits, not-permitted, row-waits)

@@ -1,0 +1,4 @@
+pub mod Waiting
+pub mod PartLaws
+pub mod PathLaws
+pub mod WaitingLaws

@@ -1,0 +1,63 @@
+-- What the functions tell of a row that waits for its reply, and of a reply taken: `onWaitingRow` and `takeReply` of moves/Moves, for files
+-- that none of 2 to 5 refuses.
+use mathlib.Core.Path.{_≡_}
+use mathlib.Core.Bool.{Bool, true}
+use mathlib.Core.List.{List}
+use Prim.Native.Nat.{ℕ, _<_}
+use Rattle.forest.specs.Forest.{Forest, Tree}
+use Rattle.forest.specs.Path.{Path}
+use Rattle.scalar.specs.Value.{Value}
+use Rattle.tree.specs.Encode.{Message}
+use Rattle.refusal.specs.declared.Outcome.{Outcome}
+use Rattle.wire.specs.Wire.{withPart}
+use Rattle.syntax.specs.Syntax.{Operation}
+use Rattle.syntax.specs.Rows.{hasRow, atRow}
+use Rattle.network.specs.Form.{WellFormed}
+use Rattle.network.specs.Layout.{pathCount, behaviourCount, operationCount}
+use Rattle.network.specs.Decode.{pathOf, operationOf, behaviourOf}
+use Rattle.state.specs.Session.{done, advance, Session, live, State}
+use Rattle.state.specs.Bytes.{slotBytes, readSession}
+use Rattle.state.specs.Shape.{WellMade}
+use Rattle.moves.specs.Moves.{Result, notAllowed, withTree, onWaitingRow, takeReply}
+use Rattle.moves.specs.Step.{Step, finish}
+use Rattle.slots.specs.SlotLaws.{Living}
+use Rattle.session_trees.specs.Changing.{KeptTree}
+use Rattle.moving.specs.Made.{StateOf, InSession}
+use Rattle.waiting_rows.specs.declared.Waiting.{Waiting}
+
+-- x tells whether row r is one of the behaviour of B row b.
+pub record HasRow (file : List ℕ) (b r : ℕ) (x : Bool) : Type 0 where
+  pub tells : WellFormed file → b < behaviourCount file → x ≡ hasRow r (behaviourOf file b)
+  pub small : x ≡ true → r < 256
+
+-- What goes on with the row's operation and path, or 15.
+abbrev pub waitingAs : List ℕ → Waiting → (Operation → Path → Result) → Result
+waitingAs file Waiting.NotAllowed f = notAllowed
+waitingAs file (Waiting.Row o x) f = f (operationOf file o) (pathOf file x)
+
+-- They are rows of the file, and the operation has a reply type.
+abbrev pub RowsExist : List ℕ → Waiting → Type 0
+RowsExist file Waiting.NotAllowed = Unit {0}
+RowsExist file (Waiting.Row o x) = (o < operationCount file) × (x < pathCount file) × (operationOf file o .twoWay ≡ true)
+
+-- Row r of the session of service q in the slot, which runs B row b.
+pub record WaitsAt (file s : List ℕ) (slot b q r : ℕ) (x : Waiting) : Type 0 where
+  pub tells : WellFormed file → b < behaviourCount file → (f : Operation → Path → Result)
+      → waitingAs file x f ≡ onWaitingRow q (readSession s slot) (atRow r (behaviourOf file b)) f
+  pub exists : WellFormed file → b < behaviourCount file → RowsExist file x
+  pub small : (o p : ℕ) → x ≡ Waiting.Row o p → r < 256
+
+-- The session with the tree F and its row r done.
+abbrev pub replied : Session → ℕ → Forest Value → Session
+replied S r F = withTree S F (advance (S .progress) r done)
+
+-- That session, whose tree stands in the first n bytes of t, is in the slot.
+pub record PutsReply (s : List ℕ) (slot r : ℕ) (t : List ℕ) (n : ℕ) (s′ : List ℕ) : Type 0 where
+  pub tells : (S : Session) (F : Forest Value) → Living s slot S → KeptTree t n F
+      → (s′ ≡ withPart s slot (slotBytes (live (replied S r F)))) × WellMade (replied S r F)
+
+-- The waiting row r of a live session takes the message of m as its reply.
+pub record TakesReply (file s : List ℕ) (slot r path : ℕ) (m s′ : List ℕ) (o : Outcome) : Type 0 where
+  pub tells : WellFormed file → path < pathCount file → (G : State) → StateOf file s G → (q n b : ℕ) → InSession file s G q n slot b
+      → (t : Tree Value) → Message m t → (out : List ℕ)
+      → _≡_ {A = Step} (record { outcome = o; state = s′; out = out }) (finish s out (takeReply G q n r (pathOf file path) t))

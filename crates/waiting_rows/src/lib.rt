@@ -1,0 +1,82 @@
+// Rows that wait for their replies. 01, Moves: "A solicit-response then waits"; a reply goes to "its waiting row", where it "replaces the
+// subtree", and an outer reply is "bytes for a row waiting on an outside location".
+ghost use Prim.Native.Nat.{_+_, _≤_, _<_};
+ghost use lib.ListN.{length};
+ghost use Rattle.waiting_rows.specs.Waiting.{HasRow, WaitsAt, PutsReply, TakesReply};
+use progress::Progress;
+use refusal::Outcome;
+use refusal::Refusal;
+use rows::BehaviourRow;
+use session_trees::Change;
+
+// The O row and the P row of a row that waits for its reply; or 15.
+pub enum Waiting {
+    NotAllowed,
+    Row(u16, u16),
+}
+
+// Is row r one of the behaviour of B row b?
+pub fn has_row(file: &[u8], b: u16, r: u16) -> bool
+    ensures { λ x. ⌜ HasRow (now (file .entry)) b r x ⌝ }
+{
+    if 255 < r {
+        return false;
+    }
+    let marks = state_rows::rows_of(file, b);
+    let k = wire::index(r);
+    marks[k] != 0
+}
+
+// Does row r of the session of service q in the slot, which runs B row b, wait for its reply?
+pub fn waiting_at(file: &[u8], state: &[u8], slot: usize, b: u16, q: u16, r: u16) -> Waiting
+    requires { ⌜ slot < 65536 ⌝ }
+    ensures { λ x. ⌜ WaitsAt (now (file .entry)) (now (state .entry)) slot b q r x ⌝ }
+{
+    if !has_row(file, b, r) {
+        return Waiting::NotAllowed;
+    }
+    let BehaviourRow::SolicitResponse(o, _, x) = rows::behaviour_row(file, r) else {
+        return Waiting::NotAllowed;
+    };
+    let Progress::Waits = progress::row_progress(state, slot, r) else {
+        return Waiting::NotAllowed;
+    };
+    if !operations::permits(file, q, false, true, o) {
+        return Waiting::NotAllowed;
+    }
+    Waiting::Row(o, x)
+}
+
+// Stores the first n bytes of `tree` as the session's tree, and its row r as done.
+pub fn put_reply(state: &mut [u8], slot: usize, r: u16, tree: &[u8], n: u16)
+    requires { ⌜ (slot + 4096 ≤ length (now state)) × (r < 256) × (n ≤ 1024) × (n ≤ length (now tree)) ⌝ }
+    ensures { λ _. ⌜ PutsReply (now (state .entry)) slot r (now (tree .entry)) n (now (state .exit)) ⌝ }
+{
+    slots::put_tree(state, slot, tree, n);
+    progress::put_row(state, slot, r, Progress::Done);
+}
+
+// The waiting row r of the session in the slot takes the message as its reply, at the path of P row `path`; 18 where the tree would pass its
+// limits.
+pub fn take_reply(
+    file: &[u8],
+    state: &mut [u8],
+    slot: usize,
+    r: u16,
+    path: u16,
+    message: &[u8],
+) -> Outcome
+    requires { ⌜ (slot + 4096 ≤ length (now state)) × (r < 256) ⌝ }
+    ensures { λ o. ⌜ TakesReply (now (file .entry)) (now (state .entry)) slot r path (now (message .entry)) (now (state .exit)) o ⌝ }
+{
+    let mut tree = [0u8; 2304];
+    let ids = rows::path_row(file, path);
+    let Change::Kept(n) = session_trees::replace(&mut tree, state, slot, ids, message) else {
+        return refusal::refused(Refusal::Stuck);
+    };
+    if 1024 < n {
+        return refusal::refused(Refusal::Stuck);
+    }
+    put_reply(state, slot, r, &tree, n);
+    refusal::done(0)
+}
