@@ -7,13 +7,12 @@ use Rattle.refusal.specs.declared.Outcome.{Outcome}
 use Rattle.refusal.specs.declared.Refusal.the-variants.{MoveNotAllowed}
 use Rattle.refusal.specs.Refusal.{doneWith, refusedBy}
 use Rattle.wire.specs.Wire.{withPart}
-use Rattle.syntax.specs.Syntax.{Network}
 use Rattle.network.specs.Form.{WellFormed}
 use Rattle.network.specs.Decode.{behaviourOf, networkOf}
-use Rattle.state.specs.Session.{Session, Slot, free, live, State, setSlot}
+use Rattle.state.specs.Session.{Session, free, State, setSlot}
 use Rattle.state.specs.Bytes.{zeros, readSession, slotBytes}
 use Rattle.moves.specs.Readiness.{isDone}
-use Rattle.moves.specs.Moves.{Result, refused, moved, notAllowed, require, closeMove}
+use Rattle.moves.specs.Moves.{Result, moved, require, closeMove}
 use Rattle.moving.specs.declared.Running.{Running}
 use Rattle.moving.specs.Made.{StateOf, Made, InSession, Runs, RunsAt}
 use Rattle.moving.specs.MadeLaws.{made-refused, made-slot, in-session}

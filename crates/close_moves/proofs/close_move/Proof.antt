@@ -27,7 +27,10 @@ same-length : tie.Need-same-length
 same-length c = search needs
 
 returns : tie.Need-returns
-returns c = close-nothing (c .before .before .before .before .before .before .before .args .file .now) (c .before .before .before .before .before .before .before .args .state .now) (c .before .before .before .before .before .before .before .args .q) (c .before .before .before .before .before .before .before .args .n) (c .before .before .before .session-at .ensures) (search needs) (c .refused .ensures)
+returns c =
+    close-nothing (c .before .before .before .before .before .before .before .args .file .now) (c .before .before .before .before .before .before
+    .before .args .state .now) (c .before .before .before .before .before .before .before .args .q) (c .before .before .before .before .before .before
+    .before .args .n) (c .before .before .before .session-at .ensures) (search needs) (c .refused .ensures)
 
 is-done-requires : tie.Need-is-done-requires
 is-done-requires c κs = omega (arith, (c .before .before .before .before .session-at .ensures .inside) _ _ (c .before .before .slot .given .1))
@@ -39,10 +42,21 @@ same-length-2 : tie.Need-same-length-2
 same-length-2 c = search needs
 
 returns-2 : tie.Need-returns-2
-returns-2 c = close-undone (c .before .before .before .before .before .before .before .before .before .before .before .args .file .now) (c .before .before .before .before .before .before .before .before .before .before .before .args .state .now) (c .before .before .before .before .before .before .before .before .before .before .before .args .q) (c .before .before .before .before .before .before .before .before .before .before .before .args .n) (c .before .before .before .before .before .before .before .session-at .ensures) _ _ (c .before .before .before .before .before .slot .given .1) (c .before .before .is-done .ensures) (search needs) (c .refused2 .ensures)
+returns-2 c =
+    close-undone (c .before .before .before .before .before .before .before .before .before .before .before .args .file .now) (c .before .before
+    .before .before .before .before .before .before .before .before .before .args .state .now) (c .before .before .before .before .before .before
+    .before .before .before .before .before .args .q) (c .before .before .before .before .before .before .before .before .before .before .before .args
+    .n) (c .before .before .before .before .before .before .before .session-at .ensures) _ _ (c .before .before .before .before .before .slot .given
+    .1) (c .before .before .is-done .ensures) (search needs) (c .refused2 .ensures)
 
 release-requires : tie.Need-release-requires
-release-requires c κs = omega (arith, (c .before .before .before .before .before .before .before .before .before .before .before .pre), (c .before .before .before .before .before .before .before .session-at .ensures .inside) _ _ (c .before .before .before .before .before .slot .given .1))
+release-requires c κs =
+    omega (
+      arith,
+      (c .before .before .before .before .before .before .before .before .before .before .before .pre),
+      (c .before .before .before .before
+          .before .before .before .session-at .ensures .inside) _ _ (c .before .before .before .before .before .slot .given .1),
+    )
 
 done-requires : tie.Need-done-requires
 done-requires c κs = search needs
@@ -51,7 +65,14 @@ same-length-3 : tie.Need-same-length-3
 same-length-3 c = search needs
 
 returns-3 : tie.Need-returns-3
-returns-3 c = close-done (c .before .before .before .before .before .before .before .before .before .before .before .before .before .before .before .args .file .now) (c .before .before .before .before .before .before .before .before .before .before .before .before .before .before .before .args .state .now) (c .before .before .before .before .before .before .before .before .before .before .before .before .before .before .before .args .q) (c .before .before .before .before .before .before .before .before .before .before .before .before .before .before .before .args .n) (c .before .before .before .before .before .before .before .before .before .before .before .session-at .ensures) _ _ (c .before .before .before .before .before .before .before .before .before .slot .given .1) (c .before .before .before .before .before .before .is-done .ensures) (search needs) (c .before .before .before .release .ensures) (c .done .ensures)
+returns-3 c =
+    close-done (c .before .before .before .before .before .before .before .before .before .before .before .before .before .before .before .args .file
+    .now) (c .before .before .before .before .before .before .before .before .before .before .before .before .before .before .before .args .state
+    .now) (c .before .before .before .before .before .before .before .before .before .before .before .before .before .before .before .args .q) (c
+    .before .before .before .before .before .before .before .before .before .before .before .before .before .before .before .args .n) (c .before
+    .before .before .before .before .before .before .before .before .before .before .session-at .ensures) _ _ (c .before .before .before .before
+    .before .before .before .before .before .slot .given .1) (c .before .before .before .before .before .before .is-done .ensures) (search needs) (c
+    .before .before .before .release .ensures) (c .done .ensures)
 
 pub close-move-spec : {M : Type 1} → statement M
 close-move-spec =

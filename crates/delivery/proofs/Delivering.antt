@@ -1,0 +1,433 @@
+-- Delivering a message, at each of the ways out of the code.
+use mathlib.Core.Path.{_≡_, refl, sym, ap, subst, _∙_}
+use mathlib.Core.Bool.{Bool, true, false, not, _&&_}
+use mathlib.Core.List.{List, [], _∷_, _++_}
+use mathlib.Core.Logic.{_⊎_, inl, inr}
+use Prim.Native.Nat.{ℕ, zero, suc, _+_, _*_, _≤_, _<_}
+use native.Mathlib.Omega.{arith}
+use lib.ListN.{length, take, set, replicate}
+use lib.Seq.{take-all}
+use types.Run.{OneOf, miss}
+use denote.Enum.Declared.{tagOf}
+use Rattle.forest.specs.Forest.{Forest, end, Tree, tree}
+use Rattle.forest.specs.Path.{Path, replaceAt}
+use Rattle.scalar.specs.Value.{Value}
+use Rattle.wire.specs.Wire.{part, withPart}
+use Rattle.wire.specs.WireLaws.{length-withPart}
+use Rattle.refusal.specs.declared.Refusal.the-variants.{MoveNotAllowed, QueueFull, Stuck}
+use Rattle.refusal.specs.declared.Verdict.{Verdict}
+use Rattle.refusal.specs.declared.Verdict.the-variants.{Done, Refused}
+use Rattle.refusal.specs.declared.Outcome.{Outcome}
+use Rattle.refusal.specs.Refusal.{doneWith, refusedBy}
+use Rattle.syntax.specs.Syntax.{Behaviour, Operation}
+use Rattle.tree.specs.Encode as trees
+use Rattle.tree.specs.Decode.{isMessage}
+use Rattle.tree.specs.DecodeLaws.{message-sound, message-complete, encode-injective}
+use Rattle.tree.specs.Ids as ids
+use Rattle.subtyping.specs.Own.{fits}
+use Rattle.typing.specs.Environment.{within}
+use Rattle.network.specs.Form.{WellFormed}
+use Rattle.network.specs.Layout.{pathCount, typeCount, behaviourCount, operationCount}
+use Rattle.network.specs.Rows.{operationService}
+use Rattle.network.specs.Decode.{typeOf, behaviourOf, operationOf, networkOf}
+use Rattle.network.specs.Decode as network
+use Rattle.network.specs.RowLaws.{counts-kept}
+use Rattle.rows.specs.declared.BehaviourRow.{BehaviourRow}
+use Rattle.rows.proofs.BehaviourRow as rows
+use Rattle.rows.specs.Readers.{behaviourRowOf, pathIds}
+use Rattle.types.specs.Tells.{FitsRow}
+use Rattle.types.specs.TellsLaws.{fits-message}
+use Rattle.behaviours.specs.Rows.{behaviourBy}
+use Rattle.behaviours.specs.KindLaws.{row-is}
+use Rattle.state.specs.Session.{ReplyTo, Progress, done, received, taken, advance, Queued, Session, Slot, free, live, State, setSlot, newSession}
+use Rattle.state.specs.Bytes.{zeros, u16Bytes, padded, progressBytes, messageBytes, treeBytes, slotBytes, stateBytes}
+use Rattle.state.specs.Shape.{WellMade, MadeSlot}
+use Rattle.state.specs.ShapeLaws.{new-made}
+use Rattle.state.specs.PartLaws.{length-zeros, part-replaced, replace-again}
+use Rattle.state.specs.SizeLaws.{message-size, slot-size}
+use Rattle.state.specs.KeepLaws.{advance-past}
+use Rattle.moves.specs.Targets as definition
+use Rattle.moves.specs.Moves.{voidValue, isMessageTree, moved, require, permitsInput, allowed, onLive, withQueue, startedBy, started, deliver}
+use Rattle.moves.specs.Step.{Step, finish}
+use Rattle.progress.specs.declared.Progress as coded
+use Rattle.progress.specs.Meaning.{meaning}
+use Rattle.slots.specs.SlotLaws.{Living, row-set, tree-set, begin-set, living-set, set-again}
+use Rattle.session_trees.specs.declared.Change.{Change}
+use Rattle.session_trees.specs.Changing.{KeptTree, ChangedTo, Replaces}
+use Rattle.targets.specs.declared.Target.{Target}
+use Rattle.targets.specs.Answers.{PermitsInput, targetAs, StarterExists}
+use Rattle.queues.specs.declared.ReplyTo as declared
+use Rattle.queues.specs.Queue.{replyOf, pushed}
+use Rattle.queues.specs.ChangeLaws.{push-state}
+use Rattle.delivery.specs.declared.Input.{Input}
+use Rattle.delivery.specs.Delivery.{Holding, Permitted, Allowed, MustFit, InputIs, InputAt, StartTree, startedWith, StoresStart, KeptOr, Saved}
+use Rattle.delivery.specs.Delivery.{StartsBy, Starts, Queues, Delivers}
+use Rattle.delivery.specs.DeliveryLaws.{holding-sized, holding-bytes, holding-part, message-tree, tree-message, Known, target-known, target-far}
+use Rattle.delivery.proofs.PathLaws.{ids-path, path-is}
+
+-- ---- 15 and 16
+
+module _ {file : List ℕ} {q a : ℕ} {x : Bool} (h : PermitsInput file q a x) where
+  pub is-permitted : x ≡ true → Permitted file q a Done
+  is-permitted e = record { tells = λ l r. ap (λ (y : Bool). require y MoveNotAllowed r) (sym e ∙ h .tells l) }
+
+  pub not-permitted : x ≡ false → Permitted file q a (Refused MoveNotAllowed)
+  not-permitted e = record { tells = λ l r. ap (λ (y : Bool). require y MoveNotAllowed r) (sym e ∙ h .tells l) }
+
+pub ruleset permitted-laws = (is-permitted, not-permitted)
+
+module _ {file : List ℕ} {q : ℕ} {t : Target} where
+  pub allowed-none : t ≡ Target.NoTarget → Allowed file q t (Refused MoveNotAllowed)
+  unfolding targetAs
+  allowed-none e = record { tells = λ x r. ap (λ (y : Target). allowed q (targetAs file y) r) (sym e) }
+
+  pub allowed-full : t ≡ Target.QueueFull → Allowed file q t (Refused QueueFull)
+  unfolding targetAs
+  allowed-full e = record { tells = λ x r. ap (λ (y : Target). allowed q (targetAs file y) r) (sym e) }
+
+  pub allowed-queued : t ≡ Target.Queued → Allowed file q t Done
+  unfolding targetAs
+  allowed-queued e = record { tells = λ x r. ap (λ (y : Target). allowed q (targetAs file y) r) (sym e) }
+
+  pub allowed-starts : {c k a : ℕ} {v : Verdict} → t ≡ Target.Starts c k a → Permitted file q a v → Allowed file q t v
+  unfolding targetAs
+  allowed-starts e h = record {
+    tells = λ x r. h .tells (subst (StarterExists file) e x .1) r ∙ ap (λ (y : Target). allowed q (targetAs file y) r) (sym e);
+  }
+
+pub ruleset allowed-laws = (allowed-none, allowed-full, allowed-queued, allowed-starts)
+
+-- ---- 19
+
+told : {b c : Bool} → b ≡ c → not b ≡ false → c ≡ true
+told {b} {c} e f = sym e ∙ by b f
+  where
+    by : (b : Bool) → not b ≡ false → b ≡ true
+    by true f = refl
+    by false f = absurd (let z : _≡_ {A = ℕ} 0 1 = cc in omega arith)
+
+module _ {l file : List ℕ} {r : ℕ} {b : Bool} (e : b ≡ isMessage l) where
+  pub fit-none : not b ≡ true → MustFit l file r false
+  fit-none f = record { tells = λ w k t h. by t h (isMessageTree t) refl }
+    where
+      by : (t : Tree Value) → trees.Encodes trees.treeDeep trees.treeMany l t → (x : Bool) → isMessageTree t ≡ x → false ≡ (x && fits t (typeOf file r))
+      by t h false g = refl
+      by t h true g =
+          let m = message-complete l t (record { bytes = h .bytes; good = tree-message t g (h .good) }) in
+          absurd (let z : _≡_ {A = ℕ} 0 1 = cc in omega arith)
+
+  pub fit-message : {x : Bool} → trees.Octets l → not b ≡ false → FitsRow l file r x → MustFit l file r x
+  fit-message {x} o f h = record {
+    tells = λ w k t d.
+        let m = message-sound l o (told e f) in
+        let i : m .0 ≡ t = encode-injective trees.messageDeep trees.messageMany trees.treeDeep trees.treeMany (m .0) t (m .1 .good) (d .good)
+        (sym (m .1 .bytes) ∙ d .bytes) in
+        let n : trees.Message l t = subst (trees.Message l) i (m .1) in
+        fits-message h t n w k ∙ sym (ap (λ (y : Bool). y && fits t (typeOf file r)) (message-tree t (n .good)));
+  }
+
+pub ruleset fit-laws = (fit-none, fit-message)
+
+-- ---- inputs
+
+module _ (file : List ℕ) (a : ℕ) {row : BehaviourRow} (e : row ≡ behaviourRowOf file a) where
+  pub input-one-way : {o p : ℕ} → row ≡ BehaviourRow.OneWay o p → InputAt file a (Input.OneWay p)
+  input-one-way {o} {p} f = record {
+    tells = λ w l. let k = row-is file w a (behaviourCount file) (record { exists = l; enough = omega arith }) e f in (operationOf file o, k .0, k .1 .1);
+  }
+
+  pub input-request : {o p c d : ℕ} → row ≡ BehaviourRow.RequestResponse o p c d → InputAt file a (Input.RequestResponse p)
+  input-request {o} {p} {c} {d} f = record {
+    tells = λ w l.
+        let k = row-is file w a (behaviourCount file) (record { exists = l; enough = omega arith }) e f in
+        (operationOf file o, (c, behaviourOf file d, k .0), k .1 .1);
+  }
+
+  pub input-none : OneOf (0 ∷ 3 ∷ 4 ∷ 5 ∷ 6 ∷ 7 ∷ 8 ∷ 9 ∷ 10 ∷ 11 ∷ 12 ∷ []) (tagOf rows.the-type row) → InputAt file a Input.Nothing
+  input-none h = record {
+    tells = λ w l v.
+        let k = row-is file w a (behaviourCount file) (record { exists = l; enough = omega arith }) e refl in
+        ap (definition.isInputOf v) (k .0) ∙ other row h v;
+  }
+    where
+      other : (y : BehaviourRow) → OneOf (0 ∷ 3 ∷ 4 ∷ 5 ∷ 6 ∷ 7 ∷ 8 ∷ 9 ∷ 10 ∷ 11 ∷ 12 ∷ []) (tagOf rows.the-type y) → (v : ℕ)
+          → definition.isInputOf v (behaviourBy file a y) ≡ false
+      other BehaviourRow.Nil h v = refl
+      other (BehaviourRow.OneWay o p) h v = absurd (miss (0 ∷ 3 ∷ 4 ∷ 5 ∷ 6 ∷ 7 ∷ 8 ∷ 9 ∷ 10 ∷ 11 ∷ 12 ∷ []) 1 tt h)
+      other (BehaviourRow.RequestResponse o p c d) h v = absurd (miss (0 ∷ 3 ∷ 4 ∷ 5 ∷ 6 ∷ 7 ∷ 8 ∷ 9 ∷ 10 ∷ 11 ∷ 12 ∷ []) 2 tt h)
+      other (BehaviourRow.Notification o x) h v = refl
+      other (BehaviourRow.SolicitResponse o x p) h v = refl
+      other (BehaviourRow.If x b c) h v = refl
+      other (BehaviourRow.While x b) h v = refl
+      other (BehaviourRow.Sequence b c) h v = refl
+      other (BehaviourRow.Parallel b c) h v = refl
+      other (BehaviourRow.Assign p x) h v = refl
+      other (BehaviourRow.Choice first n) h v = refl
+      other (BehaviourRow.Branch b c) h v = refl
+      other BehaviourRow.Unknown h v = refl
+
+pub ruleset input-laws = (input-one-way, input-request, input-none)
+
+module _ {to : declared.ReplyTo} where
+  pub received-nobody : to ≡ declared.ReplyTo.Nobody → meaning coded.Progress.FromNobody ≡ received (replyOf to)
+  received-nobody e = ap (λ (x : declared.ReplyTo). received (replyOf x)) (sym e)
+
+  pub received-outsider : {k : ℕ} → to ≡ declared.ReplyTo.Outsider k → meaning (coded.Progress.FromOutsider k) ≡ received (replyOf to)
+  received-outsider e = ap (λ (x : declared.ReplyTo). received (replyOf x)) (sym e)
+
+  pub received-row : {q n r : ℕ} → to ≡ declared.ReplyTo.WaitingRow q n r → meaning (coded.Progress.FromRow q n r) ≡ received (replyOf to)
+  received-row e = ap (λ (x : declared.ReplyTo). received (replyOf x)) (sym e)
+
+pub ruleset received-laws = (received-nobody, received-outsider, received-row)
+
+-- ---- a slot that becomes a new session
+
+new-living : (s : List ℕ) {s₁ : List ℕ} (slot : ℕ) → slot + 4096 ≤ length s → s₁ ≡ withPart s slot (slotBytes (live newSession)) → Living s₁ slot newSession
+new-living s {s₁} slot h e =
+    let y = slotBytes (live newSession) in
+    let z : length y ≡ 4096 = slot-size (live newSession) new-made in
+    subst (λ (t : List ℕ). Living t slot newSession) (sym e) (record {
+      inside = omega (arith, h, z, length-withPart s slot y (omega (arith, h, z)));
+      bytes = subst (λ (n : ℕ). part (withPart s slot y) slot n ≡ y) z (part-replaced s slot y (omega (arith, h)));
+      made = new-made;
+    })
+
+zeros-are : (n : ℕ) → replicate n 0 ≡ zeros n
+unfolding zeros
+zeros-are zero = refl
+zeros-are (suc n) = ap (λ (l : List ℕ). 0 ∷ l) (zeros-are n)
+
+-- The scratch slot, of zeros, holds a new session.
+scratch-living : {n : ℕ} {s s₁ : List ℕ} → n ≡ 4096 → s ≡ replicate n 0 → s₁ ≡ set (set (set s 0 1) (0 + 2) 5) (0 + 18) 6 → Living s₁ 0 newSession
+unfolding slotBytes
+scratch-living {n} {s} {s₁} k e f =
+    let z : s ≡ zeros 4096 = e ∙ (zeros-are n ∙ ap zeros k) in
+    let l : length s ≡ 4096 = ap length z ∙ length-zeros 4096 in
+    let p : part s 0 4096 ≡ slotBytes free = take-all 4096 s (omega (arith, l)) ∙ z in
+    new-living s 0 (omega (arith, l)) (f ∙ begin-set s 0 (omega (arith, l)) p)
+
+pub start-tree-is : {file : List ℕ} {p n : ℕ} {s s₁ is l o : List ℕ} {x : Change} → n ≡ 4096 → s ≡ replicate n 0
+    → s₁ ≡ set (set (set s 0 1) (0 + 2) 5) (0 + 18) 6 → is ≡ pathIds file p → Replaces s₁ 0 is l o x → StartTree file p l o x
+start-tree-is {file} {p} {n} {s} {s₁} {is} {l} {o} {x} k e f d h = record {
+  tells = λ w q m g.
+      subst (λ (y : Path). ChangedTo o x (replaceAt voidValue y m end)) (ap ids.pathOf d ∙ path-is file p)
+      (h .tells newSession m (scratch-living k e f) (ap ids.isPath d ∙ ids-path file w p q) g);
+}
+
+made-with : (F : Forest Value) → trees.WellFormed trees.treeDeep trees.treeMany (tree trees.empty F)
+    → WellMade (record { tree = F; queue = []; progress = newSession .progress })
+made-with F w = record { bounded = w; upToFour = new-made .upToFour; messages = new-made .messages; noRowsPast = new-made .noRowsPast }
+
+made-row : {S : Session} → WellMade S → (r : ℕ) (x : Progress) → r < 256
+    → WellMade (record { tree = S .tree; queue = S .queue; progress = advance (S .progress) r x })
+made-row {S} w r x l = record {
+  bounded = w .bounded;
+  upToFour = w .upToFour;
+  messages = w .messages;
+  noRowsPast = advance-past (S .progress) r x l (w .noRowsPast);
+}
+
+started-made : (F : Forest Value) (c k a : ℕ) (after : Progress) → trees.WellFormed trees.treeDeep trees.treeMany (tree trees.empty F) → c < 256 → a < 256
+    → WellMade (startedWith F c k a after)
+started-made F c k a after w l m = made-row (made-row (made-with F w) c (taken k) l) a after m
+
+pub store-start : {s s₁ s₂ s₃ s₄ o : List ℕ} {slot n c k a : ℕ} {after : Progress} → slot + 4096 ≤ length s → n ≤ 1024 → c < 256 → a < 256
+    → s₁ ≡ set (set (set s slot 1) (slot + 2) 5) (slot + 18) 6
+    → s₂ ≡ withPart (withPart s₁ (slot + 2) (u16Bytes n)) (slot + 16) (padded 1024 (take n o))
+    → s₃ ≡ withPart s₂ (slot + 2416 + 6 * c) (progressBytes (taken k))
+    → s₄ ≡ withPart s₃ (slot + 2416 + 6 * a) (progressBytes after)
+    → StoresStart s slot o n c k a after s₄
+store-start {s} {s₁} {s₂} {s₃} {s₄} {o} {slot} {n} {c} {k} {a} {after} h u lc la e₁ e₂ e₃ e₄ = record {
+  tells = λ F t z w free-slot.
+      let S₁ : Session = record { tree = F; queue = []; progress = newSession .progress } in
+      let S₂ : Session = record { tree = F; queue = []; progress = advance (newSession .progress) c (taken k) } in
+      let S₃ : Session = startedWith F c k a after in
+      let m₁ : WellMade S₁ = made-with F w in
+      let m₂ : WellMade S₂ = made-row m₁ c (taken k) lc in
+      let m₃ : WellMade S₃ = made-row m₂ a after la in
+      let b₁ : s₁ ≡ withPart s slot (slotBytes (live newSession)) = e₁ ∙ begin-set s slot h free-slot in
+      let v₁ : Living s₁ slot newSession = new-living s slot h b₁ in
+      let b₂ : s₂ ≡ withPart s₁ slot (slotBytes (live S₁)) =
+      e₂ ∙ (ap (λ (y : List ℕ). withPart (withPart s₁ (slot + 2) (u16Bytes n)) (slot + 16) (padded 1024 y)) t
+      ∙ (ap (λ (i : ℕ). withPart (withPart s₁ (slot + 2) (u16Bytes i)) (slot + 16) (padded 1024 (treeBytes F))) z ∙ tree-set v₁ F (omega (arith, z, u)))) in
+      let v₂ : Living s₂ slot S₁ = subst (λ (y : List ℕ). Living y slot S₁) (sym b₂) (living-set v₁ S₁ m₁) in
+      let b₃ : s₃ ≡ withPart s₂ slot (slotBytes (live S₂)) = e₃ ∙ row-set v₂ c (taken k) lc in
+      let v₃ : Living s₃ slot S₂ = subst (λ (y : List ℕ). Living y slot S₂) (sym b₃) (living-set v₂ S₂ m₂) in
+      let b₄ : s₄ ≡ withPart s₃ slot (slotBytes (live S₃)) = e₄ ∙ row-set v₃ a after la in
+      let x = slotBytes (live S₃) in
+      b₄ ∙ (ap (λ (y : List ℕ). withPart y slot x) b₃ ∙ (set-again v₂ S₂ (live S₃) m₂ m₃
+      ∙ (ap (λ (y : List ℕ). withPart y slot x) b₂ ∙ (set-again v₁ S₁ (live S₃) m₁ m₃
+      ∙ (ap (λ (y : List ℕ). withPart y slot x) b₁
+      ∙ replace-again s slot (slotBytes (live newSession)) x (omega (arith, h)) (slot-size (live S₃) m₃ ∙ sym (slot-size (live newSession) new-made)))))));
+}
+
+-- ---- a session started by its input's path
+
+kept : {file l t : List ℕ} {p n : ℕ} {x : Change} → StartTree file p l t x → x ≡ Change.Kept n → WellFormed file → p < pathCount file → (m : Tree Value)
+    → trees.Message l m → KeptTree t n (replaceAt voidValue (network.pathOf file p) m end)
+kept {file} {l} {t} {p} h e w lp m g = subst (λ (y : Change). ChangedTo t y (replaceAt voidValue (network.pathOf file p) m end)) e (h .tells w lp m g)
+
+module _ {file s l t : List ℕ} {slot c k a p : ℕ} {after : Progress} {x : Change} (h : StartTree file p l t x) where
+  pub by-large : {o : Outcome} → x ≡ Change.TooLarge → o ≡ refusedBy Stuck → StartsBy file s slot c k a p after l s o
+  by-large {o} e f = record {
+    tells = λ w lc la lp free-slot m g.
+        let F = replaceAt voidValue (network.pathOf file p) m end in
+        let z : within F ≡ false = subst (λ (y : Change). ChangedTo t y F) e (h .tells w lp m g) in
+        subst (λ (b : Bool). KeptOr b s slot (startedBy c k a (network.pathOf file p) after m) s o) (sym z) (f, refl);
+  }
+
+  module _ {n : ℕ} (e : x ≡ Change.Kept n) where
+    pub by-long : {s′ : List ℕ} {o : Outcome} → 1024 < n → StartsBy file s slot c k a p after l s′ o
+    by-long u = record { tells = λ w lc la lp free-slot m g. absurd (omega (arith, u, kept h e w lp m g .small)) }
+
+    pub by-far-choice : {s′ : List ℕ} {o : Outcome} → 255 < c → StartsBy file s slot c k a p after l s′ o
+    by-far-choice u = record { tells = λ w lc la lp free-slot m g. absurd (omega (arith, u, lc, counts-kept file w .behaviours)) }
+
+    pub by-far-input : {s′ : List ℕ} {o : Outcome} → 255 < a → StartsBy file s slot c k a p after l s′ o
+    by-far-input u = record { tells = λ w lc la lp free-slot m g. absurd (omega (arith, u, la, counts-kept file w .behaviours)) }
+
+    pub by-kept : {s′ : List ℕ} {o : Outcome} → c ≤ 255 → a ≤ 255 → StoresStart s slot t n c k a after s′ → o ≡ doneWith 0
+        → StartsBy file s slot c k a p after l s′ o
+    by-kept {s′} {o} lc la d f = record {
+      tells = λ w _ _ lp free-slot m g.
+          let F = replaceAt voidValue (network.pathOf file p) m end in
+          let y = kept h e w lp m g in
+          subst (λ (b : Bool). KeptOr b s slot (startedBy c k a (network.pathOf file p) after m) s′ o) (sym (y .fits))
+          (f, d .tells F (y .bytes) (y .size) (y .made) free-slot, started-made F c k a after (y .made) (omega (arith, lc)) (omega (arith, la)));
+    }
+
+pub ruleset by-laws = (by-large, by-long, by-far-choice, by-far-input, by-kept)
+
+-- ---- a session started by its input
+
+module _ {file s l s′ : List ℕ} {slot c k a : ℕ} {to : ReplyTo} {x : Input} {o : Outcome} (h : InputAt file a x) where
+  pub start-one-way : {p : ℕ} → x ≡ Input.OneWay p → StartsBy file s slot c k a p done l s′ o → Starts file s slot c k a to l s′ o
+  start-one-way {p} e d = record {
+    tells = λ w lc la free-slot v i m g.
+        let y = subst (λ (z : Input). InputIs file a (behaviourOf file a) z) e (h .tells w la) in
+        subst (λ (b : Behaviour). Saved s slot (started c k b to m) s′ o) (sym (y .1)) (d .tells w lc la (y .2) free-slot m g);
+  }
+
+  pub start-request : {p : ℕ} {after : Progress} → x ≡ Input.RequestResponse p → after ≡ received to → StartsBy file s slot c k a p after l s′ o
+      → Starts file s slot c k a to l s′ o
+  start-request {p} {after} e f d = record {
+    tells = λ w lc la free-slot v i m g.
+        let y = subst (λ (z : Input). InputIs file a (behaviourOf file a) z) e (h .tells w la) in
+        let q = d .tells w lc la (y .2) free-slot m g in
+        subst (λ (b : Behaviour). Saved s slot (started c k b to m) s′ o) (sym (y .1 .2))
+        (subst (λ (z : Progress). Saved s slot (startedBy c k a (network.pathOf file p) z m) s′ o) f q);
+  }
+
+  pub start-none : x ≡ Input.Nothing → Starts file s slot c k a to l s′ o
+  start-none e = record {
+    tells = λ w lc la free-slot v i m g.
+        let y = subst (λ (z : Input). InputIs file a (behaviourOf file a) z) e (h .tells w la) in
+        absurd (let u = y v in let z : _≡_ {A = ℕ} 0 1 = cc in omega arith);
+  }
+
+pub ruleset start-laws = (start-one-way, start-request, start-none)
+
+-- ---- a queue
+
+module _ {s l s′ : List ℕ} {slot i : ℕ} {to : ReplyTo} {o : Outcome} where
+  pub queue-far : 254 < i → Queues s slot i to l s′ o
+  queue-far u = record { tells = λ h m g. absurd (omega (arith, u, h)) }
+
+  pub queue-long : 336 < length l → Queues s slot i to l s′ o
+  queue-long u = record { tells = λ h m g. absurd (omega (arith, u, ap length (g .bytes), message-size m (g .good))) }
+
+  pub queue-pushed : s′ ≡ pushed s slot i to (part l 0 (length l)) → o ≡ doneWith 0 → Queues s slot i to l s′ o
+  queue-pushed e f = record { tells = λ h m g. (f, e ∙ ap (pushed s slot i to) (take-all (length l) l (omega arith))) }
+
+pub ruleset queue-laws = (queue-far, queue-long, queue-pushed)
+
+-- ---- delivering
+
+-- The slot of a session that keeps to its limits, or 18.
+saved-step : {s s′ : List ℕ} {G : State} {q n slot : ℕ} (S : Session) {o : Outcome} → Holding s G → q < 4 → n < 4 → slot ≡ 4096 * (4 * q + n) → (b : Bool)
+    → KeptOr b s slot S s′ o → (out : List ℕ)
+    → _≡_ {A = Step} (record { outcome = o; state = s′; out = out }) (finish s out (require b Stuck (moved (setSlot G q n (live S)) [])))
+saved-step {s} {s′} {G} {q} {n} {slot} S {o} h i j e true d out =
+    let t : s′ ≡ stateBytes (setSlot G q n (live S)) =
+    d .1 ∙ (ap (λ (k : ℕ). withPart s k (slotBytes (live S))) e ∙ holding-bytes h q n (live S) i j (d .2)) in
+    ap (λ (y : Outcome). record { outcome = y; state = s′; out = out }) (d .0) ∙ ap (λ (y : List ℕ). record { outcome = doneWith 0; state = y; out = out }) t
+saved-step {s} {s′} {G} {q} {n} {slot} S {o} h i j e false d out =
+    ap (λ (y : Outcome). record { outcome = y; state = s′; out = out }) (d .0)
+    ∙ ap (λ (y : List ℕ). record { outcome = refusedBy Stuck; state = y; out = out }) (d .1)
+
+is-service : (file : List ℕ) (i : ℕ) {b q : ℕ} → b ≡ operationService file i → q ≡ b → operationOf file i .service ≡ q
+unfolding operationOf
+is-service file i x y = sym (y ∙ x)
+
+nowhere : {file l s : List ℕ} {i n : ℕ} {t : Target} {to : ReplyTo} {o : Outcome} → (4 ≤ operationOf file i .service) ⊎ (4 ≤ n)
+    → o ≡ refusedBy MoveNotAllowed → Delivers file i n t to l s s o
+nowhere {file} {l} {s} {i} {n} {t} {to} {o} h e = record {
+  tells = λ w li G g se te m k out.
+      let z : targetAs file t ≡ definition.noTarget = te ∙ target-far file G (operationOf file i) n w h in
+      ap (λ (u : Outcome). record { outcome = u; state = s; out = out }) e
+      ∙ ap (λ (u : definition.Target). finish s out (deliver G (operationOf file i) n u to m)) (sym z);
+}
+
+module _ {file l s : List ℕ} {i n b q : ℕ} {t : Target} {to : ReplyTo} (x : b ≡ operationService file i) (y : q ≡ b) where
+  pub far-service : {o : Outcome} → 3 < q → o ≡ refusedBy MoveNotAllowed → Delivers file i n t to l s s o
+  far-service u e = nowhere (inl (omega (arith, u, is-service file i x y))) e
+
+  pub far-session : {o : Outcome} → 3 < n → o ≡ refusedBy MoveNotAllowed → Delivers file i n t to l s s o
+  far-session u e = nowhere (inr (omega (arith, u))) e
+
+  pub to-none : {o : Outcome} → t ≡ Target.NoTarget → o ≡ refusedBy MoveNotAllowed → Delivers file i n t to l s s o
+  unfolding targetAs
+  to-none {o} f e = record {
+    tells = λ w li G g se te m k out.
+        ap (λ (u : Outcome). record { outcome = u; state = s; out = out }) e
+        ∙ ap (λ (u : Target). finish s out (deliver G (operationOf file i) n (targetAs file u) to m)) (sym f);
+  }
+
+  pub to-full : {o : Outcome} → t ≡ Target.QueueFull → o ≡ refusedBy QueueFull → Delivers file i n t to l s s o
+  unfolding targetAs
+  to-full {o} f e = record {
+    tells = λ w li G g se te m k out.
+        ap (λ (u : Outcome). record { outcome = u; state = s; out = out }) e
+        ∙ ap (λ (u : Target). finish s out (deliver G (operationOf file i) n (targetAs file u) to m)) (sym f);
+  }
+
+  module _ {s′ : List ℕ} {v w : ℕ} {o : Outcome} (lq : q ≤ 3) (ln : n ≤ 3) (c : v ≡ q) (d : w ≡ n) where
+    pub to-queue : t ≡ Target.Queued → Queues s (4096 * (4 * v + w)) i to l s′ o → Delivers file i n t to l s s′ o
+    unfolding targetAs operationOf
+    to-queue f h = record {
+      tells = λ wf li G g se te m k out.
+          let op = operationOf file i in
+          let at : 4096 * (4 * v + w) ≡ 4096 * (4 * op .service + n) = omega (arith, c, d, is-service file i x y) in
+          let below : op .service < 4 = omega (arith, lq, is-service file i x y) in
+          let z = subst (Known G op n) (sym te ∙ ap (targetAs file) f) (target-known (networkOf file) G op n) in
+          let S = z .0 in
+          let r = h .tells (omega (arith, li, counts-kept file wf .operations)) m k in
+          let made : WellMade S = subst (λ (u : Slot). MadeSlot u) (z .1) (g .made (op .service) n below (omega (arith, ln))) in
+          let new : Queued = record { operation = i; message = m; replyTo = to } in
+          let bytes : s′ ≡ stateBytes (setSlot G (op .service) n (live (withQueue S (S .queue ++ (new ∷ []))))) =
+          r .1 ∙ (ap (λ (j : ℕ). pushed s j i to l) at ∙ (ap (λ (u : List ℕ). pushed u (4096 * (4 * op .service + n)) i to l) (g .bytes)
+          ∙ push-state (holding-sized g) (op .service) n below (omega (arith, ln)) (z .1) made i to m l (z .2) (k .bytes) (k .good))) in
+          ap (λ (u : Outcome). record { outcome = u; state = s′; out = out }) (r .0)
+          ∙ (ap (λ (u : List ℕ). record { outcome = doneWith 0; state = u; out = out }) bytes
+          ∙ (ap (λ (u : Slot). finish s out (onLive u (λ S. moved (setSlot G (op .service) n (live (withQueue S (S .queue ++ (new ∷ []))))) []))) (sym (z .1))
+          ∙ ap (λ (u : Target). finish s out (deliver G op n (targetAs file u) to m)) (sym f)));
+    }
+
+    pub to-start : {e k a : ℕ} → t ≡ Target.Starts e k a → Starts file s (4096 * (4 * v + w)) e k a to l s′ o → Delivers file i n t to l s s′ o
+    unfolding targetAs
+    to-start {e} {k} {a} f h = record {
+      tells = λ wf li G g se te m u out.
+          let op = operationOf file i in
+          let at : 4096 * (4 * v + w) ≡ 4096 * (4 * op .service + n) = omega (arith, c, d, is-service file i x y) in
+          let below : op .service < 4 = omega (arith, lq, is-service file i x y) in
+          let z = subst (Known G op n) (sym te ∙ ap (targetAs file) f) (target-known (networkOf file) G op n) in
+          let rows = subst (StarterExists file) f se in
+          let empty : part s (4096 * (4 * v + w)) 4096 ≡ slotBytes free =
+          ap (λ (j : ℕ). part s j 4096) at ∙ (holding-part g (op .service) n below (omega (arith, ln)) ∙ ap slotBytes (z .0)) in
+          let S = started e k (behaviourOf file a) to m in
+          let r = h .tells wf (rows .0) (rows .1) empty (op .row) (z .1) m u in
+          saved-step S g below (omega (arith, ln)) at (within (S .tree)) r out
+          ∙ ap (λ (y : Target). finish s out (deliver G op n (targetAs file y) to m)) (sym f);
+    }
+
+pub ruleset deliver-laws = (far-service, far-session, to-none, to-full, to-queue, to-start)

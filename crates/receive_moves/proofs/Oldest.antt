@@ -1,0 +1,156 @@
+-- The message that a receive takes, at each of the ways out of the code.
+use mathlib.Core.Path.{_≡_, refl, sym, ap, subst, _∙_}
+use mathlib.Core.Bool.{Bool, true, false, not, _&&_, _||_}
+use mathlib.Core.List.{List, [], _∷_}
+use Prim.Native.Nat.{ℕ, _+_, _-_, _*_, _<_, _≤_}
+use native.Mathlib.Omega.{arith}
+use lib.Dec.{eqb}
+use lib.ListN.{take, drop}
+use Rattle.forest.specs.Path.{Path, path, replaceAt}
+use Rattle.scalar.specs.Value.{pick}
+use Rattle.wire.specs.Wire.{u16At, part}
+use Rattle.tree.specs.Encode.{Encodes, messageDeep, messageMany}
+use Rattle.tree.specs.Ids.{steps, zeros, endsInZeros, isPath, pathOf}
+use Rattle.network.specs.Form.{WellFormed}
+use Rattle.network.specs.Layout.{pathCount, pathAt}
+use Rattle.network.specs.LeastLaws.{rule-kept}
+use Rattle.network.specs.Rows.{pathRow}
+use Rattle.network.specs.RowLaws.{unbroken}
+use Rattle.network.specs.Decode as network
+use Rattle.rows.specs.Readers.{pathIds}
+use Rattle.state.specs.Session.{Session}
+use Rattle.state.specs.Bytes.{readEntry, readSession}
+use Rattle.moves.specs.Moves.{message, voidValue}
+use Rattle.queues.specs.declared.OldestEntry.{OldestEntry}
+use Rattle.queues.specs.declared.OldestEntry.the-variants.{Nothing, Entry}
+use Rattle.queues.specs.declared.Span.{Span}
+use Rattle.queues.specs.Queue.{entryAt, messageSpan, oldestIn, without}
+use Rattle.queues.specs.ReadLaws.{oldest-entry}
+use Rattle.queues.specs.ChangeLaws.{EntryStands, live-entry, live-nothing, live-below, live-oldest}
+use Rattle.slots.specs.SlotLaws.{Living, living-holds}
+use Rattle.session_trees.specs.declared.Change.{Change}
+use Rattle.session_trees.specs.Changing.{KeptTree, ChangedTo, Replaces}
+use Rattle.receive_moves.specs.declared.Taking.{Taking}
+use Rattle.receive_moves.specs.Receiving.{Takes}
+
+-- ---- the path of a P row
+
+steps-until : (l : List ℕ) → steps l ≡ network.untilZero l
+unfolding steps network.untilZero
+steps-until [] = refl
+steps-until (i ∷ is) = ap (λ (z : List ℕ). pick (eqb i 0) [] (i ∷ z)) (steps-until is)
+
+path-is : (file : List ℕ) (p : ℕ) → pathOf (pathIds file p) ≡ network.pathOf file p
+unfolding pathOf pathIds network.pathOf
+path-is file p =
+    ap (path (u16At file (pathAt file p))) (steps-until (u16At file (pathAt file p + 2) ∷ u16At file (pathAt file p + 4) ∷ u16At file (pathAt file p + 6) ∷ []))
+
+true-false : {B : Type 0} → true ≡ false → B
+true-false e = absurd (let z : _≡_ {A = ℕ} 0 1 = cc in omega arith)
+
+zeros-by : (a b c d : Bool) → not a ≡ true → (not a || b) ≡ true → (not b || c) ≡ true → (not c || d) ≡ true →
+    pick a false (pick b (c && (d && true)) (pick c (d && true) (pick d true true))) ≡ true
+zeros-by true b c d p q r s = true-false (sym p)
+zeros-by false true true true p q r s = refl
+zeros-by false true true false p q r s = true-false (sym s)
+zeros-by false true false d p q r s = true-false (sym r)
+zeros-by false false true true p q r s = refl
+zeros-by false false true false p q r s = true-false (sym s)
+zeros-by false false false true p q r s = refl
+zeros-by false false false false p q r s = refl
+
+ids-path : (file : List ℕ) → WellFormed file → (p : ℕ) → p < pathCount file → isPath (pathIds file p) ≡ true
+unfolding pathRow pathIds isPath endsInZeros zeros
+ids-path file wf p le =
+    let h = unbroken file wf .paths p le in
+    let a = rule-kept _ _ _ h in
+    let b = rule-kept _ _ _ (a .1) in
+    let c = rule-kept _ _ _ (b .1) in
+    let d = rule-kept _ _ _ (c .1) in
+    zeros-by (eqb (u16At file (pathAt file p)) 0) (eqb (u16At file (pathAt file p + 2)) 0) (eqb (u16At file (pathAt file p + 4)) 0)
+    (eqb (u16At file (pathAt file p + 6)) 0) (a .0) (b .0) (c .0) (d .0)
+
+-- ---- the oldest message
+
+module _ (file s : List ℕ) (slot o p : ℕ) {r : OldestEntry} (is : r ≡ oldestIn o (readSession s slot .queue)) where
+  pub take-nothing : {out : List ℕ} → r ≡ Nothing → Takes file s slot o p out Taking.Nothing
+  take-nothing e = record {
+    tells = λ w l S h i. live-nothing (h .made) (living-holds h) o is e;
+    bounds = λ k n z. absurd (let y : _≡_ {A = ℕ} 0 1 = cc in omega arith);
+  }
+
+  module _ (k : ℕ) (e : r ≡ Entry k) where
+    pub take-below : k < 4
+    take-below = oldest-entry s slot o is k e
+
+    stands : {S : Session} → Living s slot S → EntryStands s slot k
+    stands h = live-entry (h .made) (living-holds h) k (live-below (h .made) (living-holds h) o is k e)
+
+    module _ {m : Span} (d : m ≡ messageSpan s slot k) where
+      pub take-start : m .start ≡ slot + 1048 + 344 * k
+      unfolding messageSpan
+      take-start = let z = ap (λ (t : Span). t .start) d in omega (arith, z)
+
+      short : {S : Session} → Living s slot S → m .len ≤ 336
+      short h = omega (arith, ap (λ (t : Span). t .len) d, stands h .small)
+
+      pub take-long : {out : List ℕ} → 336 < m .len → Takes file s slot o p out Taking.TooLarge
+      take-long l = record {
+        tells = λ w g S h i. absurd (omega (arith, l, short h));
+        bounds = λ j n z. absurd (let y : _≡_ {A = ℕ} 0 1 = cc in omega arith);
+      }
+
+      module _ {ids : List ℕ} (f : ids ≡ pathIds file p) {out : List ℕ} {c : Change}
+          (rep : Replaces s slot ids (take (m .start + m .len - m .start) (drop (m .start) s)) out c) where
+        lent : {S : Session} → Living s slot S
+            → Encodes messageDeep messageMany (take (m .start + m .len - m .start) (drop (m .start) s)) (readEntry s (entryAt slot k) .message)
+        lent h =
+            let z : m .start + m .len - m .start ≡ m .len = omega arith in
+            record {
+              bytes = ap (λ (n : ℕ). take n (drop (m .start) s)) z ∙ (ap (λ (t : Span). part s (t .start) (t .len)) d ∙ stands h .bytes);
+              good = stands h .good;
+            }
+
+        changed : WellFormed file → p < pathCount file → (S : Session) → Living s slot S
+            → ChangedTo out c (replaceAt voidValue (network.pathOf file p) (readEntry s (entryAt slot k) .message) (S .tree))
+        changed w l S h =
+            subst (λ (x : Path). ChangedTo out c (replaceAt voidValue x (readEntry s (entryAt slot k) .message) (S .tree))) (ap pathOf f ∙ path-is file p)
+            (rep .tells S (readEntry s (entryAt slot k) .message) h (ap isPath f ∙ ids-path file w p l) (lent h))
+
+        pub take-large : c ≡ Change.TooLarge → Takes file s slot o p out Taking.TooLarge
+        take-large i = record {
+          tells = λ w l S h j. (
+            readEntry s (entryAt slot k),
+            without k (S .queue),
+            live-oldest (h .made) (living-holds h) o is k e,
+            subst (λ (y : Change). ChangedTo out y (replaceAt voidValue (network.pathOf file p) (readEntry s (entryAt slot k) .message) (S .tree))) i
+                (changed w l S h),
+          );
+          bounds = λ j n z. absurd (let y : _≡_ {A = ℕ} 0 1 = cc in omega arith);
+        }
+
+        module _ (n : ℕ) (i : c ≡ Change.Kept n) where
+          kept : WellFormed file → p < pathCount file → (S : Session) → Living s slot S
+              → KeptTree out n (replaceAt voidValue (network.pathOf file p) (readEntry s (entryAt slot k) .message) (S .tree))
+          kept w l S h =
+              subst (λ (y : Change). ChangedTo out y (replaceAt voidValue (network.pathOf file p) (readEntry s (entryAt slot k) .message) (S .tree))) i
+              (changed w l S h)
+
+          pub take-past : 1024 < n → Takes file s slot o p out Taking.TooLarge
+          take-past g = record {
+            tells = λ w l S h j. absurd (omega (arith, g, kept w l S h .small));
+            bounds = λ j n z. absurd (let y : _≡_ {A = ℕ} 0 1 = cc in omega arith);
+          }
+
+          pub take-message : n ≤ 1024 → Takes file s slot o p out (Taking.Message k n)
+          take-message g = record {
+            tells = λ w l S h j. (
+              live-oldest (h .made) (living-holds h) o is k e,
+              live-below (h .made) (living-holds h) o is k e,
+              kept w l S h,
+            );
+            bounds = λ j t z. by j t z;
+          }
+            where
+              by : (j t : ℕ) → Taking.Message k n ≡ Taking.Message j t → (j < 4) × (t ≤ 1024)
+              by j t z = let a : k ≡ j = cc in let b : n ≡ t = cc in (omega (arith, a, take-below), omega (arith, b, g))

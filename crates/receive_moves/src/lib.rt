@@ -1,0 +1,218 @@
+// Receiving. 01: "receive: a ready input (in a choice it settles the branch) takes the oldest queued message of its operation and replaces the
+// subtree." `slot` is where the session's slot starts. Everything is tested before the first byte of the state is written.
+ghost use mathlib.Core.Path.{_≡_};
+ghost use mathlib.Core.Bool.{Bool};
+ghost use Prim.Native.Nat.{_+_, _*_, _≤_, _<_};
+ghost use lib.ListN.{length};
+ghost use Rattle.state.specs.Bytes.{readEntry, readSession};
+ghost use Rattle.state.specs.Shape.{isUndone};
+ghost use Rattle.rows.specs.Readers.{behaviourRowOf};
+ghost use Rattle.moves.specs.Moves.{receiveMove};
+ghost use Rattle.moving.specs.Made.{Made};
+ghost use Rattle.progress.specs.Meaning.{meaning};
+ghost use Rattle.queues.specs.Queue.{entryAt};
+ghost use Rattle.receive_moves.specs.Receiving.{inputOf, afterwards, settledBytes, storedBytes, Takes, ReceivesInput, ReceivesAt};
+use moving::Running;
+use progress::Progress;
+use queues::OldestEntry;
+use queues::ReplyTo;
+use readiness::Reached;
+use refusal::Outcome;
+use refusal::Refusal;
+use rows::BehaviourRow;
+use session_trees::Change;
+
+// What an input settles: nothing, or a branch of a choice, by the choice's row and the branch's number.
+pub enum Settling {
+    Nothing,
+    Branch(u16, u8),
+}
+
+// The message that is taken, by its entry in the queue and the length of the session's changed tree; or that there is none, or that the
+// tree would pass its limits.
+pub enum Taking {
+    Nothing,
+    TooLarge,
+    Message(usize, u16),
+}
+
+// An input by its operation (O row), its path (P row) and whether it is two-way.
+pub enum Input {
+    Nothing,
+    Of(u16, u16, bool),
+}
+
+// B row i, if it is an input.
+fn input_at(file: &[u8], i: u16) -> Input
+    ensures { λ x. ⌜ x ≡ inputOf (behaviourRowOf (now (file .entry)) i) ⌝ }
+{
+    match rows::behaviour_row(file, i) {
+        BehaviourRow::Nil => Input::Nothing,
+        BehaviourRow::OneWay(o, p) => Input::Of(o, p, false),
+        BehaviourRow::RequestResponse(o, p, _, _) => Input::Of(o, p, true),
+        BehaviourRow::Notification(_, _) => Input::Nothing,
+        BehaviourRow::SolicitResponse(_, _, _) => Input::Nothing,
+        BehaviourRow::If(_, _, _) => Input::Nothing,
+        BehaviourRow::While(_, _) => Input::Nothing,
+        BehaviourRow::Sequence(_, _) => Input::Nothing,
+        BehaviourRow::Parallel(_, _) => Input::Nothing,
+        BehaviourRow::Assign(_, _) => Input::Nothing,
+        BehaviourRow::Choice(_, _) => Input::Nothing,
+        BehaviourRow::Branch(_, _) => Input::Nothing,
+        BehaviourRow::Unknown => Input::Nothing,
+    }
+}
+
+// Is the row undone?
+fn is_undone(state: &[u8], slot: usize, r: u16) -> bool
+    requires { ⌜ slot < 65536 ⌝ }
+    ensures { λ x. ⌜ x ≡ isUndone (readSession (now (state .entry)) slot .progress r) ⌝ }
+{
+    match progress::row_progress(state, slot, r) {
+        Progress::Undone => true,
+        Progress::Done => false,
+        Progress::Waits => false,
+        Progress::Taken(_) => false,
+        Progress::FromOutsider(_) => false,
+        Progress::FromRow(_, _, _) => false,
+        Progress::FromNobody => false,
+    }
+}
+
+// The oldest message of O row o, and the session's tree with it at the path of P row p, in the scratch buffer.
+fn take(scratch: &mut [u8], file: &[u8], state: &[u8], slot: usize, o: u16, p: u16) -> Taking
+    requires { ⌜ (slot + 4096 ≤ length (now state)) × (2304 ≤ length (now scratch)) ⌝ }
+    ensures { λ x. ⌜ Takes (now (file .entry)) (now (state .entry)) slot o p (now (scratch .exit)) x ⌝ }
+{
+    let OldestEntry::Entry(k) = queues::oldest(state, slot, o) else {
+        return Taking::Nothing;
+    };
+    let m = queues::entry_message(state, slot, k);
+    let start = m.start;
+    let len = m.len;
+    if 336 < len {
+        return Taking::TooLarge;
+    }
+    let end = start + len;
+    let ids = rows::path_row(file, p);
+    let Change::Kept(n) = session_trees::replace(scratch, state, slot, ids, &state[start..end])
+    else {
+        return Taking::TooLarge;
+    };
+    if 1024 < n {
+        return Taking::TooLarge;
+    }
+    Taking::Message(k, n)
+}
+
+// The input's progress once it has the message of the entry k: done, or received where it is two-way.
+fn progress_after(state: &[u8], slot: usize, k: usize, twoway: bool) -> Progress
+    requires { ⌜ (slot + 4096 ≤ length (now state)) × (k < 4) ⌝ }
+    ensures { λ x. ⌜ meaning x ≡ afterwards twoway (readEntry (now (state .entry)) (entryAt slot k) .replyTo) ⌝ }
+{
+    if !twoway {
+        return Progress::Done;
+    }
+    match queues::entry_reply(state, slot, k) {
+        ReplyTo::Nobody => Progress::FromNobody,
+        ReplyTo::Outsider(number) => Progress::FromOutsider(number),
+        ReplyTo::WaitingRow(service, session, row) => Progress::FromRow(service, session, row),
+    }
+}
+
+// "in a choice it settles the branch"
+fn settle(state: &mut [u8], slot: usize, x: Settling)
+    requires { ⌜ slot + 4096 ≤ length (now state) ⌝ }
+    ensures { λ _. ⌜ now (state .exit) ≡ settledBytes (now (state .entry)) slot x ⌝ }
+{
+    match x {
+        Settling::Nothing => {}
+        Settling::Branch(c, k) => {
+            if c < 256 {
+                progress::put_row(state, slot, c, Progress::Taken(k));
+            }
+        }
+    }
+}
+
+// The stores: the tree of n bytes, the queue without the entry k, the settled branch, the progress y of row i.
+fn store(
+    state: &mut [u8],
+    slot: usize,
+    tree: &[u8],
+    n: u16,
+    k: usize,
+    x: Settling,
+    i: u16,
+    y: Progress,
+)
+    requires { ⌜ (slot + 4096 ≤ length (now state)) × (n ≤ 1024) × (n ≤ length (now tree)) × (k < 4) × (i < 256) ⌝ }
+    ensures { λ _. ⌜ now (state .exit) ≡ storedBytes (now (state .entry)) slot (now (tree .entry)) n k x i (meaning y) ⌝ }
+{
+    slots::put_tree(state, slot, tree, n);
+    queues::remove(state, slot, k);
+    settle(state, slot, x);
+    progress::put_row(state, slot, i, y);
+}
+
+// The input of row i, of O row o, into the path of P row p.
+fn receive_input(
+    file: &[u8],
+    state: &mut [u8],
+    q: u16,
+    slot: usize,
+    i: u16,
+    x: Settling,
+    o: u16,
+    p: u16,
+    twoway: bool,
+) -> Outcome
+    requires { ⌜ (slot + 4096 ≤ length (now state)) × (slot < 65536) × (i < 256) ⌝ }
+    ensures { λ r. ⌜ ReceivesInput (now (file .entry)) q slot i x o p twoway (now (state .entry)) (now (state .exit)) r ⌝ }
+{
+    if !is_undone(state, slot, i) {
+        return refusal::refused(Refusal::MoveNotAllowed);
+    }
+    if !operations::permits(file, q, true, twoway, o) {
+        return refusal::refused(Refusal::MoveNotAllowed);
+    }
+    let mut scratch = [0u8; 2304];
+    match take(&mut scratch, file, state, slot, o, p) {
+        Taking::Nothing => refusal::refused(Refusal::MoveNotAllowed),
+        Taking::TooLarge => refusal::refused(Refusal::Stuck),
+        Taking::Message(k, n) => {
+            let y = progress_after(state, slot, k, twoway);
+            store(state, slot, &scratch, n, k, x, i, y);
+            refusal::done(0)
+        }
+    }
+}
+
+// The row i, if it is an input.
+fn receive_at(file: &[u8], state: &mut [u8], q: u16, slot: usize, i: u16, x: Settling) -> Outcome
+    requires { ⌜ (slot + 4096 ≤ length (now state)) × (slot < 65536) ⌝ }
+    ensures { λ r. ⌜ ReceivesAt (now (file .entry)) q slot i x (now (state .entry)) (now (state .exit)) r ⌝ }
+{
+    if 255 < i {
+        return refusal::refused(Refusal::MoveNotAllowed);
+    }
+    let Input::Of(o, p, twoway) = input_at(file, i) else {
+        return refusal::refused(Refusal::MoveNotAllowed);
+    };
+    receive_input(file, state, q, slot, i, x, o, p, twoway)
+}
+
+// Row r of session n of service q receives.
+pub fn receive_move(file: &[u8], state: &mut [u8], q: u16, n: u16, r: u16) -> Outcome
+    requires { ⌜ length (now state) ≡ 65536 ⌝ }
+    ensures { λ o. ⌜ Made (now (file .entry)) (λ N G. receiveMove N G q n r) (now (state .entry)) (now (state .exit)) o ⌝ }
+{
+    let Running::Session(slot, b) = moving::session_at(file, state, q, n) else {
+        return refusal::refused(Refusal::MoveNotAllowed);
+    };
+    match readiness::reach(file, state, slot, r, b) {
+        Reached::Unreached => refusal::refused(Refusal::MoveNotAllowed),
+        Reached::Reached(i) => receive_at(file, state, q, slot, i, Settling::Nothing),
+        Reached::Offered(c, k, i) => receive_at(file, state, q, slot, i, Settling::Branch(c, k)),
+    }
+}
