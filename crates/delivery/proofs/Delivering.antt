@@ -61,7 +61,7 @@ use Rattle.queues.specs.Queue.{replyOf, pushed}
 use Rattle.queues.specs.ChangeLaws.{push-state}
 use Rattle.delivery.specs.declared.Input.{Input}
 use Rattle.delivery.specs.Delivery.{Holding, Permitted, Allowed, MustFit, InputIs, InputAt, StartTree, startedWith, StoresStart, KeptOr, Saved}
-use Rattle.delivery.specs.Delivery.{StartsBy, Starts, Queues, Delivers}
+use Rattle.delivery.specs.Delivery.{StartsBy, Starts, PathWithin, InputWithin, startWithin, StartsWithin, Queues, Delivers}
 use Rattle.delivery.specs.DeliveryLaws.{holding-sized, holding-bytes, holding-part, message-tree, tree-message, Known, target-known, target-far}
 use Rattle.delivery.proofs.PathLaws.{ids-path, path-is}
 
@@ -326,6 +326,66 @@ module _ {file s l s′ : List ℕ} {slot c k a : ℕ} {to : ReplyTo} {x : Input
   }
 
 pub ruleset start-laws = (start-one-way, start-request, start-none)
+
+-- ---- whether a started session keeps to its limits
+
+module _ {file l t : List ℕ} {p : ℕ} {x : Change} (h : StartTree file p l t x) where
+  pub path-kept : {n : ℕ} → x ≡ Change.Kept n → PathWithin file p l true
+  path-kept e = record { tells = λ w lp m g. sym (kept h e w lp m g .fits) }
+
+  pub path-large : x ≡ Change.TooLarge → PathWithin file p l false
+  path-large e = record {
+    tells = λ w lp m g. sym (subst (λ (y : Change). ChangedTo t y (replaceAt voidValue (network.pathOf file p) m end)) e (h .tells w lp m g));
+  }
+
+pub ruleset path-laws = (path-kept, path-large)
+
+module _ {file l : List ℕ} {a : ℕ} {x : Input} (h : InputAt file a x) where
+  pub within-one-way : {p : ℕ} {b : Bool} → x ≡ Input.OneWay p → PathWithin file p l b → InputWithin file a l b
+  within-one-way {p} {b} e d = record {
+    tells = λ w la v i c k to m g.
+        let y = subst (λ (z : Input). InputIs file a (behaviourOf file a) z) e (h .tells w la) in
+        subst (λ (z : Behaviour). b ≡ within (started c k z to m .tree)) (sym (y .1)) (d .tells w (y .2) m g);
+  }
+
+  pub within-request : {p : ℕ} {b : Bool} → x ≡ Input.RequestResponse p → PathWithin file p l b → InputWithin file a l b
+  within-request {p} {b} e d = record {
+    tells = λ w la v i c k to m g.
+        let y = subst (λ (z : Input). InputIs file a (behaviourOf file a) z) e (h .tells w la) in
+        subst (λ (z : Behaviour). b ≡ within (started c k z to m .tree)) (sym (y .1 .2)) (d .tells w (y .2) m g);
+  }
+
+  pub within-none : {b : Bool} → x ≡ Input.Nothing → InputWithin file a l b
+  within-none e = record {
+    tells = λ w la v i c k to m g.
+        let y = subst (λ (z : Input). InputIs file a (behaviourOf file a) z) e (h .tells w la) in
+        absurd (let u = y v in let z : _≡_ {A = ℕ} 0 1 = cc in omega arith);
+  }
+
+pub ruleset input-within-laws = (within-one-way, within-request, within-none)
+
+module _ {file l : List ℕ} {t : Target} where
+  pub within-no-target : t ≡ Target.NoTarget → StartsWithin file t l true
+  unfolding targetAs
+  within-no-target e = record { tells = λ w se G o n te to m g. ap (λ (y : Target). startWithin (targetAs file y) to m) (sym e) }
+
+  pub within-full : t ≡ Target.QueueFull → StartsWithin file t l true
+  unfolding targetAs
+  within-full e = record { tells = λ w se G o n te to m g. ap (λ (y : Target). startWithin (targetAs file y) to m) (sym e) }
+
+  pub within-queued : t ≡ Target.Queued → StartsWithin file t l true
+  unfolding targetAs
+  within-queued e = record { tells = λ w se G o n te to m g. ap (λ (y : Target). startWithin (targetAs file y) to m) (sym e) }
+
+  pub within-starts : {c k a : ℕ} {b : Bool} → t ≡ Target.Starts c k a → InputWithin file a l b → StartsWithin file t l b
+  unfolding targetAs
+  within-starts {c} {k} {a} {b} e h = record {
+    tells = λ w se G o n te to m g.
+        let z = subst (Known G o n) (sym te ∙ ap (targetAs file) e) (target-known (networkOf file) G o n) in
+        h .tells w (subst (StarterExists file) e se .1) (o .row) (z .1) c k to m g ∙ ap (λ (y : Target). startWithin (targetAs file y) to m) (sym e);
+  }
+
+pub ruleset within-laws = (within-no-target, within-full, within-queued, within-starts)
 
 -- ---- a queue
 

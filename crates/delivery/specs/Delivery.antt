@@ -100,6 +100,24 @@ pub record Starts (file s : List ℕ) (slot c k a : ℕ) (to : ReplyTo) (l s′ 
       → (w : ℕ) → definition.isInputOf w (behaviourOf file a) ≡ true → (m : Tree Value) → trees.Message l m
       → Saved s slot (started c k (behaviourOf file a) to m) s′ o
 
+-- Does a session that starts so keep to its limits: by its input's path, by its input, and by the message's target? A queued message takes no tree.
+pub record PathWithin (file : List ℕ) (p : ℕ) (l : List ℕ) (x : Bool) : Type 0 where
+  pub tells : WellFormed file → p < pathCount file → (m : Tree Value) → trees.Message l m → x ≡ within (replaceAt voidValue (pathOf file p) m end)
+
+pub record InputWithin (file : List ℕ) (a : ℕ) (l : List ℕ) (x : Bool) : Type 0 where
+  pub tells : WellFormed file → a < behaviourCount file → (w : ℕ) → definition.isInputOf w (behaviourOf file a) ≡ true → (c k : ℕ) (to : ReplyTo)
+      (m : Tree Value) → trees.Message l m → x ≡ within (started c k (behaviourOf file a) to m .tree)
+
+abbrev pub startWithin : definition.Target → ReplyTo → Tree Value → Bool
+startWithin definition.noTarget to m = true
+startWithin definition.queueFull to m = true
+startWithin definition.queued to m = true
+startWithin (definition.starts c k a) to m = within (started c k a to m .tree)
+
+pub record StartsWithin (file : List ℕ) (t : Target) (l : List ℕ) (x : Bool) : Type 0 where
+  pub tells : WellFormed file → StarterExists file t → (G : State) (o : Operation) (n : ℕ) → targetAs file t ≡ definition.target (networkOf file) G o n
+      → (to : ReplyTo) (m : Tree Value) → trees.Message l m → x ≡ startWithin (targetAs file t) to m
+
 -- One more message of O row i in the queue of the slot's session.
 pub record Queues (s : List ℕ) (slot i : ℕ) (to : ReplyTo) (l s′ : List ℕ) (o : Outcome) : Type 0 where
   pub tells : i < 255 → (m : Tree Value) → trees.Message l m → (o ≡ doneWith 0) × (s′ ≡ pushed s slot i to l)

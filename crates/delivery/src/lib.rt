@@ -6,7 +6,8 @@ ghost use lib.ListN.{length};
 ghost use Rattle.state.specs.Session.{received};
 ghost use Rattle.progress.specs.Meaning.{meaning};
 ghost use Rattle.queues.specs.Queue.{replyOf};
-ghost use Rattle.delivery.specs.Delivery.{Permitted, Allowed, MustFit, InputAt, StartTree, StoresStart, StartsBy, Starts, Queues, Delivers};
+ghost use Rattle.delivery.specs.Delivery.{Permitted, Allowed, MustFit, InputAt, StartTree, StoresStart, StartsBy, Starts};
+ghost use Rattle.delivery.specs.Delivery.{PathWithin, InputWithin, StartsWithin, Queues, Delivers};
 use progress::Progress;
 use queues::ReplyTo;
 use refusal::Outcome;
@@ -161,6 +162,40 @@ fn start(
             start_by(file, state, slot, c, k, a, p, received(to), message)
         }
         Input::Nothing => refusal::refused(Refusal::MoveNotAllowed),
+    }
+}
+
+// Does the tree of a new session that receives the message into the path of P row p keep to its limits?
+fn path_within(file: &[u8], p: u16, message: &[u8]) -> bool
+    ensures { λ x. ⌜ PathWithin (now (file .entry)) p (now (message .entry)) x ⌝ }
+{
+    let mut tree = [0u8; 2304];
+    match start_tree(&mut tree, file, p, message) {
+        Change::Kept(_) => true,
+        Change::TooLarge => false,
+    }
+}
+
+// The same for the input of B row a.
+fn input_within(file: &[u8], a: u16, message: &[u8]) -> bool
+    ensures { λ x. ⌜ InputWithin (now (file .entry)) a (now (message .entry)) x ⌝ }
+{
+    match input_at(file, a) {
+        Input::OneWay(p) => path_within(file, p, message),
+        Input::RequestResponse(p) => path_within(file, p, message),
+        Input::Nothing => true,
+    }
+}
+
+// 18 at a target, before a sender goes on: does the session that the message starts keep to its limits?
+pub fn starts_within(file: &[u8], target: Target, message: &[u8]) -> bool
+    ensures { λ x. ⌜ StartsWithin (now (file .entry)) target (now (message .entry)) x ⌝ }
+{
+    match target {
+        Target::NoTarget => true,
+        Target::QueueFull => true,
+        Target::Queued => true,
+        Target::Starts(_, _, a) => input_within(file, a, message),
     }
 }
 

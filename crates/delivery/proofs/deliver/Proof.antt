@@ -1,4 +1,4 @@
-use Rattle.delivery.proofs.Delivering.{deliver-laws}
+use Rattle.delivery.proofs.Delivering.{to-full, deliver-laws}
 use borrow.Author.Needs.{needs}
 use Rattle.delivery.proofs.deliver.Statement.{statement}
 use Rattle.delivery.proofs.deliver.Tie as tie
@@ -72,7 +72,9 @@ returns-3 : tie.Need-returns-3
 returns-3 c = search (deliver-laws, needs) depth 12
 
 returns-4 : tie.Need-returns-4
-returns-4 c = search (deliver-laws, needs) depth 12
+returns-4 c =
+    let d = c .before .before .before .before .before .before .before in
+    to-full (d .before .operation-service .ensures) (d .byte-to-u16 .ensures .0) (search needs) (c .refused4 .ensures)
 
 same-length : tie.Need-same-length
 same-length c = search needs

@@ -1,4 +1,4 @@
-use Rattle.outer_moves.proofs.Outer.{arrive-laws}
+use Rattle.outer_moves.proofs.Outer.{arrive-no-message, arrive-laws}
 use borrow.Author.Needs.{needs}
 use Rattle.outer_moves.proofs.arrive.Statement.{statement}
 use Rattle.outer_moves.proofs.arrive.Tie as tie
@@ -45,7 +45,10 @@ same-length-2 : tie.Need-same-length-2
 same-length-2 c = search needs
 
 returns-2 : tie.Need-returns-2
-returns-2 c = search (arrive-laws, needs) depth 12
+returns-2 c =
+    let d = c .before .before .before .before .before in
+    arrive-no-message (d .before .target-of .ensures) (d .allowed .ensures) (search needs) (c .before .before .is-message .ensures)
+    (c .before .if1 .taken) (c .refused .ensures)
 
 request-type-requires : tie.Need-request-type-requires
 request-type-requires c κs = search needs

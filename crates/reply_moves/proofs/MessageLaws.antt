@@ -1,0 +1,178 @@
+-- The message of a reply, at each of the ways out of the code.
+use mathlib.Core.Path.{_≡_, refl, sym, ap, subst, _∙_}
+use mathlib.Core.Bool.{Bool, true, false, not, _&&_}
+use mathlib.Core.List.{List, [], _∷_, _++_}
+use Prim.Native.Nat.{ℕ, _+_, _/_, _%_, _≤_, _<_}
+use native.Mathlib.Omega.{arith}
+use lib.ListN.{length, take, drop}
+use lib.Seq.{take-all}
+use lib.Dec.{leb}
+use Rattle.forest.specs.Forest.{Tree, tree, Lookup, absent, levels, nodes}
+use Rattle.forest.specs.Path.{Path, read}
+use Rattle.scalar.specs.Value.{Value}
+use Rattle.tree.specs.Encode.{children, Octets, WellFormed, Encodes, Message, empty, messageDeep, messageMany, treeDeep, treeMany}
+use Rattle.tree.specs.EncodeLaws.{of-good}
+use Rattle.tree.specs.Decode.{decode, isPresent, isTree, isMessage}
+use Rattle.tree.specs.DecodeLaws.{decode-complete, message-sound, message-complete, encode-injective}
+use Rattle.tree.specs.Ids.{isPath}
+use Rattle.tree.specs.Ids as ids
+use Rattle.tree.specs.Standing.{Root, Spot, Followed}
+use Rattle.tree.specs.StandingLaws.{encodes-root}
+use Rattle.tree.specs.declared.Found.{Found}
+use Rattle.tree_edit.specs.Wrote.{Wrote}
+use Rattle.tree_edit.specs.WroteLaws.{wrote-more, wrote-all-of}
+use Rattle.tree_edit.specs.Change.{alone, subtreeOf}
+use Rattle.subtyping.specs.Own.{fits}
+use Rattle.network.specs.Form as network
+use Rattle.network.specs.Layout.{pathCount}
+use Rattle.network.specs.Rows.{replyType}
+use Rattle.network.specs.Decode.{pathOf, operationOf}
+use Rattle.network.specs.TestLaws.{le-of}
+use Rattle.rows.specs.Readers.{pathIds}
+use Rattle.types.specs.Tells.{FitsRow}
+use Rattle.state.specs.Session.{Session}
+use Rattle.state.specs.Bytes.{u32Bytes}
+use Rattle.state.specs.SizeLaws.{session-tree-size}
+use Rattle.moves.specs.Moves.{isMessageTree}
+use Rattle.slots.specs.Slots.{treeIn}
+use Rattle.slots.specs.SlotLaws.{Living, living-tree}
+use Rattle.waiting_rows.specs.PathLaws.{ids-are, ids-path}
+use Rattle.waiting_rows.specs.WaitingLaws.{reply-fits}
+use Rattle.reply_moves.specs.declared.Reply.{Reply}
+use Rattle.reply_moves.specs.Replying.{ReadsReply, FitsReply}
+
+apart : {A : Type 0} → false ≡ true → A
+apart e = absurd (let z : _≡_ {A = ℕ} 0 1 = cc in omega arith)
+
+unequal : {b : Bool} {A : Type 0} → b ≡ true → not b ≡ true → A
+unequal e f = absurd (let z : _≡_ {A = ℕ} 0 1 = cc in omega arith)
+
+not-true : (t : Bool) → not t ≡ true → t ≡ false
+not-true true e = apart e
+not-true false e = refl
+
+pub told : {b c : Bool} → b ≡ c → not b ≡ false → c ≡ true
+told {b} {c} e f = sym e ∙ by b f
+  where
+    by : (b : Bool) → not b ≡ false → b ≡ true
+    by true f = refl
+    by false f = apart (sym f)
+
+-- ---- `read_reply`
+
+root-good : (s : List ℕ) (at i : ℕ) (t : Tree Value) → Root s at i t → WellFormed treeDeep treeMany t
+root-good s at i t w =
+    let g = of-good (children t) treeDeep 0 (w .good) in
+    record { root = w .proper; sound = g .sound; rising = g .rising; shallow = g .shallow; few = w .small }
+
+no-length : {n : ℕ} {A : Type 0} → Reply.Missing ≡ Reply.Message n → A
+no-length e = absurd (let z : _≡_ {A = ℕ} 0 1 = cc in omega arith)
+
+module _ (file s : List ℕ) (slot c : ℕ) {t is : List ℕ} (e : t ≡ treeIn s slot) (d : is ≡ pathIds file c) where
+  encodes : {S : Session} → Living s slot S → Encodes treeDeep treeMany t (tree empty (S .tree))
+  encodes h = record { bytes = e ∙ living-tree h; good = h .made .bounded }
+
+  missing : {o : List ℕ} → (network.WellFormed file → c < pathCount file → (S : Session) → Living s slot S → read (pathOf file c) (S .tree) ≡ absent)
+      → ReadsReply file s slot c o Reply.Missing
+  missing f = record { tells = f; inside = λ n e. no-length e }
+
+  pub read-long : {o : List ℕ} → 1024 < length t → ReadsReply file s slot c o Reply.Missing
+  read-long l = missing (λ w p S h. absurd (omega (arith, l, ap length (e ∙ living-tree h), session-tree-size (S .tree) (h .made .bounded))))
+
+  pub read-no-path : {o : List ℕ} {b : Bool} → b ≡ isPath is → not b ≡ true → ReadsReply file s slot c o Reply.Missing
+  read-no-path k n = missing (λ w p S h. unequal (k ∙ (ap isPath d ∙ ids-path file w c p)) n)
+
+  pub read-no-tree : {o : List ℕ} {b : Bool} → b ≡ isTree 6 48 t → not b ≡ true → ReadsReply file s slot c o Reply.Missing
+  read-no-tree k n =
+      missing (λ w p S h. unequal (k ∙ ap (λ (l : Lookup Value). isPresent l) (decode-complete treeDeep treeMany t (tree empty (S .tree)) (encodes h))) n)
+
+  module _ {f : Found} (l : Followed t is f) where
+    spot : {g : Found} → f ≡ g → network.WellFormed file → c < pathCount file → (S : Session) → Living s slot S
+        → Spot t (ids.lastId (ids.pathOf is)) g (read (pathOf file c) (S .tree))
+    spot {g} k w p S h =
+        subst (λ (x : Path). Spot t (ids.lastId (ids.pathOf is)) g (read x (S .tree))) (ap ids.pathOf d ∙ ids-are file c)
+        (subst (λ (y : Found). Spot t (ids.lastId (ids.pathOf is)) y (read (ids.pathOf is) (S .tree))) k
+        (l .tells 0 (tree empty (S .tree)) (encodes-root treeDeep treeMany t (tree empty (S .tree)) (omega arith) (omega arith) (encodes h))
+        (ap isPath d ∙ ids-path file w c p)))
+
+    pub read-nothing : {o : List ℕ} → f ≡ Found.Nothing → ReadsReply file s slot c o Reply.Missing
+    read-nothing k = missing (λ w p S h. spot k w p S h)
+
+    pub read-message : {o o′ : List ℕ} {at n : ℕ} → f ≡ Found.At at → Wrote o o′ 0 n n (subtreeOf (ids.pathOf is) (decode 6 48 t))
+        → ReadsReply file s slot c o′ (Reply.Message n)
+    read-message {o} {o′} {at} {n} k v = record {
+      tells = λ w p S h.
+          let z = spot k w p S h in
+          let g = root-good t at (ids.lastId (ids.pathOf is)) (z .there) (z .root) in (
+            z .there,
+            z .is,
+            record {
+              bytes = v .holds
+                  ∙ (ap (subtreeOf (ids.pathOf is)) (decode-complete treeDeep treeMany t (tree empty (S .tree)) (encodes h))
+                  ∙ ap alone (ap (λ (x : Path). read x (S .tree)) (ap ids.pathOf d ∙ ids-are file c) ∙ z .is));
+              good = g;
+            },
+          );
+      inside = λ m e. let x : n ≡ m = cc in omega (arith, x, v .fits);
+    }
+
+pub ruleset read-laws = (read-long, read-no-path, read-no-tree, read-nothing, read-message)
+
+-- ---- `fits_reply`
+
+limits : (t : Tree Value) → isMessageTree t ≡ true → (levels (children t) ≤ messageDeep) × (nodes (children t) ≤ messageMany)
+limits (tree v k) e =
+    (le-of (levels k) messageDeep (first (leb (levels k) messageDeep) _ e), le-of (nodes k) messageMany (second (leb (levels k) messageDeep) _ e))
+  where
+    first : (a b : Bool) → (a && b) ≡ true → a ≡ true
+    first true b e = refl
+    first false b e = e
+
+    second : (a b : Bool) → (a && b) ≡ true → b ≡ true
+    second true b e = e
+    second false b e = apart e
+
+module _ (file m : List ℕ) (o : ℕ) (octets : Octets m) {u : Bool} (d : u ≡ isMessage m) where
+  -- A tree that is no message's.
+  no-limits : isMessage m ≡ false → (t : Tree Value) → Encodes treeDeep treeMany m t → (b : Bool) → isMessageTree t ≡ b → b ≡ false
+  no-limits e t h true i =
+      let l = limits t i in
+      let g = h .good in
+      let w : Message m t =
+      record {
+        bytes = h .bytes;
+        good = record { root = g .root; sound = g .sound; rising = g .rising; shallow = l .0; few = l .1 };
+      } in
+      apart (sym e ∙ message-complete m t w)
+  no-limits e t h false i = refl
+
+  pub fits-none : not u ≡ true → FitsReply file m o false
+  fits-none n = record {
+    tells = λ w l two t h.
+        sym (ap (λ (b : Bool). b && fits t (operationOf file o .reply)) (no-limits (sym d ∙ not-true u n) t h (isMessageTree t) refl));
+    message = λ e. apart e;
+  }
+
+  is-message : not u ≡ false → (t : Tree Value) → Encodes treeDeep treeMany m t → Message m t
+  is-message n t h =
+      let k = message-sound m octets (told d n) in
+      subst (Message m) (encode-injective messageDeep messageMany treeDeep treeMany (k .0) t (k .1 .good) (h .good) (sym (k .1 .bytes) ∙ h .bytes)) (k .1)
+
+  pub fits-told : not u ≡ false → {y : ℕ} {x : Bool} → y ≡ replyType file o → FitsRow m file y x → FitsReply file m o x
+  fits-told n i k = record {
+    tells = λ w l two t h. sym (reply-fits o k i w l two t (is-message n t h));
+    message = λ e. is-message n;
+  }
+
+pub ruleset fits-laws = (fits-none, fits-told)
+
+-- ---- `put_answer`
+
+pub answer-put : (v : ℕ) (m : List ℕ) {o₀ o₁ o₂ o₃ o₄ o₅ : List ℕ} {a b c d e n : ℕ} → Wrote o₀ o₁ 0 a 1 (v % 256 ∷ [])
+    → Wrote o₁ o₂ a b 1 (v / 256 % 256 ∷ []) → Wrote o₂ o₃ b c 1 (v / 65536 % 256 ∷ []) → Wrote o₃ o₄ c d 1 (v / 16777216 ∷ [])
+    → n ≡ length m → Wrote o₄ o₅ d e n (take n (drop 0 m)) → Wrote o₀ o₅ 0 e e (u32Bytes v ++ m)
+answer-put v m {n = n} x y z u g w =
+    wrote-all-of (ap (λ (l : List ℕ). u32Bytes v ++ l) (take-all n m (omega (arith, g))))
+    (wrote-more (wrote-more (wrote-more (wrote-more x y) z) u) w)
+
+pub ruleset answer-laws = (answer-put)

@@ -1,0 +1,214 @@
+// The move reply. 01, Moves: "reply: a request-response whose body is done answers its waiting row; for an outsider, the u32 reply number and
+// then the message go to the start of the out buffer."
+ghost use mathlib.Core.Path.{_≡_};
+ghost use mathlib.Core.List.{_++_};
+ghost use Prim.Native.Nat.{_+_, _≤_, _<_};
+ghost use lib.ListN.{length};
+ghost use Rattle.tree_edit.specs.Wrote.{Wrote};
+ghost use Rattle.state.specs.Bytes.{u32Bytes};
+ghost use Rattle.moves.specs.Moves.{replyMove};
+ghost use Rattle.moving.specs.Made.{MadeOut};
+ghost use Rattle.reply_moves.specs.Replying.{ReplyingAt, ReadsReply, FitsReply, RepliesOutside, StoresReply, RepliesInside};
+use moving::Running;
+use progress::Progress;
+use refusal::Outcome;
+use refusal::Refusal;
+use rows::BehaviourRow;
+use session_trees::Change;
+use tree::Found;
+use waiting_rows::Waiting;
+
+// The O row and the P row of the reply path of a row whose body is done; or 15.
+pub enum Replying {
+    NotAllowed,
+    Row(u16, u16),
+}
+
+// The length of a tree that was written, or that there is none.
+pub enum Reply {
+    Message(usize),
+    Missing,
+}
+
+// Is row r of the session of service q in the slot, which runs B row b, a request-response whose body is done?
+fn replying_at(file: &[u8], state: &[u8], slot: usize, b: u16, q: u16, r: u16) -> Replying
+    requires { ⌜ slot < 65536 ⌝ }
+    ensures { λ x. ⌜ ReplyingAt (now (file .entry)) (now (state .entry)) slot b q r x ⌝ }
+{
+    if !waiting_rows::has_row(file, b, r) {
+        return Replying::NotAllowed;
+    }
+    let BehaviourRow::RequestResponse(o, _, c, d) = rows::behaviour_row(file, r) else {
+        return Replying::NotAllowed;
+    };
+    if !readiness::is_done(file, state, slot, d) {
+        return Replying::NotAllowed;
+    }
+    if !operations::permits(file, q, true, true, o) {
+        return Replying::NotAllowed;
+    }
+    Replying::Row(o, c)
+}
+
+// Writes what stands at the path of P row c in the session's tree to the start of out, as a tree alone.
+fn read_reply(out: &mut [u8], file: &[u8], state: &[u8], slot: usize, c: u16) -> Reply
+    requires { ⌜ (slot + 4096 ≤ length (now state)) × (1024 ≤ length (now out)) ⌝ }
+    ensures { λ x. ⌜ ReadsReply (now (file .entry)) (now (state .entry)) slot c (now (out .exit)) x ⌝ }
+{
+    let s = slots::tree_of(state, slot);
+    let ids = rows::path_row(file, c);
+    if 1024 < s.len() {
+        return Reply::Missing;
+    }
+    if !tree::path_ok(ids) {
+        return Reply::Missing;
+    }
+    if !tree::is_tree(s, 6, 48) {
+        return Reply::Missing;
+    }
+    let Found::At(_) = tree::follow(s, ids) else {
+        return Reply::Missing;
+    };
+    Reply::Message(tree_edit::subtree(out, s, ids))
+}
+
+// Is the tree of m a message that fits the reply type of O row o?
+fn fits_reply(file: &[u8], m: &[u8], o: u16) -> bool
+    ensures { λ x. ⌜ FitsReply (now (file .entry)) (now (m .entry)) o x ⌝ }
+{
+    tree::octets(m);
+    if !tree::is_message(m) {
+        return false;
+    }
+    types::fits(m, file, rows::reply_type(file, o))
+}
+
+// Writes the reply number and the bytes of m to the start of out, and gives the place past them.
+fn put_answer(out: &mut [u8], number: u32, m: &[u8]) -> usize
+    requires { ⌜ 4 + length (now m) ≤ length (now out) ⌝ }
+    ensures { λ e. ⌜ Wrote (now (out .entry)) (now (out .exit)) 0 e e (u32Bytes number ++ now (m .entry)) ⌝ }
+{
+    let a = tree_edit::push(out, 0, (number % 256) as u8);
+    let b = tree_edit::push(out, a, (number / 256 % 256) as u8);
+    let c = tree_edit::push(out, b, (number / 65536 % 256) as u8);
+    let d = tree_edit::push(out, c, (number / 16777216) as u8);
+    tree_edit::append(out, d, m, 0, m.len())
+}
+
+// Row r of the session in the slot replies to an outsider with what stands at the path of P row c.
+fn reply_outside(
+    file: &[u8],
+    state: &mut [u8],
+    out: &mut [u8],
+    slot: usize,
+    r: u16,
+    o: u16,
+    c: u16,
+    number: u32,
+) -> Outcome
+    requires { ⌜ (slot + 4096 ≤ length (now state)) × (r < 256) ⌝ }
+    ensures { λ a. ⌜ RepliesOutside (now (file .entry)) (now (state .entry)) slot r o c number (now (state .exit)) (now (out .entry)) (now (out .exit)) a ⌝ }
+{
+    if out.len() < 512 {
+        return refusal::refused(Refusal::BufferSize);
+    }
+    let mut m = [0u8; 1024];
+    let Reply::Message(n) = read_reply(&mut m, file, state, slot, c) else {
+        return refusal::refused(Refusal::Stuck);
+    };
+    if !fits_reply(file, &m[..n], o) {
+        return refusal::refused(Refusal::MessageMisfit);
+    }
+    if 508 < n {
+        return refusal::refused(Refusal::MessageMisfit);
+    }
+    progress::put_row(state, slot, r, Progress::Done);
+    let e = put_answer(out, number, &m[..n]);
+    refusal::done(e)
+}
+
+// Row r2 of the session in the slot `to` takes the message of m as its reply, and row r of the session in the slot is done; 18 where the tree
+// would pass its limits.
+fn store_reply(
+    file: &[u8],
+    state: &mut [u8],
+    slot: usize,
+    r: u16,
+    to: usize,
+    r2: u16,
+    p: u16,
+    m: &[u8],
+) -> Outcome
+    requires { ⌜ (slot + 4096 ≤ length (now state)) × (to + 4096 ≤ length (now state)) × (r < 256) × (r2 < 256) ⌝ }
+    ensures { λ a. ⌜ StoresReply (now (file .entry)) (now (state .entry)) slot r to r2 p (now (m .entry)) (now (state .exit)) a ⌝ }
+{
+    let mut tree = [0u8; 2304];
+    let ids = rows::path_row(file, p);
+    let Change::Kept(n) = session_trees::replace(&mut tree, state, to, ids, m) else {
+        return refusal::refused(Refusal::Stuck);
+    };
+    if 1024 < n {
+        return refusal::refused(Refusal::Stuck);
+    }
+    progress::put_row(state, slot, r, Progress::Done);
+    waiting_rows::put_reply(state, to, r2, &tree, n);
+    refusal::done(0)
+}
+
+// Row r of the session in the slot replies to row r2 of session n2 of service q2 with what stands at the path of P row c.
+fn reply_inside(
+    file: &[u8],
+    state: &mut [u8],
+    slot: usize,
+    r: u16,
+    c: u16,
+    q2: u16,
+    n2: u16,
+    r2: u16,
+) -> Outcome
+    requires { ⌜ (length (now state) ≡ 65536) × (slot + 4096 ≤ 65536) × (r < 256) ⌝ }
+    ensures { λ a. ⌜ RepliesInside (now (file .entry)) (now (state .entry)) slot r c q2 n2 r2 (now (state .exit)) a ⌝ }
+{
+    let Running::Session(to, b2) = moving::session_at(file, state, q2, n2) else {
+        return refusal::refused(Refusal::MoveNotAllowed);
+    };
+    let Waiting::Row(o2, p) = waiting_rows::waiting_at(file, state, to, b2, q2, r2) else {
+        return refusal::refused(Refusal::MoveNotAllowed);
+    };
+    let mut m = [0u8; 1024];
+    let Reply::Message(n) = read_reply(&mut m, file, state, slot, c) else {
+        return refusal::refused(Refusal::Stuck);
+    };
+    if !fits_reply(file, &m[..n], o2) {
+        return refusal::refused(Refusal::MessageMisfit);
+    }
+    store_reply(file, state, slot, r, to, r2, p, &m[..n])
+}
+
+// Row r of session n of service q replies: 15 unless it is received and its body is done, 18, 19; a reply to an outsider is written out.
+pub fn reply_move(file: &[u8], state: &mut [u8], out: &mut [u8], q: u16, n: u16, r: u16) -> Outcome
+    requires { ⌜ length (now state) ≡ 65536 ⌝ }
+    ensures { λ a. ⌜ MadeOut (now (file .entry)) (λ N G. replyMove N G q n r) (now (state .entry)) (now (state .exit))
+        (now (out .entry)) (now (out .exit)) a ⌝ }
+{
+    let Running::Session(slot, b) = moving::session_at(file, state, q, n) else {
+        return refusal::refused(Refusal::MoveNotAllowed);
+    };
+    let Replying::Row(o, c) = replying_at(file, state, slot, b, q, r) else {
+        return refusal::refused(Refusal::MoveNotAllowed);
+    };
+    match progress::row_progress(state, slot, r) {
+        Progress::FromOutsider(number) => reply_outside(file, state, out, slot, r, o, c, number),
+        Progress::FromRow(q2, n2, r2) => reply_inside(
+            file,
+            state,
+            slot,
+            r,
+            c,
+            wire::byte_to_u16(q2),
+            wire::byte_to_u16(n2),
+            r2,
+        ),
+        _ => refusal::refused(Refusal::MoveNotAllowed),
+    }
+}
