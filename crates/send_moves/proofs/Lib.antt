@@ -1,0 +1,3 @@
+mod ReachedLaws
+mod RowLaws
+mod MakingLaws

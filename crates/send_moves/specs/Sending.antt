@@ -1,0 +1,95 @@
+-- What the functions tell of a row that sends: `sendAt` and `sendBy` of moves/Moves, for files that none of 2 to 5 refuses.
+use mathlib.Core.Path.{_≡_}
+use mathlib.Core.Bool.{Bool, true, false}
+use mathlib.Core.List.{List}
+use Prim.Native.Nat.{ℕ, _<_, _≤_}
+use lib.ListN.{length, take}
+use Rattle.forest.specs.Forest.{Tree}
+use Rattle.scalar.specs.Value.{Value}
+use Rattle.tree.specs.Encode.{Encodes, treeDeep, treeMany}
+use Rattle.refusal.specs.declared.Outcome.{Outcome}
+use Rattle.syntax.specs.Syntax.{Network, Optional, none, some}
+use Rattle.network.specs.Form.{WellFormed}
+use Rattle.network.specs.Layout.{expressionCount, behaviourCount, operationCount}
+use Rattle.network.specs.Decode.{expressionOf, operationOf, behaviourOf, networkOf}
+use Rattle.rows.specs.declared.BehaviourRow.{BehaviourRow}
+use Rattle.state.specs.Session.{ReplyTo, nobody, waitingRow, Progress, done, waits, Session, State}
+use Rattle.state.specs.Bytes.{readSession}
+use Rattle.moves.specs.Evaluation.{evaluate}
+use Rattle.moves.specs.Moves.{Result, notAllowed, sendInside, sendOutside, sendBy, sendAt}
+use Rattle.moves.specs.Step.{Step, finish}
+use Rattle.slots.specs.SlotLaws.{Living}
+use Rattle.moving.specs.Made.{StateOf, InSession}
+use Rattle.send_moves.specs.declared.Sending.{Sending}
+use Rattle.send_moves.specs.declared.Written.{Written}
+
+-- B: "3 notification (operation a, expression b); 4 solicit-response (a, b, into c)".
+abbrev pub outputOf : BehaviourRow → Sending
+outputOf BehaviourRow.Nil = Sending.Nothing
+outputOf (BehaviourRow.OneWay o p) = Sending.Nothing
+outputOf (BehaviourRow.RequestResponse o p c d) = Sending.Nothing
+outputOf (BehaviourRow.Notification o e) = Sending.Row o e false
+outputOf (BehaviourRow.SolicitResponse o e p) = Sending.Row o e true
+outputOf (BehaviourRow.If e a b) = Sending.Nothing
+outputOf (BehaviourRow.While e b) = Sending.Nothing
+outputOf (BehaviourRow.Sequence a b) = Sending.Nothing
+outputOf (BehaviourRow.Parallel a b) = Sending.Nothing
+outputOf (BehaviourRow.Assign p e) = Sending.Nothing
+outputOf (BehaviourRow.Choice first n) = Sending.Nothing
+outputOf (BehaviourRow.Branch a b) = Sending.Nothing
+outputOf BehaviourRow.Unknown = Sending.Nothing
+
+-- The sender's row once sent: "A solicit-response then waits." Where the reply goes: to that row; to a notification there is none.
+abbrev pub afterSending : Bool → Progress
+afterSending true = waits
+afterSending false = done
+
+abbrev pub replyBack : Bool → ℕ → ℕ → ℕ → ReplyTo
+replyBack true q n r = waitingRow q n r
+replyBack false q n r = nobody
+
+-- What row i sends by its operation and message; or 15.
+abbrev pub sendingAs : List ℕ → Network → State → ℕ → ℕ → Session → ℕ → ℕ → Sending → Result
+sendingAs file N G q n S to i Sending.Nothing = notAllowed
+sendingAs file N G q n S to i (Sending.Row o e two) =
+    sendBy N G q n S to i (operationOf file o) (expressionOf file e) (afterSending two) (replyBack two q n i)
+
+-- They are rows of the file.
+abbrev pub RowsExist : List ℕ → Sending → Type 0
+RowsExist file Sending.Nothing = Unit {0}
+RowsExist file (Sending.Row o e two) = (o < operationCount file) × (e < expressionCount file)
+
+-- Row i of the session of service q in the slot.
+pub record SendingAt (file s : List ℕ) (slot q i : ℕ) (x : Sending) : Type 0 where
+  pub tells : WellFormed file → i < behaviourCount file → (N : Network) (G : State) (n to : ℕ)
+      → sendAt N G q n (readSession s slot) to (behaviourOf file i) ≡ sendingAs file N G q n (readSession s slot) to i x
+  pub exists : WellFormed file → i < behaviourCount file → RowsExist file x
+  pub small : (o e : ℕ) (two : Bool) → x ≡ Sending.Row o e two → i < 256
+
+-- The value's tree alone in the first bytes of o; or that there is none.
+abbrev pub WrittenAs : List ℕ → Written → Optional (Tree Value) → Type 0
+WrittenAs o Written.Stuck l = l ≡ none
+WrittenAs o (Written.Message n) l = (t : Tree Value) × (l ≡ some t) × Encodes treeDeep treeMany (take n o) t
+
+-- The value of E row e in the tree of the session in the slot.
+pub record WritesMessage (file s : List ℕ) (slot e : ℕ) (o : List ℕ) (x : Written) : Type 0 where
+  pub tells : WellFormed file → e < expressionCount file → (S : Session) → Living s slot S → WrittenAs o x (evaluate (S .tree) (expressionOf file e))
+  pub inside : (n : ℕ) → x ≡ Written.Message n → n ≤ length o
+
+-- A message of E row e by O row o to a location outside, by row i of the session in the slot.
+pub record SendsOutside (file s : List ℕ) (slot i o e to : ℕ) (after : Progress) (s′ out out′ : List ℕ) (a : Outcome) : Type 0 where
+  pub tells : WellFormed file → o < operationCount file → e < expressionCount file → (G : State) → StateOf file s G → (q n b : ℕ)
+      (h : InSession file s G q n slot b) → 512 ≤ length out → _≡_ {A = Step} (record { outcome = a; state = s′; out = out′ })
+      (finish s out (sendOutside (networkOf file) G q n (h .session) to i (operationOf file o) (expressionOf file e) after))
+
+-- A message of E row e to the input of O row k, by row i of the session in the slot.
+pub record SendsInside (file s : List ℕ) (slot i k e to : ℕ) (after : Progress) (back : ReplyTo) (s′ : List ℕ) (a : Outcome) : Type 0 where
+  pub tells : WellFormed file → k < operationCount file → e < expressionCount file → (G : State) → StateOf file s G → (q n b : ℕ)
+      (h : InSession file s G q n slot b) → (out : List ℕ) → _≡_ {A = Step} (record { outcome = a; state = s′; out = out })
+      (finish s out (sendInside (networkOf file) G q n (h .session) to i (expressionOf file e) after back (operationOf file k)))
+
+-- A message of E row e by O row o, by row i of the session in the slot.
+pub record SendsBy (file s : List ℕ) (slot i o e to : ℕ) (after : Progress) (back : ReplyTo) (s′ out out′ : List ℕ) (a : Outcome) : Type 0 where
+  pub tells : WellFormed file → o < operationCount file → e < expressionCount file → (G : State) → StateOf file s G → (q n b : ℕ)
+      (h : InSession file s G q n slot b) → 512 ≤ length out → _≡_ {A = Step} (record { outcome = a; state = s′; out = out′ })
+      (finish s out (sendBy (networkOf file) G q n (h .session) to i (operationOf file o) (expressionOf file e) after back))

@@ -1,0 +1,228 @@
+// The move send. 01, Moves: "send, with a target session: to the input it meets, queued at a live one, or starting a free 1 to 3 ..". "To a
+// location outside (target 0) the message alone goes to the start of the out buffer." Everything is tested before the first store.
+ghost use mathlib.Core.Path.{_≡_};
+ghost use Prim.Native.Nat.{_+_, _%_, _≤_, _<_};
+ghost use lib.ListN.{length};
+ghost use Rattle.rows.specs.Readers.{behaviourRowOf};
+ghost use Rattle.progress.specs.Meaning.{meaning};
+ghost use Rattle.queues.specs.Queue.{replyOf};
+ghost use Rattle.moves.specs.Moves.{sendMove};
+ghost use Rattle.moving.specs.Made.{MadeOut};
+ghost use Rattle.send_moves.specs.Sending.{outputOf, afterSending, replyBack, SendingAt, WritesMessage, SendsOutside, SendsInside, SendsBy};
+use moving::Running;
+use progress::Progress;
+use queues::ReplyTo;
+use readiness::Reached;
+use refusal::Outcome;
+use refusal::Refusal;
+use refusal::Verdict;
+use rows::BehaviourRow;
+use targets::Met;
+
+// What a row sends: its operation (O row), its message (E row) and whether it is two-way; or that it sends nothing.
+pub enum Sending {
+    Nothing,
+    Row(u16, u16, bool),
+}
+
+// The length of a message that was written, or that its value is stuck.
+pub enum Written {
+    Message(usize),
+    Stuck,
+}
+
+// B row i, if it is an output.
+fn output_at(file: &[u8], i: u16) -> Sending
+    ensures { λ x. ⌜ x ≡ outputOf (behaviourRowOf (now (file .entry)) i) ⌝ }
+{
+    match rows::behaviour_row(file, i) {
+        BehaviourRow::Notification(o, e) => Sending::Row(o, e, false),
+        BehaviourRow::SolicitResponse(o, e, _) => Sending::Row(o, e, true),
+        _ => Sending::Nothing,
+    }
+}
+
+// What the reached row i of the session of service q in the slot may send.
+fn sending_at(file: &[u8], state: &[u8], slot: usize, q: u16, i: u16) -> Sending
+    requires { ⌜ slot < 65536 ⌝ }
+    ensures { λ x. ⌜ SendingAt (now (file .entry)) (now (state .entry)) slot q i x ⌝ }
+{
+    if 255 < i {
+        return Sending::Nothing;
+    }
+    let Sending::Row(o, e, twoway) = output_at(file, i) else {
+        return Sending::Nothing;
+    };
+    let Progress::Undone = progress::row_progress(state, slot, i) else {
+        return Sending::Nothing;
+    };
+    if !operations::permits(file, q, false, twoway, o) {
+        return Sending::Nothing;
+    }
+    Sending::Row(o, e, twoway)
+}
+
+// The sender's progress once sent: done, or waiting for its reply.
+fn after_sending(twoway: bool) -> Progress
+    ensures { λ x. ⌜ meaning x ≡ afterSending twoway ⌝ }
+{
+    if twoway {
+        return Progress::Waits;
+    }
+    Progress::Done
+}
+
+// Where the reply goes: to the row i of session n of service q.
+fn reply_back(twoway: bool, q: u16, n: u16, i: u16) -> ReplyTo
+    ensures { λ x. ⌜ replyOf x ≡ replyBack twoway (q % 256) (n % 256) i ⌝ }
+{
+    if twoway {
+        return ReplyTo::WaitingRow((q % 256) as u8, (n % 256) as u8, i);
+    }
+    ReplyTo::Nobody
+}
+
+// Writes the value of E row e in the session's tree to the start of out, as a tree alone.
+fn write_message(out: &mut [u8], file: &[u8], state: &[u8], slot: usize, e: u16) -> Written
+    requires { ⌜ (slot + 4096 ≤ length (now state)) × (1024 ≤ length (now out)) ⌝ }
+    ensures { λ x. ⌜ WritesMessage (now (file .entry)) (now (state .entry)) slot e (now (out .exit)) x ⌝ }
+{
+    let s = slots::tree_of(state, slot);
+    let n = evaluation::write_value(out, s, evaluation::evaluate(file, s, e));
+    if n == 0 {
+        return Written::Stuck;
+    }
+    Written::Message(n)
+}
+
+// Row i of the session in the slot sends the value of E row e by O row o to a location outside.
+fn send_outside(
+    file: &[u8],
+    state: &mut [u8],
+    out: &mut [u8],
+    slot: usize,
+    i: u16,
+    o: u16,
+    e: u16,
+    to: u16,
+    after: Progress,
+) -> Outcome
+    requires { ⌜ (slot + 4096 ≤ length (now state)) × (i < 256) ⌝ }
+    ensures { λ a. ⌜ SendsOutside (now (file .entry)) (now (state .entry)) slot i o e to (meaning after) (now (state .exit))
+        (now (out .entry)) (now (out .exit)) a ⌝ }
+{
+    if out.len() < 512 {
+        return refusal::refused(Refusal::BufferSize);
+    }
+    if to != 0 {
+        return refusal::refused(Refusal::MoveNotAllowed);
+    }
+    let mut m = [0u8; 1024];
+    let Written::Message(n) = write_message(&mut m, file, state, slot, e) else {
+        return refusal::refused(Refusal::Stuck);
+    };
+    if !delivery::must_fit(&m[..n], file, rows::request_type(file, o)) {
+        return refusal::refused(Refusal::MessageMisfit);
+    }
+    if 512 < n {
+        return refusal::refused(Refusal::MessageMisfit);
+    }
+    progress::put_row(state, slot, i, after);
+    let w = tree_edit::append(out, 0, &m[..n], 0, n);
+    refusal::done(w)
+}
+
+// Row i of the session in the slot sends the value of E row e to session `to` by the input of O row k.
+fn send_inside(
+    file: &[u8],
+    state: &mut [u8],
+    slot: usize,
+    i: u16,
+    k: u16,
+    e: u16,
+    to: u16,
+    after: Progress,
+    back: ReplyTo,
+) -> Outcome
+    requires { ⌜ (length (now state) ≡ 65536) × (slot + 4096 ≤ 65536) × (i < 256) ⌝ }
+    ensures { λ a. ⌜ SendsInside (now (file .entry)) (now (state .entry)) slot i k e to (meaning after) (replyOf back) (now (state .exit)) a ⌝ }
+{
+    let target = targets::target_of(file, state, k, to);
+    let v = delivery::allowed(
+        file,
+        wire::byte_to_u16(rows::operation_service(file, k)),
+        target,
+    );
+    let Verdict::Done = v else {
+        return Outcome {
+            bytes: 0,
+            verdict: v,
+        };
+    };
+    let mut m = [0u8; 1024];
+    let Written::Message(n) = write_message(&mut m, file, state, slot, e) else {
+        return refusal::refused(Refusal::Stuck);
+    };
+    if !delivery::must_fit(&m[..n], file, rows::request_type(file, k)) {
+        return refusal::refused(Refusal::MessageMisfit);
+    }
+    if !delivery::starts_within(file, target, &m[..n]) {
+        return refusal::refused(Refusal::Stuck);
+    }
+    progress::put_row(state, slot, i, after);
+    delivery::deliver(file, state, k, to, target, back, &m[..n])
+}
+
+// Row i of the session in the slot sends the value of E row e by O row o.
+fn send_by(
+    file: &[u8],
+    state: &mut [u8],
+    out: &mut [u8],
+    slot: usize,
+    i: u16,
+    o: u16,
+    e: u16,
+    to: u16,
+    after: Progress,
+    back: ReplyTo,
+) -> Outcome
+    requires { ⌜ (length (now state) ≡ 65536) × (slot + 4096 ≤ 65536) × (i < 256) ⌝ }
+    ensures { λ a. ⌜ SendsBy (now (file .entry)) (now (state .entry)) slot i o e to (meaning after) (replyOf back) (now (state .exit))
+        (now (out .entry)) (now (out .exit)) a ⌝ }
+{
+    if !targets::in_file(file, rows::operation_location(file, o)) {
+        return send_outside(file, state, out, slot, i, o, e, to, after);
+    }
+    let Met::Input(k) = targets::met_input(file, o) else {
+        return refusal::refused(Refusal::MoveNotAllowed);
+    };
+    send_inside(file, state, slot, i, k, e, to, after, back)
+}
+
+// Row r of session n of service q sends, with the target session `to`: 15, 16, 18, 19; a message to a location outside is written out.
+pub fn send_move(
+    file: &[u8],
+    state: &mut [u8],
+    out: &mut [u8],
+    q: u16,
+    n: u16,
+    r: u16,
+    to: u16,
+) -> Outcome
+    requires { ⌜ length (now state) ≡ 65536 ⌝ }
+    ensures { λ a. ⌜ MadeOut (now (file .entry)) (λ N G. sendMove N G q n r to) (now (state .entry)) (now (state .exit))
+        (now (out .entry)) (now (out .exit)) a ⌝ }
+{
+    let Running::Session(slot, b) = moving::session_at(file, state, q, n) else {
+        return refusal::refused(Refusal::MoveNotAllowed);
+    };
+    let Reached::Reached(i) = readiness::reach(file, state, slot, r, b) else {
+        return refusal::refused(Refusal::MoveNotAllowed);
+    };
+    let Sending::Row(o, e, twoway) = sending_at(file, state, slot, q, i) else {
+        return refusal::refused(Refusal::MoveNotAllowed);
+    };
+    let after = after_sending(twoway);
+    let back = reply_back(twoway, q, n, i);
+    send_by(file, state, out, slot, i, o, e, to, after, back)
+}

@@ -1,0 +1,71 @@
+// The stepper: a move on a file, a state's bytes, an out buffer and the bytes that come from outside. 01: "moves [try] 1 to 5 and 14 to 19";
+// "A move's result is a number and the bytes written out. Out bytes past that count stay."
+ghost use mathlib.Core.Path.{_≡_};
+ghost use Rattle.moving.specs.StepLaws.{Stepped};
+ghost use Prim.Native.Nat.{ℕ};
+ghost use lib.ListN.{length};
+ghost use Rattle.moves.specs.Moves.{move};
+ghost use Rattle.moving.specs.Made.{MadeOut};
+ghost use Rattle.stepping.specs.Moves.{moveOf};
+use refusal::Outcome;
+use refusal::Refusal;
+use refusal::Verdict;
+
+// "A move names service, session and behaviour row"; a send also its target session, an outer message its operation's id, its target session
+// and its reply number.
+pub enum Move {
+    Local(u16, u16, u16),
+    Receive(u16, u16, u16),
+    Send(u16, u16, u16, u16),
+    Reply(u16, u16, u16),
+    Outside(u16, u16, u16, u32),
+    OutsideReply(u16, u16, u16),
+    Close(u16, u16),
+}
+
+// The move itself, in a state of the file's shape.
+fn make(file: &[u8], state: &mut [u8], out: &mut [u8], m: Move, outside: &[u8]) -> Outcome
+    requires { ⌜ length (now state) ≡ 65536 ⌝ }
+    ensures { λ o. ⌜ MadeOut (now (file .entry)) (λ N G. move N G (moveOf m) (now (outside .entry))) (now (state .entry)) (now (state .exit)) (now (out .entry)) (now (out .exit)) o ⌝ }
+{
+    match m {
+        Move::Local(q, n, r) => local_moves::local_move(file, state, q, n, r),
+        Move::Receive(q, n, r) => receive_moves::receive_move(file, state, q, n, r),
+        Move::Send(q, n, r, to) => send_moves::send_move(file, state, out, q, n, r, to),
+        Move::Reply(q, n, r) => reply_moves::reply_move(file, state, out, q, n, r),
+        Move::Outside(q, id, n, number) => outer_moves::outer_message(
+            file,
+            state,
+            q,
+            id,
+            n,
+            number,
+            outside,
+        ),
+        Move::OutsideReply(q, n, r) => outer_replies::outer_reply(file, state, q, n, r, outside),
+        Move::Close(q, n) => close_moves::close_move(file, state, q, n),
+    }
+}
+
+pub fn step(file: &[u8], state: &mut [u8], out: &mut [u8], m: Move, outside: &[u8]) -> Outcome
+    ensures { λ o. ⌜ Stepped (now (file .entry)) (now (state .entry)) (now (out .entry)) (moveOf m) (now (outside .entry)) o (now (state .exit)) (now (out .exit)) ⌝ }
+{
+    if state.len() != 65536 {
+        return refusal::refused(Refusal::BufferSize);
+    }
+    if out.len() < 512 {
+        return refusal::refused(Refusal::BufferSize);
+    }
+    let v = form::form_of(file);
+    let Verdict::Done = v else {
+        return Outcome {
+            bytes: 0,
+            verdict: v,
+        };
+    };
+    tree::octets(state);
+    if !state_shape::stands(file, state) {
+        return refusal::refused(Refusal::NoState);
+    }
+    make(file, state, out, m, outside)
+}
