@@ -77,3 +77,7 @@ a-state file s x w h e = h .decodes w ∙ by x e
     by : (x : Bool) → not x ≡ false → pick x (some (readState s)) none ≡ some (readState s)
     by true e = refl
     by false e = absurd (let z : _≡_ {A = ℕ} 0 1 = cc in omega arith)
+
+-- Three facts, as three clauses ask for them.
+pub clauses : {A B C : Type 0} → A × B × C → A × (B × C)
+clauses t = (t .0, (t .1, t .2))

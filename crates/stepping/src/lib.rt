@@ -1,7 +1,7 @@
 // The stepper: a move on a file, a state's bytes, an out buffer and the bytes that come from outside. 01: "moves [try] 1 to 5 and 14 to 19";
 // "A move's result is a number and the bytes written out. Out bytes past that count stay."
 ghost use mathlib.Core.Path.{_≡_};
-ghost use Rattle.moving.specs.StepLaws.{Stepped};
+ghost use Rattle.moves.specs.Step as definition;
 ghost use Prim.Native.Nat.{ℕ};
 ghost use lib.ListN.{length};
 ghost use Rattle.moves.specs.Moves.{move};
@@ -47,8 +47,11 @@ fn make(file: &[u8], state: &mut [u8], out: &mut [u8], m: Move, outside: &[u8]) 
     }
 }
 
+// The move m, with the bytes `outside` where it takes some.
 pub fn step(file: &[u8], state: &mut [u8], out: &mut [u8], m: Move, outside: &[u8]) -> Outcome
-    ensures { λ o. ⌜ Stepped (now (file .entry)) (now (state .entry)) (now (out .entry)) (moveOf m) (now (outside .entry)) o (now (state .exit)) (now (out .exit)) ⌝ }
+    ensures { λ o. ⌜ o ≡ definition.step (now (file .entry)) (now (state .entry)) (now (out .entry)) (moveOf m) (now (outside .entry)) .outcome ⌝ }
+    ensures { λ _. ⌜ now (state .exit) ≡ definition.step (now (file .entry)) (now (state .entry)) (now (out .entry)) (moveOf m) (now (outside .entry)) .state ⌝ }
+    ensures { λ _. ⌜ now (out .exit) ≡ definition.step (now (file .entry)) (now (state .entry)) (now (out .entry)) (moveOf m) (now (outside .entry)) .out ⌝ }
 {
     if state.len() != 65536 {
         return refusal::refused(Refusal::BufferSize);
