@@ -1,8 +1,8 @@
-/* The checker of network files and the message reader of Pokhveti, for C on x86-64.
+/* The checker of network files, the stepper and the message reader of Pokhveti, for C on x86-64.
  *
  * Link with libhost.a (README, "From C"). The functions keep no state and call nothing, so they may be called from several threads at
  * once. They are total: any bytes of any length are answered. A pointer must be good for the length beside it, and is not NULL even where
- * that length is 0; a buffer that is lent for writing shares no byte with the bytes that are read. */
+ * that length is 0; a buffer that is lent for writing shares no byte with the bytes that are read or with another such buffer. */
 #ifndef POKHVETI_H
 #define POKHVETI_H
 
@@ -40,6 +40,51 @@ size_t pokhveti_environments(const uint8_t *file, size_t length, pokhveti_node *
  * starts at message[*start]; 0 with *start 0 where the child is missing or the path or the message is malformed. */
 size_t pokhveti_part(const uint8_t *message, size_t length, uint16_t first, uint16_t second, uint16_t third, uint16_t fourth,
                      size_t *start);
+
+/* Sizes of the two buffers of a move: the state has exactly so many bytes, the out buffer at least. */
+#define POKHVETI_STATE 65536
+#define POKHVETI_OUT 512
+
+/* Writes the fresh state of an accepted file: the clients live, all else free. Gives 0, otherwise the number of the refusal, 1 to 13, with
+ * its place in *place, and the state is left as it was. What a state's bytes mean is in docs/STATE.md; between two moves they belong to
+ * the caller, who may copy or store them. */
+uint32_t pokhveti_fresh(const uint8_t *file, size_t length, uint8_t *state, size_t state_size, size_t *place);
+
+/* The moves. Each gives 0 if it was made, otherwise the number of the refusal, 1 to 5 or 14 to 19, with its place in *place (0 from 14 on),
+ * and both buffers are left as they were. *bytes is how many bytes were written to the start of the out buffer, 0 if nothing went out; the
+ * bytes past them stay. Services, rows and sessions count from 0. */
+
+/* A ready assign, if or while. */
+uint32_t pokhveti_local(const uint8_t *file, size_t length, uint8_t *state, size_t state_size, uint8_t *out, size_t out_size,
+                        uint16_t service, uint16_t session, uint16_t row, size_t *bytes, size_t *place);
+
+/* A ready input takes the oldest queued message of its operation. */
+uint32_t pokhveti_receive(const uint8_t *file, size_t length, uint8_t *state, size_t state_size, uint8_t *out, size_t out_size,
+                          uint16_t service, uint16_t session, uint16_t row, size_t *bytes, size_t *place);
+
+/* A ready notification or solicit-response sends to the target session of the service that it names; to a location outside the target is
+ * 0 and the message goes to the out buffer. */
+uint32_t pokhveti_send(const uint8_t *file, size_t length, uint8_t *state, size_t state_size, uint8_t *out, size_t out_size,
+                       uint16_t service, uint16_t session, uint16_t row, uint16_t target, size_t *bytes, size_t *place);
+
+/* A received request-response whose body is done answers the row that waits, or an outsider: then the reply number (four bytes, little-
+ * endian) and the message go to the out buffer. */
+uint32_t pokhveti_reply(const uint8_t *file, size_t length, uint8_t *state, size_t state_size, uint8_t *out, size_t out_size,
+                        uint16_t service, uint16_t session, uint16_t row, size_t *bytes, size_t *place);
+
+/* A message from outside to the input operation with this id; the reply number comes back with the reply. */
+uint32_t pokhveti_outer_message(const uint8_t *file, size_t length, uint8_t *state, size_t state_size, uint8_t *out, size_t out_size,
+                                const uint8_t *outside, size_t outside_length, uint16_t service, uint16_t id, uint16_t target,
+                                uint32_t reply_number, size_t *bytes, size_t *place);
+
+/* A reply from outside to a row that waits for it. */
+uint32_t pokhveti_outer_reply(const uint8_t *file, size_t length, uint8_t *state, size_t state_size, uint8_t *out, size_t out_size,
+                              const uint8_t *outside, size_t outside_length, uint16_t service, uint16_t session, uint16_t row,
+                              size_t *bytes, size_t *place);
+
+/* A done session becomes free. */
+uint32_t pokhveti_close(const uint8_t *file, size_t length, uint8_t *state, size_t state_size, uint8_t *out, size_t out_size,
+                        uint16_t service, uint16_t session, size_t *bytes, size_t *place);
 
 #ifdef __cplusplus
 }

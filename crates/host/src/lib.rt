@@ -1,12 +1,18 @@
-// The checker and the message reader for C: numbers and slices only. A slice is passed as a pointer and a length; include/pokhveti.h has
-// the declarations.
+// The checker, fresh state, the moves and the message reader for C: numbers and slices only. A slice is passed as a pointer and a length;
+// include/pokhveti.h has the declarations.
 ghost use mathlib.Core.Path.{_≡_};
 ghost use mathlib.Core.List.{[], _∷_};
 ghost use Rattle.checking.specs.FileChecker.{checkFile};
 ghost use Rattle.listing.specs.Listed.{environmentsOf, listedCount, listedBytes};
 ghost use Rattle.part_span.specs.Span.{spanOf};
 ghost use Rattle.typing.specs.Result.{refusalNumber, refusalPlace};
+ghost use Rattle.moves.specs.Fresh.{fresh};
+ghost use Rattle.moves.specs.Moves as definition;
+ghost use Rattle.moves.specs.Moves.{local, receive, send, reply, outsideReply, close};
+ghost use Rattle.moves.specs.Step.{step};
+ghost use Rattle.host.specs.Reports.{Says, Leaves};
 use refusal::Outcome;
+use stepping::Move;
 
 // Checks a network file: 0 for an accepted one, otherwise the refusal's number; the place is written to `place`.
 #[no_mangle]
@@ -50,4 +56,154 @@ pub extern "C" fn pokhveti_part(
     let span = part_span::span_of(message, [first, second, third, fourth]);
     *start = span.start;
     span.len
+}
+
+// Writes the fresh state of an accepted file: 0, or the refusal's number; the place is written to `place`.
+#[no_mangle]
+pub extern "C" fn pokhveti_fresh(file: &[u8], state: &mut [u8], place: &mut usize) -> u32
+    ensures { λ n. ⌜ Says (fresh (now (file .entry)) (now (state .entry)) .outcome) n (now (place .exit)) ⌝ }
+    ensures { λ _. ⌜ now (state .exit) ≡ fresh (now (file .entry)) (now (state .entry)) .state ⌝ }
+{
+    let answer = fresh_state::fresh(file, state);
+    *place = refusal::place(answer);
+    refusal::number(answer) as u32
+}
+
+// A move's outcome in numbers: its own is the result, the count of bytes written out and the place are written to `bytes` and `place`.
+fn report(answer: Outcome, bytes: &mut usize, place: &mut usize) -> u32
+    ensures { λ n. ⌜ Says answer n (now (place .exit)) ⌝ }
+    ensures { λ _. ⌜ now (bytes .exit) ≡ answer .bytes ⌝ }
+{
+    *bytes = answer.bytes;
+    *place = refusal::place(answer);
+    refusal::number(answer) as u32
+}
+
+// A ready assign, if or while. Of every move the result is 0 or the number of the refusal.
+#[no_mangle]
+pub extern "C" fn pokhveti_local(
+    file: &[u8],
+    state: &mut [u8],
+    out: &mut [u8],
+    service: u16,
+    session: u16,
+    row: u16,
+    bytes: &mut usize,
+    place: &mut usize,
+) -> u32
+    ensures { λ n. ⌜ Leaves (step (now (file .entry)) (now (state .entry)) (now (out .entry)) (local service session row) []) n (now (bytes .exit)) (now (place .exit)) (now (state .exit)) (now (out .exit)) ⌝ }
+{
+    let m = Move::Local(service, session, row);
+    report(stepping::step(file, state, out, m, &[]), bytes, place)
+}
+
+// A ready input takes the oldest message of its operation.
+#[no_mangle]
+pub extern "C" fn pokhveti_receive(
+    file: &[u8],
+    state: &mut [u8],
+    out: &mut [u8],
+    service: u16,
+    session: u16,
+    row: u16,
+    bytes: &mut usize,
+    place: &mut usize,
+) -> u32
+    ensures { λ n. ⌜ Leaves (step (now (file .entry)) (now (state .entry)) (now (out .entry)) (receive service session row) []) n (now (bytes .exit)) (now (place .exit)) (now (state .exit)) (now (out .exit)) ⌝ }
+{
+    let m = Move::Receive(service, session, row);
+    report(stepping::step(file, state, out, m, &[]), bytes, place)
+}
+
+// A ready output sends its message to the target session, or out.
+#[no_mangle]
+pub extern "C" fn pokhveti_send(
+    file: &[u8],
+    state: &mut [u8],
+    out: &mut [u8],
+    service: u16,
+    session: u16,
+    row: u16,
+    target: u16,
+    bytes: &mut usize,
+    place: &mut usize,
+) -> u32
+    ensures { λ n. ⌜ Leaves (step (now (file .entry)) (now (state .entry)) (now (out .entry)) (send service session row target) []) n (now (bytes .exit)) (now (place .exit)) (now (state .exit)) (now (out .exit)) ⌝ }
+{
+    let m = Move::Send(service, session, row, target);
+    report(stepping::step(file, state, out, m, &[]), bytes, place)
+}
+
+// A request-response whose body is done answers.
+#[no_mangle]
+pub extern "C" fn pokhveti_reply(
+    file: &[u8],
+    state: &mut [u8],
+    out: &mut [u8],
+    service: u16,
+    session: u16,
+    row: u16,
+    bytes: &mut usize,
+    place: &mut usize,
+) -> u32
+    ensures { λ n. ⌜ Leaves (step (now (file .entry)) (now (state .entry)) (now (out .entry)) (reply service session row) []) n (now (bytes .exit)) (now (place .exit)) (now (state .exit)) (now (out .exit)) ⌝ }
+{
+    let m = Move::Reply(service, session, row);
+    report(stepping::step(file, state, out, m, &[]), bytes, place)
+}
+
+// A message from outside to the operation of that id.
+#[no_mangle]
+pub extern "C" fn pokhveti_outer_message(
+    file: &[u8],
+    state: &mut [u8],
+    out: &mut [u8],
+    outside: &[u8],
+    service: u16,
+    id: u16,
+    target: u16,
+    number: u32,
+    bytes: &mut usize,
+    place: &mut usize,
+) -> u32
+    ensures { λ n. ⌜ Leaves (step (now (file .entry)) (now (state .entry)) (now (out .entry)) (definition.outside service id target number) (now (outside .entry))) n (now (bytes .exit)) (now (place .exit)) (now (state .exit)) (now (out .exit)) ⌝ }
+{
+    let m = Move::Outside(service, id, target, number);
+    report(stepping::step(file, state, out, m, outside), bytes, place)
+}
+
+// A reply from outside to a waiting row.
+#[no_mangle]
+pub extern "C" fn pokhveti_outer_reply(
+    file: &[u8],
+    state: &mut [u8],
+    out: &mut [u8],
+    outside: &[u8],
+    service: u16,
+    session: u16,
+    row: u16,
+    bytes: &mut usize,
+    place: &mut usize,
+) -> u32
+    ensures { λ n. ⌜ Leaves (step (now (file .entry)) (now (state .entry)) (now (out .entry)) (outsideReply service session row) (now (outside .entry))) n (now (bytes .exit)) (now (place .exit)) (now (state .exit)) (now (out .exit)) ⌝ }
+{
+    let m = Move::OutsideReply(service, session, row);
+    report(stepping::step(file, state, out, m, outside), bytes, place)
+}
+
+// A done session becomes free.
+#[no_mangle]
+pub extern "C" fn pokhveti_close(
+    file: &[u8],
+    state: &mut [u8],
+    out: &mut [u8],
+    service: u16,
+    session: u16,
+    bytes: &mut usize,
+    place: &mut usize,
+) -> u32
+    ensures { λ n. ⌜ Leaves (step (now (file .entry)) (now (state .entry)) (now (out .entry)) (close service session) []) n (now (bytes .exit)) (now (place .exit)) (now (state .exit)) (now (out .exit)) ⌝ }
+{
+    let m = Move::Close(service, session);
+    report(stepping::step(file, state, out, m, &[]), bytes, place)
 }
