@@ -1,12 +1,14 @@
 //! Networks as text: `assemble` makes a network file, `disassemble` a text that assembles to
-//! exactly that file. docs/NETWORKS.md teaches the text.
+//! exactly that file, `rows` a list of the rows that moves name. docs/NETWORKS.md teaches the text.
 
 pub mod assemble;
 pub mod disassemble;
 pub mod parse;
+pub mod rows;
 pub mod source;
 pub mod syntax;
 
 pub use assemble::{assemble, Assembled};
 pub use disassemble::disassemble;
+pub use rows::rows;
 pub use source::Error;

@@ -3,10 +3,11 @@
 //! net assemble TEXT FILE      makes a network file of a text
 //! net disassemble FILE        prints the text of a network file
 //! net check TEXT              assembles and checks; names the line of a refusal
+//! net rows FILE               lists services, operations and behaviours with their row numbers
 
 use std::process::ExitCode;
 
-use net::{assemble, disassemble};
+use net::{assemble, disassemble, rows};
 
 fn main() -> ExitCode {
     let arguments: Vec<String> = std::env::args().skip(1).collect();
@@ -15,7 +16,8 @@ fn main() -> ExitCode {
         ["assemble", text, file] => run_assemble(text, file),
         ["disassemble", file] => run_disassemble(file),
         ["check", text] => run_check(text),
-        _ => Err("net assemble TEXT FILE | net disassemble FILE | net check TEXT".to_string()),
+        ["rows", file] => run_rows(file),
+        _ => Err("net assemble TEXT FILE | net disassemble FILE | net check TEXT | net rows FILE".to_string()),
     };
     match result {
         Ok(true) => ExitCode::SUCCESS,
@@ -41,6 +43,12 @@ fn run_assemble(name: &str, file: &str) -> Result<bool, String> {
 fn run_disassemble(name: &str) -> Result<bool, String> {
     let file = std::fs::read(name).map_err(|error| format!("{name}: {error}"))?;
     print!("{}", disassemble(&file).map_err(|refusal| format!("{name}: {refusal}: {}", refusal.cause.sentence()))?);
+    Ok(true)
+}
+
+fn run_rows(name: &str) -> Result<bool, String> {
+    let file = std::fs::read(name).map_err(|error| format!("{name}: {error}"))?;
+    print!("{}", rows(&file).map_err(|refusal| format!("{name}: {refusal}: {}", refusal.cause.sentence()))?);
     Ok(true)
 }
 

@@ -3,7 +3,7 @@
 use std::collections::BTreeSet;
 use std::path::PathBuf;
 
-use net::{assemble, disassemble};
+use net::{assemble, disassemble, rows};
 
 fn folder() -> PathBuf {
     PathBuf::from(env!("CARGO_MANIFEST_DIR")).join("../../examples")
@@ -90,4 +90,17 @@ fn the_worked_example_of_the_page_is_as_it_says() {
     let text = block("id load = 1                     // children of messages");
     let made = assemble(&text).unwrap_or_else(|error| panic!("{error}\n{text}"));
     assert_eq!(second::report(&second::check(&made.file)).trim_end(), block("accepted"));
+}
+
+#[test]
+fn rows_are_listed_with_the_numbers_that_moves_name() {
+    let file = std::fs::read(folder().join("hall.bin")).expect("a file");
+    let listed = rows(&file).expect("the file keeps to the rules");
+    let lines: Vec<&str> = listed.lines().collect();
+    assert_eq!(lines.len(), 4 + 11 + 36);
+    assert_eq!(lines[2], "service 2: location 3, starter 20, client none");
+    assert_eq!(lines[4 + 7], "operation 7: service 2, out, one-way, id 12, location 100");
+    assert_eq!(lines[15], "row 0: choice, branches 1 to 1");
+    assert_eq!(lines[15 + 4], "row 4: if, then 5, else 6");
+    assert_eq!(lines[15 + 27], "row 27: notification, operation 7");
 }
