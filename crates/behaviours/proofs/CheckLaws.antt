@@ -5,7 +5,7 @@ use mathlib.Core.List.{List}
 use mathlib.Core.Bool.{Bool, true, false, not, _&&_}
 use native.Mathlib.Omega.{arith}
 use lib.Dec.{eqb}
-use borrow.Author.Tests.{eq-eqb, ne-eqb, eqb-true}
+use borrow.Author.Tests.{eq-eqb, ne-eqb}
 use Rattle.forest.specs.Path.{Path}
 use Rattle.wire.specs.Wire.{u16At}
 use Rattle.refusal.specs.declared.Refusal.{Refusal}
@@ -14,21 +14,23 @@ use Rattle.refusal.specs.declared.Verdict.{Verdict}
 use Rattle.refusal.specs.declared.Verdict.the-variants.{Done, Refused}
 use Rattle.scalar.specs.Basic.{bool, lastBasic}
 use Rattle.scalar.specs.Value.{pick}
-use Rattle.syntax.specs.Syntax.{Types, MessageType, Expression, Direction, input, output, Operation, Behaviour, nil, sequence, branch, lastBranch, choice}
+use Rattle.syntax.specs.Syntax.{Types, MessageType, Expression, input, output, Behaviour, nil, sequence, branch, lastBranch, choice}
 use Rattle.subtyping.specs.Subtype.{rootBasic, isSubtype}
 use Rattle.typing.specs.Result.{Result, fails, yields, require, andThen, Checked, refused, passed, atRow, next}
 use Rattle.typing.specs.Environment.{leaf, place, assignTo}
 use Rattle.typing.specs.ExpressionTyping as typed
 use Rattle.typing.specs.Occurs.{noSharedRoot}
-use Rattle.typing.specs.Rules.{sameBool, sameDirection, permits}
+use Rattle.typing.specs.Rules.{permits}
 use Rattle.typing.specs.Checker.{sameTypes, limited, sends, answers, condition, agreeing, check}
 use Rattle.typing.specs.Branches.{concludeChoice}
 use Rattle.typing.specs.BranchesLaws.{first-branch, next-branch, last-branch}
 use Rattle.network.specs.Form.{WellFormed}
 use Rattle.network.specs.Layout.{pathCount, typeCount, expressionCount, behaviourCount, operationCount, behaviourAt}
-use Rattle.network.specs.Rows.{fieldA, fieldB, operationTwoWay, requestType, replyType}
-use Rattle.network.specs.RowLaws.{RootKept, OperationKept, operation-kept}
-use Rattle.network.specs.Decode.{pathOf, typeOf, expressionOf, noReply, operationOf, branchesFrom, behaviourOf}
+use Rattle.network.specs.Rows.{fieldA, fieldB, requestType, replyType}
+use Rattle.network.specs.RowLaws.{RootKept, OperationKept, operation-kept, next-at}
+use Rattle.network.specs.Decode.{pathOf, typeOf, expressionOf, operationOf, branchesFrom, behaviourOf}
+use Rattle.network.specs.TestLaws.{not-true, not-false, one-less}
+use Rattle.network.specs.DecodeLaws.{reply-row}
 use Rattle.rows.specs.declared.BehaviourRow.{BehaviourRow}
 use Rattle.rows.specs.Readers.{behaviourRowOf}
 use Rattle.types.specs.Tells.{BasicUnder}
@@ -41,6 +43,7 @@ use Rattle.expressions.specs.declared.Typing.{Typing}
 use Rattle.expressions.specs.Typings.{TypedAs, Typed}
 use Rattle.expressions.specs.SmallLaws.{small-typing}
 use Rattle.operations.specs.Directions.{directionOf}
+use Rattle.operations.specs.PermitsLaws.{two-way}
 use Rattle.behaviours.specs.Rows.{behaviourBy, Sub, BranchSubs, KeptBy}
 use Rattle.behaviours.specs.Checks.{SendsType, Sends, Receives, conditionOf, Conditions, Agrees, LeafChecks, RowChecks, Checks, Sequences, Settles, goOn, Branches}
 use Rattle.behaviours.specs.KindLaws.{row-is}
@@ -69,27 +72,6 @@ passes {s} {e} {Γ} p g = subst (λ (t : Step). Answers t (passed Γ)) (sym p) (
 required : (r : ℕ) (t : Bool) (why : ℕ → Refusal) (x : Result Types) (Γ : Types) → atRow r (require t why x) ≡ passed Γ → t ≡ true
 required r true why x Γ e = refl
 required r false why x Γ e = absurd (let z : _≡_ {A = ℕ} 0 1 = cc in omega arith)
-
-and-of : (a b : Bool) → a && b ≡ true → (a ≡ true) × (b ≡ true)
-and-of true b e = (refl, e)
-and-of false b e = absurd (let z : _≡_ {A = ℕ} 0 1 = cc in omega arith)
-
-same-true : (b : Bool) → sameBool b true ≡ true → b ≡ true
-same-true true e = refl
-same-true false e = e
-
--- A two-way operation's reply type is its T row.
-two-way : (q : ℕ) (d : Direction) (o : Operation) → permits q d true o ≡ true → o .twoWay ≡ true
-unfolding permits
-two-way q d o e =
-    let a = and-of (eqb (o .service) q) (sameDirection (o .direction) d && sameBool (o .twoWay) true) e .1 in
-    same-true (o .twoWay) (and-of (sameDirection (o .direction) d) (sameBool (o .twoWay) true) a .1)
-
-reply-row : (s : List ℕ) → WellFormed s → (o : ℕ) → o < operationCount s → operationOf s o .twoWay ≡ true
-    → (operationOf s o .reply ≡ typeOf s (replyType s o)) × (replyType s o < typeCount s)
-unfolding operationOf
-reply-row s w o l e =
-    (ap (λ (t : Bool). pick t (typeOf s (replyType s o)) noReply) e, operation-kept s w o l .reply (eqb-true (operationTwoWay s o) 1 e) .exists)
 
 request-row : (s : List ℕ) → WellFormed s → (o : ℕ) → o < operationCount s
     → (operationOf s o .request ≡ typeOf s (requestType s o)) × (requestType s o < typeCount s)
@@ -241,14 +223,6 @@ module _ (file : List ℕ) (q r p x : ℕ) (e : Environment) {ty : Typing} (h : 
 pub ruleset assign-laws = (assigned-at, assigned-leaf, assigned-missing, assigned-wrong)
 
 -- ---- sending and receiving
-
-not-true : (t : Bool) → not t ≡ true → t ≡ false
-not-true true e = sym e
-not-true false e = refl
-
-not-false : (t : Bool) → not t ≡ false → t ≡ true
-not-false true e = refl
-not-false false e = sym e
 
 require-not : {A : Type 0} (t : Bool) (why : ℕ → Refusal) (x : Result A) (r : ℕ) → t ≡ false → refused (why r) ≡ atRow r (require t why x)
 require-not t why x r e = sym (ap (λ (y : Bool). atRow r (require y why x)) e)
@@ -465,14 +439,6 @@ choice-starts q c r file Γ j zero = next-passed _
 choice-starts q c r file Γ j (suc n) =
     first-branch q r j (behaviourOf file (fieldA file (behaviourAt file j))) (behaviourOf file (fieldB file (behaviourAt file j)))
     (branchesFrom file (behaviourOf file) (suc j) (suc n)) Γ
-
-one-less : (n : ℕ) → (n ≡ 0 → ⊥) → n ≡ suc (n - 1)
-one-less zero h = absurd (h refl)
-one-less (suc n) h = omega arith
-
-next-at : (s : List ℕ) (r : ℕ) → behaviourAt s r + 10 ≡ behaviourAt s (suc r)
-unfolding behaviourAt
-next-at s r = omega arith
 
 pub branches-end : (file : List ℕ) (q c at n left : ℕ) (e d : Environment) (same : Bool) {s : Step} → n ≡ 0 → Settles c d same s → Branches file q c at n left e d same s
 unfolding goOn

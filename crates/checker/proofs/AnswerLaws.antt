@@ -1,5 +1,5 @@
 -- Laws of the checker's answer: one for each way out of the functions.
-use Prim.Native.Nat.{ℕ, zero, suc, _+_, _-_, _<_, _≤_}
+use Prim.Native.Nat.{ℕ, suc, _+_, _-_, _<_, _≤_}
 use mathlib.Core.Path.{_≡_, refl, sym, _∙_, ap, subst}
 use mathlib.Core.List.{List, [], _∷_}
 use mathlib.Core.Bool.{Bool, true, false, not, _&&_, _||_}
@@ -22,6 +22,7 @@ use Rattle.network.specs.Layout.{behaviourCount, operationCount, serviceCount}
 use Rattle.network.specs.Rows.{kindAt, isChoice, isBranch, starterRow, clientRow, noRow, starterFits, clientFits}
 use Rattle.network.specs.RowLaws.{service-kept}
 use Rattle.network.specs.Decode.{behaviourOf, serviceOf, rowsFrom, networkOf}
+use Rattle.network.specs.TestLaws.{one-less, true-false}
 use Rattle.environments.specs.declared.Environment.{Environment}
 use Rattle.environments.specs.declared.Step.{Step}
 use Rattle.environments.specs.Environment.{standing, stepOf, ShapeIn, Answers}
@@ -51,29 +52,26 @@ none-is : partOf (passed none) ≡ record { environment = standing end; verdict 
 unfolding partOf
 none-is = refl
 
-not-both : true ≡ false → ⊥
-not-both e = let z : _≡_ {A = ℕ} 0 1 = cc in omega arith
-
 choice-kind : (k : BehaviourKind) → isChoice k ≡ true → k ≡ BehaviourKind.Choice
-choice-kind BehaviourKind.Nil e = absurd (not-both (sym e))
-choice-kind BehaviourKind.OneWay e = absurd (not-both (sym e))
-choice-kind BehaviourKind.RequestResponse e = absurd (not-both (sym e))
-choice-kind BehaviourKind.Notification e = absurd (not-both (sym e))
-choice-kind BehaviourKind.SolicitResponse e = absurd (not-both (sym e))
-choice-kind BehaviourKind.If e = absurd (not-both (sym e))
-choice-kind BehaviourKind.While e = absurd (not-both (sym e))
-choice-kind BehaviourKind.Sequence e = absurd (not-both (sym e))
-choice-kind BehaviourKind.Parallel e = absurd (not-both (sym e))
-choice-kind BehaviourKind.Assign e = absurd (not-both (sym e))
+choice-kind BehaviourKind.Nil e = true-false (sym e)
+choice-kind BehaviourKind.OneWay e = true-false (sym e)
+choice-kind BehaviourKind.RequestResponse e = true-false (sym e)
+choice-kind BehaviourKind.Notification e = true-false (sym e)
+choice-kind BehaviourKind.SolicitResponse e = true-false (sym e)
+choice-kind BehaviourKind.If e = true-false (sym e)
+choice-kind BehaviourKind.While e = true-false (sym e)
+choice-kind BehaviourKind.Sequence e = true-false (sym e)
+choice-kind BehaviourKind.Parallel e = true-false (sym e)
+choice-kind BehaviourKind.Assign e = true-false (sym e)
 choice-kind BehaviourKind.Choice e = refl
-choice-kind BehaviourKind.Branch e = absurd (not-both (sym e))
-choice-kind BehaviourKind.Unknown e = absurd (not-both (sym e))
+choice-kind BehaviourKind.Branch e = true-false (sym e)
+choice-kind BehaviourKind.Unknown e = true-false (sym e)
 
 -- A test that holds, whose first part does not.
 other-part : (a b c : Bool) → a ≡ false → a || (b && c) ≡ true → (b ≡ true) × (c ≡ true)
-other-part true b c e f = absurd (not-both e)
+other-part true b c e f = true-false e
 other-part false true c e f = (refl, f)
-other-part false false c e f = absurd (not-both (sym f))
+other-part false false c e f = true-false (sym f)
 
 module _ (file : List ℕ) (q : ℕ) where
   starter-there : WellFormed file → q < serviceCount file → (starterRow file q ≡ noRow → ⊥) → (starterRow file q < behaviourCount file) × (kindAt file (starterRow file q) ≡ BehaviourKind.Choice)
@@ -214,10 +212,6 @@ service-done file q {s} {t} k u m v = record {
 pub ruleset service-laws = (service-starter, service-client, service-done)
 
 -- ---- all services
-
-one-less : (n : ℕ) → (n ≡ 0 → ⊥) → n ≡ suc (n - 1)
-one-less zero h = absurd (h refl)
-one-less (suc n) h = omega arith
 
 services-step : (file : List ℕ) (q n : ℕ) → (n ≡ 0 → ⊥) → checkServices q (rowsFrom (serviceOf file) q n)
     ≡ next (checkService q (serviceOf file q)) (λ E. next (checkServices (q + 1) (rowsFrom (serviceOf file) (q + 1) (n - 1))) (λ Es. passed (E ∷ Es)))

@@ -1,5 +1,5 @@
 -- Closing a session, at each of the ways out of the code.
-use mathlib.Core.Path.{_≡_, refl, sym, ap, subst, _∙_}
+use mathlib.Core.Path.{_≡_, sym, ap, subst, _∙_}
 use mathlib.Core.Bool.{Bool, true, false, not}
 use mathlib.Core.List.{List, []}
 use Prim.Native.Nat.{ℕ}
@@ -9,6 +9,7 @@ use Rattle.refusal.specs.Refusal.{doneWith, refusedBy}
 use Rattle.wire.specs.Wire.{withPart}
 use Rattle.network.specs.Form.{WellFormed}
 use Rattle.network.specs.Decode.{behaviourOf, networkOf}
+use Rattle.network.specs.TestLaws.{not-true, not-false}
 use Rattle.state.specs.Session.{Session, free, State, setSlot}
 use Rattle.state.specs.Bytes.{zeros, readSession, slotBytes}
 use Rattle.moves.specs.Readiness.{isDone}
@@ -16,14 +17,6 @@ use Rattle.moves.specs.Moves.{Result, moved, require, closeMove}
 use Rattle.moving.specs.declared.Running.{Running}
 use Rattle.moving.specs.Made.{StateOf, Made, InSession, Runs, RunsAt}
 use Rattle.moving.specs.MadeLaws.{made-refused, made-slot, in-session}
-
-not-true : (d : Bool) → not d ≡ true → d ≡ false
-not-true true e = sym e
-not-true false e = refl
-
-not-false : (d : Bool) → not d ≡ false → d ≡ true
-not-false true e = refl
-not-false false e = sym e
 
 -- What closing does, once it is known whether the session is done.
 abbrev closes : State → ℕ → ℕ → Bool → Result

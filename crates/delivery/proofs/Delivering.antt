@@ -3,7 +3,7 @@ use mathlib.Core.Path.{_≡_, refl, sym, ap, subst, _∙_}
 use mathlib.Core.Bool.{Bool, true, false, not, _&&_}
 use mathlib.Core.List.{List, [], _∷_, _++_}
 use mathlib.Core.Logic.{_⊎_, inl, inr}
-use Prim.Native.Nat.{ℕ, zero, suc, _+_, _*_, _≤_, _<_}
+use Prim.Native.Nat.{ℕ, _+_, _*_, _≤_, _<_}
 use native.Mathlib.Omega.{arith}
 use lib.ListN.{length, take, set, replicate}
 use lib.Seq.{take-all}
@@ -32,11 +32,13 @@ use Rattle.network.specs.Rows.{operationService}
 use Rattle.network.specs.Decode.{typeOf, behaviourOf, operationOf, networkOf}
 use Rattle.network.specs.Decode as network
 use Rattle.network.specs.RowLaws.{counts-kept}
+use Rattle.network.specs.TestLaws.{told}
 use Rattle.rows.specs.declared.BehaviourRow.{BehaviourRow}
 use Rattle.rows.proofs.BehaviourRow as rows
 use Rattle.rows.specs.Readers.{behaviourRowOf, pathIds}
 use Rattle.types.specs.Tells.{FitsRow}
 use Rattle.types.specs.TellsLaws.{fits-message}
+use Rattle.types.specs.PathLaws.{ids-path, path-is}
 use Rattle.behaviours.specs.Rows.{behaviourBy}
 use Rattle.behaviours.specs.KindLaws.{row-is}
 use Rattle.state.specs.Session.{ReplyTo, Progress, done, received, taken, advance, Queued, Session, Slot, free, live, State, setSlot, newSession}
@@ -46,12 +48,14 @@ use Rattle.state.specs.ShapeLaws.{new-made}
 use Rattle.state.specs.PartLaws.{length-zeros, part-replaced, replace-again}
 use Rattle.state.specs.SizeLaws.{message-size, slot-size}
 use Rattle.state.specs.KeepLaws.{advance-past}
+use Rattle.state.specs.FreshLaws.{replicate-zeros}
 use Rattle.moves.specs.Targets as definition
 use Rattle.moves.specs.Moves.{voidValue, isMessageTree, moved, require, permitsInput, allowed, onLive, withQueue, startedBy, started, deliver}
 use Rattle.moves.specs.Step.{Step, finish}
 use Rattle.progress.specs.declared.Progress as coded
 use Rattle.progress.specs.Meaning.{meaning}
-use Rattle.slots.specs.SlotLaws.{Living, row-set, tree-set, begin-set, living-set, set-again}
+use Rattle.slots.specs.SlotLaws.{row-set, tree-set, begin-set, living-set, set-again}
+use Rattle.slots.specs.Living.{Living}
 use Rattle.session_trees.specs.declared.Change.{Change}
 use Rattle.session_trees.specs.Changing.{KeptTree, ChangedTo, Replaces}
 use Rattle.targets.specs.declared.Target.{Target}
@@ -63,7 +67,6 @@ use Rattle.delivery.specs.declared.Input.{Input}
 use Rattle.delivery.specs.Delivery.{Holding, Permitted, Allowed, MustFit, InputIs, InputAt, StartTree, startedWith, StoresStart, KeptOr, Saved}
 use Rattle.delivery.specs.Delivery.{StartsBy, Starts, PathWithin, InputWithin, startWithin, StartsWithin, Queues, Delivers}
 use Rattle.delivery.specs.DeliveryLaws.{holding-sized, holding-bytes, holding-part, message-tree, tree-message, Known, target-known, target-far}
-use Rattle.delivery.proofs.PathLaws.{ids-path, path-is}
 
 -- ---- 15 and 16
 
@@ -98,13 +101,6 @@ module _ {file : List ℕ} {q : ℕ} {t : Target} where
 pub ruleset allowed-laws = (allowed-none, allowed-full, allowed-queued, allowed-starts)
 
 -- ---- 19
-
-told : {b c : Bool} → b ≡ c → not b ≡ false → c ≡ true
-told {b} {c} e f = sym e ∙ by b f
-  where
-    by : (b : Bool) → not b ≡ false → b ≡ true
-    by true f = refl
-    by false f = absurd (let z : _≡_ {A = ℕ} 0 1 = cc in omega arith)
 
 module _ {l file : List ℕ} {r : ℕ} {b : Bool} (e : b ≡ isMessage l) where
   pub fit-none : not b ≡ true → MustFit l file r false
@@ -192,16 +188,11 @@ new-living s {s₁} slot h e =
       made = new-made;
     })
 
-zeros-are : (n : ℕ) → replicate n 0 ≡ zeros n
-unfolding zeros
-zeros-are zero = refl
-zeros-are (suc n) = ap (λ (l : List ℕ). 0 ∷ l) (zeros-are n)
-
 -- The scratch slot, of zeros, holds a new session.
 scratch-living : {n : ℕ} {s s₁ : List ℕ} → n ≡ 4096 → s ≡ replicate n 0 → s₁ ≡ set (set (set s 0 1) (0 + 2) 5) (0 + 18) 6 → Living s₁ 0 newSession
 unfolding slotBytes
 scratch-living {n} {s} {s₁} k e f =
-    let z : s ≡ zeros 4096 = e ∙ (zeros-are n ∙ ap zeros k) in
+    let z : s ≡ zeros 4096 = e ∙ (replicate-zeros n ∙ ap zeros k) in
     let l : length s ≡ 4096 = ap length z ∙ length-zeros 4096 in
     let p : part s 0 4096 ≡ slotBytes free = take-all 4096 s (omega (arith, l)) ∙ z in
     new-living s 0 (omega (arith, l)) (f ∙ begin-set s 0 (omega (arith, l)) p)

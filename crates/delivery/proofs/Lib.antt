@@ -1,2 +1,1 @@
-pub mod PathLaws
 pub mod Delivering

@@ -5,7 +5,7 @@ use mathlib.Core.List.{List, []}
 use mathlib.Core.Logic.{_⊎_, inl, inr}
 use Prim.Native.Nat.{ℕ, suc, _+_, _*_, _/_, _%_, _≤_, _<_}
 use native.Mathlib.Omega.{arith}
-use native.Mathlib.Decide.{ℕ-discrete, decLt}
+use native.Mathlib.Decide.{decLt}
 use lib.Dec.{eqb, leb, ltb}
 use lib.ListN.{length}
 use borrow.Author.Tests.{le-leb, leb-true}
@@ -25,7 +25,8 @@ use Rattle.state.specs.Session.{Session, Slot, free, live, State, setSlot}
 use Rattle.state.specs.Bytes.{slotBytes, slotAt, stateBytes}
 use Rattle.state.specs.Shape.{behaviourIn, MadeSlot, Stands}
 use Rattle.state.specs.SizeLaws.{Sized, slot-size}
-use Rattle.state.specs.ChangeLaws.{set-same, set-other, set-bytes, slot-part}
+use Rattle.state.specs.ChangeLaws.{set-bytes, slot-part}
+use Rattle.state.specs.KeepLaws.{set-made, set-elsewhere}
 use Rattle.targets.specs.SessionLaws.{runs-where}
 use Rattle.moves.specs.Targets.{Target, noTarget, queueFull, queued, starts, isInputOf, startIf, startFrom, targetOf, onBehaviour, target}
 use Rattle.moves.specs.Moves.{isMessageTree}
@@ -57,18 +58,9 @@ pub holding-set : {s : List ℕ} {G : State} → Holding s G → (q n : ℕ) (x 
     → Holding (withPart s (4096 * (4 * q + n)) (slotBytes x)) (setSlot G q n x)
 holding-set {s} {G} h q n x i j w = record {
   bytes = holding-bytes h q n x i j w;
-  made = λ k m a b. made k m a b (ℕ-discrete k q) (ℕ-discrete m n);
-  elsewhere = λ k m o. set-other G q n x k m (λ u v. apart k m o u v) ∙ h .elsewhere k m o;
+  made = set-made G (h .made) q n x w;
+  elsewhere = set-elsewhere G (h .elsewhere) q n x i j;
 }
-  where
-    made : (k m : ℕ) → k < 4 → m < 4 → Dec (k ≡ q) → Dec (m ≡ n) → MadeSlot (setSlot G q n x k m)
-    made k m a b (yes u) (yes v) = rw (u, v, set-same G q n x) w
-    made k m a b (yes u) (no v) = rw (set-other G q n x k m (λ _ y. v y)) (h .made k m a b)
-    made k m a b (no u) v = rw (set-other G q n x k m (λ y _. u y)) (h .made k m a b)
-
-    apart : (k m : ℕ) → (4 ≤ k) ⊎ (4 ≤ m) → k ≡ q → m ≡ n → ⊥
-    apart k m (inl o) u v = omega arith
-    apart k m (inr o) u v = omega arith
 
 -- ---- messages
 

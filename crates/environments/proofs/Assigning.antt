@@ -18,7 +18,7 @@ use Rattle.typing.specs.Environment.{within, noMandatory, assignAt}
 use Rattle.typing.specs.Checker.{limited}
 use Rattle.tree.specs.Encode.{count}
 use Rattle.tree.specs.Standing.{Row, Root, Ended}
-use Rattle.tree.specs.StandingLaws.{row-root, row-rest, root-kids}
+use Rattle.tree.specs.StandingLaws.{row-root, row-rest, root-kids, moved}
 use Rattle.types.specs.Image.{typesAs, typeAs, typeHeadAt}
 use Rattle.types.specs.ImageLaws.{Seen, type-seen, type-unseen, root-type-seen, root-type-unseen}
 use Rattle.types.specs.declared.TypeHead.{TypeHead}
@@ -28,9 +28,6 @@ use Rattle.environments.specs.declared.Step.{Step}
 use Rattle.environments.specs.Environment.{Shape, StandsFor, stepOf, Answers}
 use Rattle.environments.specs.EnvironmentLaws.{answers-as, answers-pass, answers-refuse}
 use Rattle.environments.specs.Walk.{NoneMandatory, AssignsAt}
-
-moved : (s : List ℕ) (e at : ℕ) (f : Forest Value) → e ≡ at → Row s at f → Row s e f
-moved s e at f q w = subst (λ (z : ℕ). Row s z f) (sym q) w
 
 -- ---- the ways out of no_mandatory
 

@@ -10,7 +10,7 @@ use lib.Seq.{getD-take, getD-drop, take-suc, take-take, take-all}
 use lib.Dec.{T, eqb, eqb-refl}
 use borrow.Author.Tests.{not-true, not-false, eqb-true, eqb-false}
 use Rattle.forest.specs.Compare.{of-T, not-T-false, and-i}
-use Rattle.forest.specs.Forest.{Forest, end, node, Tree, tree, nodeOf, Lookup, absent, present, find, mapForest, mapTree, mapLookup}
+use Rattle.forest.specs.Forest.{end, node, Tree, tree, nodeOf, Lookup, absent, present, find, mapForest, mapTree, mapLookup}
 use Rattle.forest.specs.ForestLaws.{find-map}
 use Rattle.scalar.specs.Value.{Value, value}
 use Rattle.scalar.specs.Basic.{void}
@@ -24,7 +24,7 @@ use Rattle.tree.specs.Decode.{headAt}
 use Rattle.tree.specs.EncodeLaws.{Fine, of-good}
 use Rattle.tree.specs.DecodeLaws.{encode-injective}
 use Rattle.tree.specs.Standing.{Row, Root, Stood, Spot, Ended, Below}
-use Rattle.tree.specs.StandingLaws.{row-root, row-rest, root-kids, root-inside, root-part, Seen, seen, unseen, root-seen, root-unseen}
+use Rattle.tree.specs.StandingLaws.{row-root, row-rest, root-kids, root-inside, root-part, Seen, seen, unseen, root-seen, root-unseen, moved}
 use Rattle.tree.specs.declared.Head.{Head}
 use Rattle.tree.specs.declared.Head.the-variants.{Node, Fault}
 use Rattle.tree.specs.declared.Found.{Found}
@@ -205,9 +205,6 @@ module _ (s : List ℕ) (at e i : ℕ) (d : List ℕ) (y : Found) (b : Below d 0
 pub ruleset root-laws = (root-free, root-bound)
 
 -- ---- root by root
-
-moved : (s : List ℕ) (e at : ℕ) (f : Forest Value) → e ≡ at → Row s at f → Row s e f
-moved s e at f q w = subst (λ (z : ℕ). Row s z f) (sym q) w
 
 module _ (s : List ℕ) (at n : ℕ) (d : List ℕ) where
   pub one-none : n ≡ 0 → OneFrom s at n d true

@@ -1,37 +1,32 @@
 -- The nodes of an environment in preorder, at each of the ways out of the code.
-use mathlib.Core.Path.{_≡_, refl, ap, sym, subst, _∙_}
+use mathlib.Core.Path.{_≡_, refl, ap, sym, _∙_}
 use mathlib.Core.List.{List, [], _∷_, _++_, append-assoc}
 use mathlib.Core.Bool.{Bool, true, false}
 use Prim.Native.Nat.{ℕ, zero, suc, max, _+_, _-_, _*_, _/_, _≤_, _<_}
 use native.Mathlib.Omega.{arith}
 use lib.ListN.{length, getD, set, replicate, length-append}
-use Rattle.forest.specs.Forest.{Forest, end, node, Tree, tree, measure, nodes, levels, mapForest, mapTree}
+use Rattle.forest.specs.Forest.{end, node, Tree, tree, measure, nodes, levels, mapForest, mapTree}
 use Rattle.scalar.specs.Basic.{void}
-use Rattle.scalar.specs.Value.{Value, value}
+use Rattle.scalar.specs.Value.{value}
 use Rattle.syntax.specs.Syntax.{Mark, mark, Types}
 use Rattle.tree.specs.Encode.{count, encode}
 use Rattle.tree.specs.EncodeLaws.{length-node}
 use Rattle.tree.specs.Decode.{headAt}
 use Rattle.tree.specs.Standing.{Row, Root, Ended}
-use Rattle.tree.specs.StandingLaws.{row-root, row-kids, row-rest, root-kids, root-seen, root-unseen}
+use Rattle.tree.specs.StandingLaws.{row-root, row-kids, row-rest, root-kids, root-seen, root-unseen, moved}
 use Rattle.tree.specs.declared.Head.{Head}
 use Rattle.types.specs.Image.{flag, markValue, image, typeHeadAt, markAs}
 use Rattle.types.specs.ImageLaws.{Seen, type-seen, type-unseen, length-image, mark-back}
 use Rattle.types.specs.declared.TypeHead.{TypeHead}
 use Rattle.types.specs.declared.TypeHead.the-variants.{Node, Fault}
+use Rattle.network.specs.TestLaws.{one-less}
 use Rattle.environments.specs.declared.Environment.{Environment}
 use Rattle.environments.specs.declared.Entry.{Entry}
 use Rattle.environments.specs.Environment.{treeOf, Shape, StandsFor}
-use Rattle.environments.specs.EnvironmentLaws.{stands-root}
+use Rattle.environments.specs.EnvironmentLaws.{stands-root, length-preorder}
 use Rattle.environments.specs.Listing.{entryAt, noEntry, preorder, Lists, ListsFrom}
 
 -- ---- lists
-
-pub length-preorder : (Γ : Types) (above : List ℕ) → length (preorder above Γ) ≡ nodes Γ
-unfolding preorder measure
-length-preorder end above = refl
-length-preorder (node i (mark m b) k r) above =
-    ap suc (length-append (preorder (above ++ (i ∷ [])) k) (preorder above r)) ∙ omega (arith, length-preorder k (above ++ (i ∷ [])), length-preorder r above)
 
 get-first : (l t : List Entry) (i : ℕ) → i < length l → getD (l ++ t) i noEntry ≡ getD l i noEntry
 get-first [] t i h = absurd (omega arith)
@@ -67,9 +62,6 @@ entry-is : (path ids : List ℕ) (d : ℕ) (m n : Bool) (b c : ℕ) → ids ≡ 
 entry-is path ids d m n b c e q h = let x : m ≡ n = cc in let y : b ≡ c = cc in rw (e, q, x, y) refl
 
 -- ---- the ways out of entry_from
-
-moved : (s : List ℕ) (e at : ℕ) (f : Forest Value) → e ≡ at → Row s at f → Row s e f
-moved s e at f q w = subst (λ (z : ℕ). Row s z f) (sym q) w
 
 module _ (s : List ℕ) (at n i : ℕ) (ids : List ℕ) (depth : ℕ) (x : Entry) where
   pub list-none : n ≡ 0 → x ≡ noEntry → ListsFrom s at n i ids depth x
@@ -143,10 +135,6 @@ module _ (s : List ℕ) (at n i : ℕ) (ids : List ℕ) (depth : ℕ) (x : Entry
         unfolding count mapForest preorder measure
         list-below lt ih = record { tells = go }
           where
-            pos : (y : ℕ) → (y ≡ 0 → ⊥) → y ≡ suc (y - 1)
-            pos zero f = absurd (f refl)
-            pos (suc y) f = omega arith
-
             go : (Γ : Types) (above : List ℕ) → Row s at (image Γ) → count (image Γ) ≡ n → ids ≡ above ++ replicate (6 - length above) 0 → depth ≡ length above → depth + levels Γ ≤ 6 →
                 x ≡ getD (preorder above Γ) i noEntry
             go end above w ce p d l = absurd (z (sym ce))
@@ -155,7 +143,7 @@ module _ (s : List ℕ) (at n i : ℕ) (ids : List ℕ) (depth : ℕ) (x : Entry
                 let u = type-seen false s at j 5 (flag m ∷ g ∷ []) (image k) (image r) w h id must b c mid hp q in
                 let dn : depth + 1 ≡ length (above ++ (j ∷ [])) = omega (arith, length-next above j) in
                 let ea = ends-at j m g k r w in
-                let is = pos i i0 in
+                let is = one-less i i0 in
                 let less : i - 1 < length (preorder (above ++ (j ∷ [])) k) = omega (arith, length-preorder k (above ++ (j ∷ []))) in
                 ih .tells k (above ++ (j ∷ [])) (moved s mid _ (image k) (u .next) (row-kids s at j 5 (flag m ∷ g ∷ []) (image k) (image r) w)) (sym (u .kids))
                 (path-is above j (hd .0) p d) dn (omega arith)

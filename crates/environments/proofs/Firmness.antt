@@ -1,32 +1,29 @@
 -- Where a path stands firm, asking for a subtype there, and presence, at each of the ways out of the code.
 use mathlib.Core.Path.{_≡_, refl, ap, sym, subst, _∙_}
 use mathlib.Core.List.{List, [], _∷_}
-use mathlib.Core.Bool.{Bool, true, false, not, _&&_, _||_}
-use Prim.Native.Nat.{ℕ, zero, suc, _+_, _≤_, _<_}
+use mathlib.Core.Bool.{Bool, true, false, _&&_}
+use Prim.Native.Nat.{ℕ, zero, suc, _≤_, _<_}
 use native.Mathlib.Omega.{arith}
 use lib.ListN.{length}
-use lib.Dec.{eqb}
 use Rattle.forest.specs.Forest.{Forest, end, node, Tree, tree, Lookup, absent, present, find, childrenOf, mapForest, mapTree, mapLookup}
 use Rattle.forest.specs.ForestLaws.{find-map}
 use Rattle.forest.specs.Path.{Path, path, readSteps, read}
 use Rattle.refusal.specs.declared.Refusal.{Refusal}
 use Rattle.refusal.specs.declared.Refusal.the-variants.{PathNotFirm, TypeMisfit}
 use Rattle.refusal.specs.declared.Verdict.the-variants.{Done}
-use Rattle.scalar.specs.Value.{Value, value, pick}
+use Rattle.scalar.specs.Value.{Value, value}
 use Rattle.syntax.specs.Syntax.{Mark, mark, Types, MessageType}
 use Rattle.subtyping.specs.Subtype.{rootBasic, isSubtype}
 use Rattle.typing.specs.Result.{Result, fails, yields, require, andThen, Checked, refused, passed, atRow}
 use Rattle.typing.specs.Environment.{isPresent, isIn, firmSteps, standsFirm, theType, readFirm, firmAboveSteps, firmAbove}
 use Rattle.typing.specs.Checker.{answers}
 use Rattle.network.specs.Form.{WellFormed}
-use Rattle.network.specs.Layout.{pathCount, typeCount, pathAt}
-use Rattle.network.specs.Rows.{pathBy, pathRow}
-use Rattle.network.specs.RowLaws.{unbroken}
-use Rattle.network.specs.LeastLaws.{rule-kept}
+use Rattle.network.specs.Layout.{pathCount, typeCount}
+use Rattle.network.specs.Rows.{pathBy}
 use Rattle.network.specs.Least.{rule}
 use Rattle.network.specs.Decode as network
-use Rattle.wire.specs.Wire.{u16At}
-use Rattle.tree.specs.Ids.{zeros, endsInZeros, isPath, pathOf, lastId}
+use Rattle.network.specs.TestLaws.{and-of, true-false}
+use Rattle.tree.specs.Ids.{isPath, pathOf, lastId}
 use Rattle.tree.specs.Standing.{Root, Stood, Spot, Followed}
 use Rattle.tree.specs.declared.Found.{Found}
 use Rattle.tree.specs.declared.Found.the-variants.{At, Nothing}
@@ -36,6 +33,8 @@ use Rattle.types.specs.ImageLaws.{Seen, root-type-seen, root-type-unseen}
 use Rattle.types.specs.Tells.{TreeUnder}
 use Rattle.types.specs.declared.TypeHead.{TypeHead}
 use Rattle.types.specs.declared.TypeHead.the-variants.{Node, Fault}
+use Rattle.types.specs.PathLaws as paths
+use Rattle.rows.specs.Readers.{pathIds}
 use Rattle.environments.specs.declared.Environment.{Environment}
 use Rattle.environments.specs.declared.Step.{Step}
 use Rattle.environments.specs.declared.Reach.{Reach}
@@ -50,15 +49,8 @@ use Rattle.environments.proofs.Looking.{path-is}
 
 -- ---- all edges, and the edges above the end
 
-and-both : (a b : Bool) → (a && b) ≡ true → (a ≡ true) × (b ≡ true)
-and-both true b e = (refl, e)
-and-both false b e = (cc, cc)
-
 no-present : {A B : Type 0} {t : Tree A} → absent ≡ present t → B
 no-present e = absurd (let z : _≡_ {A = ℕ} 0 1 = cc in omega arith)
-
-true-false : {B : Type 0} → true ≡ false → B
-true-false e = absurd (let z : _≡_ {A = ℕ} 0 1 = cc in omega arith)
 
 firm-end : (p : List ℕ) (l : Lookup Mark) (m : Bool) (b : ℕ) (k : Types) → firmAboveSteps p l ≡ true → readSteps p l ≡ present (tree (mark m b) k) → firmSteps p l ≡ m
 unfolding firmAboveSteps readSteps firmSteps find
@@ -66,7 +58,7 @@ firm-end [] absent m b k f r = no-present r
 firm-end [] (present (tree (mark n c) l)) m b k f r = cc
 firm-end (j ∷ p) absent m b k f r = no-present (sym (read-none p) ∙ r)
 firm-end (j ∷ p) (present (tree (mark n c) l)) m b k f r =
-    let h = and-both n (firmAboveSteps p (find j l)) f in
+    let h = and-of n (firmAboveSteps p (find j l)) f in
     ap (λ (t : Bool). t && firmSteps p (find j l)) (h .0) ∙ firm-end p (find j l) m b k (h .1) r
 
 and-false : (a x y : Bool) → (a && x) ≡ false → (x ≡ false → y ≡ false) → (a && y) ≡ false
@@ -197,27 +189,9 @@ pub ruleset ask-laws = (ask-loose, ask-under, ask-over)
 
 -- ---- presence
 
-zeros-by : (a b c d : Bool) → not a ≡ true → (not a || b) ≡ true → (not b || c) ≡ true → (not c || d) ≡ true →
-    pick a false (pick b (c && (d && true)) (pick c (d && true) (pick d true true))) ≡ true
-zeros-by true b c d p q r s = true-false (sym p)
-zeros-by false true true true p q r s = refl
-zeros-by false true true false p q r s = true-false (sym s)
-zeros-by false true false d p q r s = true-false (sym r)
-zeros-by false false true true p q r s = refl
-zeros-by false false true false p q r s = true-false (sym s)
-zeros-by false false false true p q r s = refl
-zeros-by false false false false p q r s = refl
-
 pub ids-path : (file : List ℕ) → WellFormed file → (p : ℕ) → p < pathCount file → isPath (idsOf file p) ≡ true
-unfolding pathRow idsOf isPath endsInZeros zeros
-ids-path file wf p le =
-    let h = unbroken file wf .paths p le in
-    let a = rule-kept _ _ _ h in
-    let b = rule-kept _ _ _ (a .1) in
-    let c = rule-kept _ _ _ (b .1) in
-    let d = rule-kept _ _ _ (c .1) in
-    zeros-by (eqb (u16At file (pathAt file p)) 0) (eqb (u16At file (pathAt file p + 2)) 0) (eqb (u16At file (pathAt file p + 4)) 0) (eqb (u16At file (pathAt file p + 6)) 0)
-    (a .0) (b .0) (c .0) (d .0)
+unfolding idsOf pathIds
+ids-path file wf p le = paths.ids-path file wf p le
 
 module _ {A B : Type 0} (f : A → B) where
   children-map : (l : Lookup A) → childrenOf (mapLookup f l) ≡ mapForest f (childrenOf l)

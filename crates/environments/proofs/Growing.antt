@@ -29,7 +29,7 @@ use Rattle.wire.specs.Wire.{u16At}
 use Rattle.tree.specs.Encode.{count, encode, rooted, empty, Octets, WellFormed, Encodes}
 use Rattle.tree.specs.Decode.{decode, isPresent, isTree}
 use Rattle.tree.specs.DecodeLaws.{decode-complete}
-use Rattle.tree.specs.EncodeLaws.{length-node}
+use Rattle.tree.specs.EncodeLaws.{length-node, empty-proper}
 use Rattle.tree.specs.Ids.{steps, pathOf, Words}
 use Rattle.tree.specs.IdsLaws.{Ids, steps-ids}
 use Rattle.tree.specs.Standing.{Within}
@@ -42,7 +42,7 @@ use Rattle.types.specs.TypeRowsLaws.{TypeKeeps, type-keeps}
 use Rattle.environments.specs.declared.Environment.{Environment}
 use Rattle.environments.specs.declared.Step.{Step}
 use Rattle.environments.specs.Environment.{treeOf, bytesFor, standing, Shape, StandsFor, stepOf, Answers}
-use Rattle.environments.specs.EnvironmentLaws.{answers-as, answers-pass, answers-refuse, empty-proper, bytes-encode, bytes-length, stands-bytes, stands-len}
+use Rattle.environments.specs.EnvironmentLaws.{answers-as, answers-pass, answers-refuse, bytes-encode, bytes-length, stands-bytes, stands-len}
 use Rattle.environments.specs.Walk.{idsOf, Placeable, PutsType, Grows, GrowsRow, GrowsLeaf}
 use Rattle.environments.proofs.Looking.{path-is}
 use Rattle.environments.proofs.Assigning.{pass-answers}

@@ -5,7 +5,6 @@ use mathlib.Core.Bool.{Bool, true, false, not, _&&_}
 use Prim.Native.Nat.{ℕ, zero, suc, _+_, _-_, _≤_, _<_}
 use native.Mathlib.Omega.{arith}
 use lib.ListN.{length, getD, drop, set, replicate}
-use lib.Dec.{eqb}
 use Rattle.forest.specs.Compare.{compare}
 use Rattle.forest.specs.Forest.{Forest, end, node, Tree, tree, Lookup, absent, present, find, mapForest}
 use Rattle.forest.specs.ForestLaws.{find-eq, find-lt, find-gt}
@@ -13,7 +12,7 @@ use Rattle.forest.specs.Path.{Path, path, readSteps, read}
 use Rattle.refusal.specs.declared.Refusal.{Refusal}
 use Rattle.refusal.specs.declared.Verdict.the-variants.{Refused}
 use Rattle.scalar.specs.Basic.{void}
-use Rattle.scalar.specs.Value.{Value, value, pick}
+use Rattle.scalar.specs.Value.{Value, value}
 use Rattle.syntax.specs.Syntax.{Mark, mark, Types, MessageType}
 use Rattle.typing.specs.Result.{refused}
 use Rattle.typing.specs.Environment.{firmAboveSteps, firmAbove}
@@ -25,13 +24,15 @@ use Rattle.tree.specs.Decode.{headAt}
 use Rattle.tree.specs.Ids.{steps, pathOf, isNone}
 use Rattle.tree.specs.IdsLaws.{none-is, steps-next, path-at}
 use Rattle.tree.specs.Standing.{Row, Root, Ended}
-use Rattle.tree.specs.StandingLaws.{row-root, row-kids, row-rest, root-kids, Seen, root-seen, root-unseen}
+use Rattle.tree.specs.StandingLaws.{row-root, row-kids, row-rest, root-kids, Seen, root-seen, root-unseen, moved}
 use Rattle.tree.specs.declared.Head.{Head}
 use Rattle.tree_edit.specs.ForestWrite.{read-none, read-gap, read-on, read-hit, read-deep}
 use Rattle.types.specs.Image.{image, typesAs, typeAs, typeHeadAt}
 use Rattle.types.specs.ImageLaws as types
 use Rattle.types.specs.declared.TypeHead.{TypeHead}
 use Rattle.types.specs.declared.TypeHead.the-variants.{Node, Fault}
+use Rattle.types.specs.PathLaws as paths
+use Rattle.rows.specs.Readers.{pathIds}
 use Rattle.environments.specs.declared.Environment.{Environment}
 use Rattle.environments.specs.declared.Step.{Step}
 use Rattle.environments.specs.declared.Reach.{Reach}
@@ -56,14 +57,9 @@ pub ids-are : (file : List ℕ) (p at a b c d : ℕ) → at ≡ pathAt file p �
 unfolding idsOf
 ids-are file p at a b c d e p1 p2 p3 p4 = rw (p1, p2, p3, p4, e) refl
 
-steps-until : (l : List ℕ) → steps l ≡ network.untilZero l
-unfolding steps network.untilZero
-steps-until [] = refl
-steps-until (i ∷ is) = ap (λ (z : List ℕ). pick (eqb i 0) [] (i ∷ z)) (steps-until is)
-
 pub path-is : (file : List ℕ) (p : ℕ) → pathOf (idsOf file p) ≡ network.pathOf file p
-unfolding pathOf idsOf network.pathOf
-path-is file p = ap (path (u16At file (pathAt file p))) (steps-until (u16At file (pathAt file p + 2) ∷ u16At file (pathAt file p + 4) ∷ u16At file (pathAt file p + 6) ∷ []))
+unfolding idsOf pathIds
+path-is file p = paths.path-is file p
 
 pub ids-four : (file : List ℕ) (p : ℕ) → length (idsOf file p) ≡ 4
 unfolding idsOf
@@ -125,9 +121,6 @@ sees-end s i is = record { none = read-none is; firm = firm-none is }
 
 sees : (s : List ℕ) (r : Reach) (x : Path) {Γ Δ : Types} → Γ ≡ Δ → Sees s r x Δ → Sees s r x Γ
 sees s r x e h = subst (Sees s r x) (sym e) h
-
-moved : (s : List ℕ) (e at : ℕ) (f : Forest Value) → e ≡ at → Row s at f → Row s e f
-moved s e at f q w = subst (λ (z : ℕ). Row s z f) (sym q) w
 
 -- ---- the ways out of look_up
 

@@ -6,7 +6,7 @@ use Prim.Native.Nat.{ℕ, zero, suc, max, _+_, _-_, _*_, _/_, _%_, _≤_, _<_}
 use native.Mathlib.Omega.{arith}
 use lib.ListN.{length, getD, take, drop}
 use lib.Seq.{drop-drop}
-use Rattle.forest.specs.Forest.{Forest, end, node, Tree, tree, nodeOf, Lookup, absent, present, find, set, Above, Rising, measure, nodes, levels, mapForest, mapTree}
+use Rattle.forest.specs.Forest.{end, node, Tree, tree, nodeOf, Lookup, absent, present, find, set, Above, Rising, measure, nodes, levels, mapForest, mapTree}
 use Rattle.forest.specs.Path.{path, writeSteps, replaceAt}
 use Rattle.refusal.specs.declared.Refusal.{Refusal}
 use Rattle.refusal.specs.declared.Refusal.the-variants.{EnvironmentTooLarge}
@@ -25,7 +25,7 @@ use Rattle.tree.specs.Decode.{headAt}
 use Rattle.tree.specs.EncodeLaws.{length-node}
 use Rattle.tree.specs.Ids.{steps, pathOf}
 use Rattle.tree.specs.Standing.{Row, Root, Ended}
-use Rattle.tree.specs.StandingLaws.{row-root, row-rest, root-kids, root-inside, root-part, Seen, seen, unseen, root-seen, root-unseen}
+use Rattle.tree.specs.StandingLaws.{row-root, row-rest, root-kids, root-inside, root-part, Seen, seen, unseen, root-seen, root-unseen, moved}
 use Rattle.tree.specs.declared.Head.{Head}
 use Rattle.tree.specs.declared.Head.the-variants.{Node, Fault}
 use Rattle.tree_edit.specs.Wrote.{Wrote}
@@ -144,9 +144,6 @@ roots-of i (mark m b) k r h =
       root = record { basic = h .ranged .2; rising = h .rising .1; ranged = h .ranged .3; shallow = omega arith; few = omega arith };
       rest = record { few = omega arith; shallow = omega arith; rising = h .rising .2; ranged = h .ranged .4 };
     }
-
-moved : (s : List ℕ) (e at : ℕ) (f : Forest Value) → e ≡ at → Row s at f → Row s e f
-moved s e at f q w = subst (λ (z : ℕ). Row s z f) (sym q) w
 
 -- ---- the ways out of unite_from
 

@@ -2,7 +2,7 @@
 use mathlib.Core.Path.{_≡_, refl, ap, sym, subst, _∙_}
 use mathlib.Core.List.{List, [], _∷_, _++_, append-assoc}
 use mathlib.Core.Bool.{Bool, true, false}
-use Prim.Native.Nat.{ℕ, zero, suc, max, _+_, _-_, _*_, _≤_, _<_}
+use Prim.Native.Nat.{ℕ, zero, suc, max, _+_, _-_, _*_, _≤_}
 use native.Mathlib.Omega.{arith}
 use lib.ListN.{length, take, drop, replicate, length-append, length-replicate}
 use lib.Seq.{take-append-seam}
@@ -10,19 +10,20 @@ use Rattle.forest.specs.Forest.{Forest, end, node, Tree, tree, Rising, measure,
 use Rattle.refusal.specs.declared.Refusal.{Refusal}
 use Rattle.refusal.specs.declared.Verdict.{Verdict}
 use Rattle.refusal.specs.declared.Verdict.the-variants.{Done, Refused}
-use Rattle.scalar.specs.Value.{Value, value, isValue}
+use Rattle.scalar.specs.Value.{Value, value}
 use Rattle.scalar.specs.Basic.{void}
-use Rattle.syntax.specs.Syntax.{Types}
+use Rattle.syntax.specs.Syntax.{Types, mark}
 use Rattle.typing.specs.Result.{Checked, refused, passed}
-use Rattle.tree.specs.Encode.{count, encode, rooted, empty, Octets, Proper, Sound, WellFormed, Encodes, treeDeep, treeMany}
+use Rattle.tree.specs.Encode.{count, encode, rooted, Octets, Sound, WellFormed, Encodes, treeDeep, treeMany}
 use Rattle.tree.specs.Standing.{Good, Row, Root}
-use Rattle.tree.specs.EncodeLaws.{Fields, good-of, sound-above, unique, length-node}
+use Rattle.tree.specs.EncodeLaws.{Fields, good-of, sound-above, unique, length-node, empty-proper}
 use Rattle.tree.specs.StandingLaws.{root-fields, root-kids}
 use Rattle.types.specs.Image.{markValue, image, InRange, typesAs}
 use Rattle.types.specs.ImageLaws.{image-back, measure-map, length-image, image-sound, rising-map}
 use Rattle.environments.specs.declared.Environment.{Environment}
 use Rattle.environments.specs.declared.Step.{Step}
 use Rattle.environments.specs.Environment.{treeOf, bytesFor, standing, Shape, StandsFor, stepOf, ShapeIn, Answers}
+use Rattle.environments.specs.Listing.{preorder}
 
 -- ---- what a step answers
 
@@ -64,13 +65,6 @@ unfolding stepOf
 answers-pass h = record { is = ap (λ (z : Environment). record { environment = z; verdict = Done }) (h .is); shape = h .shape }
 
 -- ---- environments in bytes
-
-pub empty-proper : Proper empty
-unfolding isValue
-empty-proper = record { valid = refl; bytes = record { small = λ k. by k } }
-  where
-    by : (k : ℕ) → 0 < 256
-    by k = omega arith
 
 pub tree-well-formed : (Γ : Types) → Shape Γ → WellFormed treeDeep treeMany (treeOf Γ)
 tree-well-formed Γ h = record {
@@ -138,3 +132,11 @@ empty-shape = record { few = omega arith; shallow = omega arith; rising = tt; ra
 
 pub stands-empty : StandsFor (standing end) end
 stands-empty = record { is = refl; shape = empty-shape }
+
+-- ---- nodes in preorder
+
+pub length-preorder : (Γ : Types) (above : List ℕ) → length (preorder above Γ) ≡ nodes Γ
+unfolding preorder measure
+length-preorder end above = refl
+length-preorder (node i (mark m b) k r) above =
+    ap suc (length-append (preorder (above ++ (i ∷ [])) k) (preorder above r)) ∙ omega (arith, length-preorder k (above ++ (i ∷ [])), length-preorder r above)

@@ -1,7 +1,7 @@
 -- The union of environments in which each root has one type only grows: where a part of it passes the limits, the whole does.
-use mathlib.Core.Path.{_≡_, refl, ap, sym, subst, _∙_}
+use mathlib.Core.Path.{_≡_, ap, sym, subst, _∙_}
 use mathlib.Core.List.{List, [], _∷_}
-use mathlib.Core.Bool.{Bool, true, false, _&&_}
+use mathlib.Core.Bool.{Bool, true, _&&_}
 use Prim.Native.Nat.{ℕ, max, _+_, _≤_}
 use native.Mathlib.Omega.{arith}
 use lib.Dec.{T, eqb, eqb→eq}
@@ -19,6 +19,7 @@ use Rattle.typing.specs.NetworkRules.{union}
 use Rattle.typing.specs.NetworkChecker.{sameTree, oneTypeAt, oneType}
 use Rattle.typing.specs.NetworkLaws.{either, find-union, AllRising}
 use Rattle.typing.specs.Branches.{unionFrom, oneTypeFrom}
+use Rattle.network.specs.TestLaws.{and-of}
 
 pub same-tree-eq : (t u : MessageType) → T (sameTree t u) → t ≡ u
 same-tree-eq (tree (mark m b) k) (tree (mark n c) l) h =
@@ -28,13 +29,9 @@ same-tree-eq (tree (mark m b) k) (tree (mark n c) l) h =
     let w = sameTypes-eq k l (and-r (eqb b c) (sameTypes k l) r) in
     cc
 
-pub and-both : (a b : Bool) → (a && b) ≡ true → (a ≡ true) × (b ≡ true)
-and-both true b e = (refl, e)
-and-both false b e = (cc, cc)
-
 pub one-parts : (i : ℕ) (a : Mark) (k r Δ : Types) → oneType (node i a k r) Δ ≡ true → (oneTypeAt (tree a k) (find i Δ) ≡ true) × (oneType r Δ ≡ true)
 unfolding oneType
-one-parts i a k r Δ e = and-both (oneTypeAt (tree a k) (find i Δ)) (oneType r Δ) e
+one-parts i a k r Δ e = and-of (oneTypeAt (tree a k) (find i Δ)) (oneType r Δ) e
 
 found-size : (g : ℕ → ℕ → ℕ) (t : MessageType) (l : Lookup Mark) → oneTypeAt t l ≡ true → measureLookup g l ≤ measureLookup g (present t)
 found-size g (tree a k) absent e = omega arith
@@ -66,10 +63,10 @@ union-within (node i a k r) Δ w o n =
     let p = one-parts i a k r Δ o in
     union-within r Δ (w .2) (p .1) (root-within i a k r Δ (w .0) (w .2) (p .0) n)
 
-from-start : (one : Bool) (Γ : Types) (Δs : List Types) → oneTypeFrom one Γ Δs ≡ true → one ≡ true
+pub from-start : (one : Bool) (Γ : Types) (Δs : List Types) → oneTypeFrom one Γ Δs ≡ true → one ≡ true
 unfolding oneTypeFrom
 from-start one Γ [] e = e
-from-start one Γ (Δ ∷ Δs) e = and-both one (oneType Δ Γ) (from-start (one && oneType Δ Γ) (union Δ Γ) Δs e) .0
+from-start one Γ (Δ ∷ Δs) e = and-of one (oneType Δ Γ) (from-start (one && oneType Δ Γ) (union Δ Γ) Δs e) .0
 
 -- all the others, one after another
 pub unionFrom-within : (one : Bool) (Γ : Types) (Δs : List Types) → AllRising Δs → oneTypeFrom one Γ Δs ≡ true → within (unionFrom Γ Δs) ≡ true →
@@ -77,5 +74,5 @@ pub unionFrom-within : (one : Bool) (Γ : Types) (Δs : List Types) → AllRisin
 unfolding unionFrom oneTypeFrom AllRising
 unionFrom-within one Γ [] w o n = n
 unionFrom-within one Γ (Δ ∷ Δs) w o n =
-    union-within Δ Γ (w .0) (and-both one (oneType Δ Γ) (from-start (one && oneType Δ Γ) (union Δ Γ) Δs o) .1)
+    union-within Δ Γ (w .0) (and-of one (oneType Δ Γ) (from-start (one && oneType Δ Γ) (union Δ Γ) Δs o) .1)
     (unionFrom-within (one && oneType Δ Γ) (union Δ Γ) Δs (w .1) o n)

@@ -1,14 +1,14 @@
 -- Laws of evaluation: trees and paths in the session's tree, and E rows; one for each way out of the functions.
 use Prim.Native.Nat.{ℕ, _+_, _-_, _<_, _≤_}
 use mathlib.Core.Path.{_≡_, refl, sym, _∙_, ap, subst}
-use mathlib.Core.List.{List, [], _∷_}
-use mathlib.Core.Bool.{Bool, true, false, not, _&&_, _||_}
+use mathlib.Core.List.{List}
+use mathlib.Core.Bool.{Bool, true, false, _||_}
 use native.Mathlib.Omega.{arith}
 use lib.ListN.{length}
-use lib.Dec.{eqb, leb}
-use Rattle.wire.specs.Wire.{u16At, part}
+use lib.Dec.{leb}
+use Rattle.wire.specs.Wire.{part}
 use Rattle.forest.specs.Forest.{Forest, Tree, tree, Lookup}
-use Rattle.forest.specs.Path.{Path, path, read}
+use Rattle.forest.specs.Path.{Path, read}
 use Rattle.scalar.specs.Value.{Value, value, pick, isValue}
 use Rattle.scalar.specs.Operator.{ofBool}
 use Rattle.scalar.specs.Scalar.{valueOf}
@@ -17,16 +17,14 @@ use Rattle.syntax.specs.Syntax.{Optional, none, some, Expression, constant, val
 use Rattle.tree.specs.Encode.{Encodes, empty, payload, treeDeep, treeMany}
 use Rattle.tree.specs.EncodeLaws.{sized, got, and-right}
 use Rattle.tree.specs.Decode as bytes
-use Rattle.tree.specs.Ids.{steps, zeros, endsInZeros, isPath, pathOf, lastId}
+use Rattle.tree.specs.Ids.{isPath, pathOf, lastId}
 use Rattle.tree.specs.Standing.{Root, Spot, Followed}
 use Rattle.tree.specs.StandingLaws.{encodes-root, root-fields, root-seen, root-unseen}
 use Rattle.tree.specs.declared.Head.{Head}
 use Rattle.tree.specs.declared.Found.{Found}
 use Rattle.network.specs.Form.{WellFormed}
-use Rattle.network.specs.Layout.{pathCount, pathAt, expressionCount, dataSize, dataPart}
-use Rattle.network.specs.Rows.{pathRow, constantFits}
-use Rattle.network.specs.RowLaws.{unbroken}
-use Rattle.network.specs.LeastLaws.{rule-kept}
+use Rattle.network.specs.Layout.{pathCount, expressionCount, dataSize, dataPart}
+use Rattle.network.specs.Rows.{constantFits}
 use Rattle.network.specs.Decode as network
 use Rattle.network.specs.Decode.{expressionOf}
 use Rattle.rows.specs.Readers.{pathIds}
@@ -34,6 +32,7 @@ use Rattle.expressions.specs.Parts.{unaryOf, binaryOf}
 use Rattle.expressions.specs.declared.UnaryOperator.{UnaryOperator}
 use Rattle.expressions.specs.declared.BinaryOperator.{BinaryOperator}
 use Rattle.moves.specs.Evaluation.{leaf, found, isThere, applyUnary, applyBinary, onRoot, asLeaf, evaluate}
+use Rattle.types.specs.PathLaws.{path-is, ids-path}
 use Rattle.evaluation.specs.declared.Source.{Source}
 use Rattle.evaluation.specs.declared.Evaluated.{Evaluated}
 use Rattle.evaluation.specs.declared.Part.{Part}
@@ -91,43 +90,6 @@ pub tree-fault : (s : List ℕ) (at : ℕ) {h : Head} (x : Evaluated) → h ≡ 
 tree-fault s at x p q = record { tells = λ i t w. root-unseen s at i t w _ p q }
 
 pub ruleset place-laws = (tree-there, tree-fault)
-
--- ---- the path of a P row
-
-steps-until : (l : List ℕ) → steps l ≡ network.untilZero l
-unfolding steps network.untilZero
-steps-until [] = refl
-steps-until (i ∷ is) = ap (λ (z : List ℕ). pick (eqb i 0) [] (i ∷ z)) (steps-until is)
-
-path-is : (file : List ℕ) (p : ℕ) → pathOf (pathIds file p) ≡ network.pathOf file p
-unfolding pathOf pathIds network.pathOf
-path-is file p =
-    ap (path (u16At file (pathAt file p))) (steps-until (u16At file (pathAt file p + 2) ∷ u16At file (pathAt file p + 4) ∷ u16At file (pathAt file p + 6) ∷ []))
-
-true-false : {B : Type 0} → true ≡ false → B
-true-false e = absurd (let z : _≡_ {A = ℕ} 0 1 = cc in omega arith)
-
-zeros-by : (a b c d : Bool) → not a ≡ true → (not a || b) ≡ true → (not b || c) ≡ true → (not c || d) ≡ true →
-    pick a false (pick b (c && (d && true)) (pick c (d && true) (pick d true true))) ≡ true
-zeros-by true b c d p q r s = true-false (sym p)
-zeros-by false true true true p q r s = refl
-zeros-by false true true false p q r s = true-false (sym s)
-zeros-by false true false d p q r s = true-false (sym r)
-zeros-by false false true true p q r s = refl
-zeros-by false false true false p q r s = true-false (sym s)
-zeros-by false false false true p q r s = refl
-zeros-by false false false false p q r s = refl
-
-ids-path : (file : List ℕ) → WellFormed file → (p : ℕ) → p < pathCount file → isPath (pathIds file p) ≡ true
-unfolding pathRow pathIds isPath endsInZeros zeros
-ids-path file wf p le =
-    let h = unbroken file wf .paths p le in
-    let a = rule-kept _ _ _ h in
-    let b = rule-kept _ _ _ (a .1) in
-    let c = rule-kept _ _ _ (b .1) in
-    let d = rule-kept _ _ _ (c .1) in
-    zeros-by (eqb (u16At file (pathAt file p)) 0) (eqb (u16At file (pathAt file p + 2)) 0) (eqb (u16At file (pathAt file p + 4)) 0)
-    (eqb (u16At file (pathAt file p + 6)) 0) (a .0) (b .0) (c .0) (d .0)
 
 -- ---- paths
 

@@ -1,21 +1,21 @@
 -- Laws of E rows by their parts: what a row's parts say of its expression in a file that none of 2 to 5 refuses.
-use Prim.Native.Nat.{ℕ, zero, suc, _+_, _<_, _≤_}
+use Prim.Native.Nat.{ℕ, _+_, _<_, _≤_}
 use mathlib.Core.Path.{_≡_, refl, sym, _∙_, ap, subst}
 use mathlib.Core.List.{List}
 use mathlib.Core.Bool.{Bool, true, false, _&&_}
-use native.Mathlib.Omega.{arith}
 use lib.Dec.{ltb}
 use borrow.Author.Tests.{ltb-true, lt-ltb, le-ltb}
 use Rattle.scalar.specs.Value.{value, pick}
 use Rattle.syntax.specs.Syntax.{Expression, constant, valueAt, presence, unary, binary}
 use Rattle.wire.specs.Wire.{byteAt}
 use Rattle.network.specs.declared.ExpressionKind.{ExpressionKind}
-use Rattle.network.specs.Kinds.{expressionKind, expressionFields}
+use Rattle.network.specs.Kinds.{expressionFields}
 use Rattle.network.specs.Layout.{pathCount, expressionCount, expressionAt, dataPart}
 use Rattle.network.specs.Rows.{fieldA, fieldB, fieldC, expressionKindAt, fieldFits, basicFits, constantFits}
 use Rattle.network.specs.Form.{WellFormed}
 use Rattle.network.specs.Decode.{pathOf, expressionFrom, expressionOf}
-use Rattle.network.specs.DecodeLaws.{expression-kept, expression-row}
+use Rattle.network.specs.DecodeLaws.{expression-kept, expression-row, known-expression}
+use Rattle.network.specs.TestLaws.{and-of, both-true}
 use Rattle.rows.specs.declared.ExpressionRow.{ExpressionRow}
 use Rattle.rows.specs.Readers.{expressionRowAs, expressionRowOf}
 use Rattle.expressions.specs.declared.UnaryOperator.{UnaryOperator}
@@ -58,10 +58,6 @@ Falls r (Part.Presence p) = Unit {0}
 Falls r (Part.Unary o a) = a < r
 Falls r (Part.Binary o a b) = (a < r) × (b < r)
 Falls r Part.Broken = Unit {0}
-
-and-of : (a b : Bool) → a && b ≡ true → (a ≡ true) × (b ≡ true)
-and-of true b e = (refl, e)
-and-of false b e = absurd (let z : _≡_ {A = ℕ} 0 1 = cc in omega arith)
 
 falls-unary : (o : UnaryOperator) (a r : ℕ) → Falls r (unaryPart o a r)
 unfolding unaryPart
@@ -111,20 +107,6 @@ PartIs s r e (Part.Unary o a) = (e ≡ unary (unaryOf o) (expressionOf s a)) × 
 PartIs s r e (Part.Binary o a b) = (e ≡ binary (binaryOf o) (expressionOf s a) (expressionOf s b)) × (a < r) × (b < r)
 PartIs s r e Part.Broken = ⊥
 
-known : (n : ℕ) → n ≤ 9 → expressionKind n ≡ ExpressionKind.Unknown → ⊥
-unfolding expressionKind
-known zero l e = let z : _≡_ {A = ℕ} 0 1 = cc in omega arith
-known (suc zero) l e = let z : _≡_ {A = ℕ} 0 1 = cc in omega arith
-known (suc (suc zero)) l e = let z : _≡_ {A = ℕ} 0 1 = cc in omega arith
-known (suc (suc (suc zero))) l e = let z : _≡_ {A = ℕ} 0 1 = cc in omega arith
-known (suc (suc (suc (suc zero)))) l e = let z : _≡_ {A = ℕ} 0 1 = cc in omega arith
-known (suc (suc (suc (suc (suc zero))))) l e = let z : _≡_ {A = ℕ} 0 1 = cc in omega arith
-known (suc (suc (suc (suc (suc (suc zero)))))) l e = let z : _≡_ {A = ℕ} 0 1 = cc in omega arith
-known (suc (suc (suc (suc (suc (suc (suc zero))))))) l e = let z : _≡_ {A = ℕ} 0 1 = cc in omega arith
-known (suc (suc (suc (suc (suc (suc (suc (suc zero)))))))) l e = let z : _≡_ {A = ℕ} 0 1 = cc in omega arith
-known (suc (suc (suc (suc (suc (suc (suc (suc (suc zero))))))))) l e = let z : _≡_ {A = ℕ} 0 1 = cc in omega arith
-known (suc (suc (suc (suc (suc (suc (suc (suc (suc (suc n)))))))))) l e = omega arith
-
 unary-is : (s : List ℕ) (r a : ℕ) (e : Expression) (o : UnaryOperator) → e ≡ unary (unaryOf o) (expressionOf s a) → ltb a r ≡ true
     → PartIs s r e (unaryPart o a r)
 unfolding unaryPart
@@ -134,10 +116,7 @@ binary-is : (s : List ℕ) (r a b : ℕ) (e : Expression) (o : BinaryOperator) �
     → ltb a r ≡ true → ltb b r ≡ true → PartIs s r e (binaryPart o a b r)
 unfolding binaryPart
 binary-is s r a b e o p h k =
-    subst (λ (t : Bool). PartIs s r e (pick t (Part.Binary o a b) Part.Broken)) (sym (both h k)) (p, ltb-true a r h, ltb-true b r k)
-  where
-    both : {x y : Bool} → x ≡ true → y ≡ true → x && y ≡ true
-    both u v = rw (u, v) refl
+    subst (λ (t : Bool). PartIs s r e (pick t (Part.Binary o a b) Part.Broken)) (sym (both-true h k)) (p, ltb-true a r h, ltb-true b r k)
 
 kind-is : (s : List ℕ) (r at : ℕ) (e : Expression) (k : ExpressionKind) → (k ≡ ExpressionKind.Unknown → ⊥) → e ≡ expressionFrom s (expressionOf s) at k
     → basicFits k (byteAt s (at + 1)) ≡ true → fieldFits s r (byteAt s (at + 1)) (expressionFields k .a) (fieldA s at) (fieldB s at) ≡ true
@@ -161,5 +140,5 @@ unfolding partOf expressionRowOf expressionKindAt
 part-is s w r l e f =
     let k = expression-kept s w r l in
     subst (PartIs s r (expressionOf s r)) (sym e ∙ f)
-    (kind-is s r (expressionAt s r) (expressionOf s r) (expressionKindAt s r) (λ g. known (byteAt s (expressionAt s r)) (k .kind) g)
+    (kind-is s r (expressionAt s r) (expressionOf s r) (expressionKindAt s r) (λ g. known-expression (byteAt s (expressionAt s r)) (k .kind) g)
     (expression-row s w r l) (k .basicType) (k .fitsA) (k .fitsB))

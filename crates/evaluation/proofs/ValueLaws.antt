@@ -6,12 +6,11 @@ use mathlib.Core.Bool.{Bool, true, false, _||_}
 use lib.IntN.{ℤ}
 use lib.Ieee.{Float, binary64, fits}
 use native.Mathlib.Omega.{arith}
-use lib.Dec.{T, ltb, leb}
-use lib.ListN.{length, take, drop, length-drop, length-take, drop-of-length-le}
-use lib.Seq.{take-all, take-length, drop-length}
-use borrow.Author.Tests.{ltb-false, le-leb}
+use lib.Dec.{T, leb}
+use lib.ListN.{length, take, drop, length-drop, length-take}
+use borrow.Author.Tests.{le-leb}
 use Rattle.wire.specs.Wire.{part}
-use Rattle.scalar.specs.Value.{Value, value, number, pick, isValue}
+use Rattle.scalar.specs.Value.{Value, value, number, isValue}
 use Rattle.scalar.specs.Operator.{notOf, negateOf, addOf, subtractOf, lessOf, equalOf, andOf}
 use Rattle.scalar.specs.Scalar.{valueOf, valueBeside, beside, answerOf}
 use Rattle.scalar.specs.NumberLaws.{Sound, sound-bool, sound-int, sound-long, sound-double}
@@ -19,7 +18,7 @@ use Rattle.scalar.specs.declared.Operand.{Operand}
 use Rattle.scalar.specs.declared.Scalar.{Scalar}
 use Rattle.scalar.specs.declared.Computed.{Computed}
 use Rattle.syntax.specs.Syntax.{Optional, none, some}
-use Rattle.layout.specs.Loops.{clip, clip-below}
+use Rattle.layout.specs.Loops.{clip, clip-below, drop-clip, take-clip}
 use Rattle.network.specs.Layout.{D, start, dataPart}
 use Rattle.expressions.specs.Parts.{unaryOf, binaryOf}
 use Rattle.expressions.specs.declared.UnaryOperator.{UnaryOperator}
@@ -112,20 +111,6 @@ module _ (o : BinaryOperator) (x y : Evaluated) {p q t : Bool} {z : Evaluated} (
 pub ruleset operand-laws = (unary-stuck, unary-gives, binary-stuck, binary-gives)
 
 -- ---- constants: the bytes of D, as far as there are so many
-
-drop-clip : (s : List ℕ) (at : ℕ) → drop (clip at (length s)) s ≡ drop at s
-drop-clip s at = go (ltb at (length s)) refl
-  where
-    go : (t : Bool) → ltb at (length s) ≡ t → drop (pick t at (length s)) s ≡ drop at s
-    go true e = refl
-    go false e = drop-length s ∙ sym (drop-of-length-le s (ltb-false at (length s) e))
-
-take-clip : (l : List ℕ) (n : ℕ) → take (clip n (length l)) l ≡ take n l
-take-clip l n = go (ltb n (length l)) refl
-  where
-    go : (t : Bool) → ltb n (length l) ≡ t → take (pick t n (length l)) l ≡ take n l
-    go true e = refl
-    go false e = take-length l ∙ sym (take-all n l (ltb-false n (length l) e))
 
 pub from-inside : (s : List ℕ) (at from : ℕ) → from ≡ clip at (length s) → from ≤ length s
 from-inside s at from p = omega (arith, clip-below at (length s) .1)

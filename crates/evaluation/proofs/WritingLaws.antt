@@ -12,10 +12,10 @@ use Rattle.scalar.specs.NumberLaws.{Sound}
 use Rattle.scalar.specs.Scalar.{valueOf}
 use Rattle.scalar.specs.declared.Operand.{Operand}
 use Rattle.syntax.specs.Syntax.{Optional, none, some}
-use Rattle.tree.specs.Encode.{children, encode, rooted, empty, Octets, WellFormed, Encodes, treeDeep, treeMany}
-use Rattle.tree.specs.EncodeLaws.{length-node, of-good}
+use Rattle.tree.specs.Encode.{encode, rooted, empty, Octets, WellFormed, Encodes, treeDeep, treeMany}
+use Rattle.tree.specs.EncodeLaws.{length-node}
 use Rattle.tree.specs.Standing.{Root, Ended}
-use Rattle.tree.specs.StandingLaws.{root-inside, root-part}
+use Rattle.tree.specs.StandingLaws.{root-inside, root-part, root-good}
 use Rattle.tree_edit.specs.Wrote.{Wrote}
 use Rattle.tree_edit.specs.WroteLaws.{wrote-more, wrote-all-of}
 use Rattle.state.specs.SizeLaws.{session-tree-size}
@@ -104,12 +104,6 @@ module _ (s : List ℕ) (at e : ℕ) (h : Ended s at e) (o : List ℕ) where
   }
 
 -- ---- what evaluation gave
-
--- A tree that stands somewhere keeps to the limits.
-root-good : (s : List ℕ) (at i : ℕ) (t : Tree Value) → Root s at i t → WellFormed treeDeep treeMany t
-root-good s at i t w =
-    let g = of-good (children t) treeDeep 0 (w .good) in
-    record { root = w .proper; sound = g .sound; rising = g .rising; shallow = g .shallow; few = w .small }
 
 same-some : {A : Type 0} {x y : A} → some x ≡ some y → x ≡ y
 same-some e = cc

@@ -23,10 +23,8 @@ use Rattle.network.specs.Layout.{expressionCount}
 use Rattle.network.specs.Decode.{expressionOf}
 use Rattle.network.specs.Shapes.{PartsShape, ExpressionShape}
 use Rattle.network.specs.DecodeLaws.{expression-shape}
+use Rattle.network.specs.TestLaws.{apart}
 use Rattle.types.specs.Image.{InRange}
-
-not-both : false ≡ true → ⊥
-not-both e = let z : _≡_ {A = ℕ} 0 1 = cc in omega arith
 
 value-none : (b : ℕ) (v : List ℕ) → 6 < b → isValue b v ≡ false
 unfolding isValue
@@ -46,8 +44,8 @@ value-small b v e = go (compare b 7)
   where
     go : Compare b 7 → b ≤ lastBasic
     go (lt h) = omega arith
-    go (eq h) = absurd (not-both (sym (value-none b v (omega arith)) ∙ e))
-    go (gt h) = absurd (not-both (sym (value-none b v (omega arith)) ∙ e))
+    go (eq h) = apart (sym (value-none b v (omega arith)) ∙ e)
+    go (gt h) = apart (sym (value-none b v (omega arith)) ∙ e)
 
 -- What stands in an environment.
 abbrev FoundSmall : Lookup Mark → Type 0

@@ -4,11 +4,10 @@ use mathlib.Core.Path.{_≡_, refl, sym, _∙_, ap}
 use mathlib.Core.List.{List, []}
 use mathlib.Core.Bool.{Bool, true, false, not, _&&_, _||_}
 use lib.Dec.{eqb, leb, ltb}
-use lib.ListN.{length, take, drop, length-drop, drop-of-length-le}
-use lib.Seq.{take-all, take-length, drop-length}
+use lib.ListN.{length, take, drop, length-drop}
 use native.Mathlib.Omega.{arith}
-use borrow.Author.Tests.{ltb-true, ltb-false}
-use Rattle.scalar.specs.Value.{pick, isValue}
+use borrow.Author.Tests.{ltb-true}
+use Rattle.scalar.specs.Value.{isValue}
 use Rattle.wire.specs.Wire.{part, u16At}
 use Rattle.network.specs.declared.Broken.{Broken}
 use Rattle.network.specs.declared.Broken.the-variants.{Nowhere}
@@ -22,7 +21,7 @@ use Rattle.network.specs.Layout.{pathCount, expressionCount, operationCount, be
 use Rattle.network.specs.Kinds.{fields, expressionFields, behaviourFields}
 use Rattle.network.specs.Rows.{inRun, laterRun, subFits, inputFits, constantFits, fieldFits, basicFits, isBranch, isChoice, kindAt, branchRule, branchRows, choiceRun, fieldsRule, behaviourHead, behaviourRow}
 use Rattle.layout.specs.LeastFacts.{rule-true}
-use Rattle.layout.specs.Loops.{Swept, swept-more, OnlyRun, clip, run-none, run-done, clip-below}
+use Rattle.layout.specs.Loops.{Swept, swept-more, OnlyRun, clip, run-none, run-done, clip-below, drop-clip, take-clip}
 
 pub expression-Constant : (k : ExpressionKind) (r : Fields) → k ≡ ExpressionKind.Constant → r ≡ fields ConstantPart Free Unused Free → r ≡ expressionFields k
 unfolding expressionFields
@@ -217,20 +216,6 @@ field-BranchRun s r b v w n q t e p h = rw e (h ∙ ap (λ (x : ℕ). laterRun x
 pub ruleset field-laws = (field-Free, field-Unused, field-EarlierRow, field-PathRow, field-ExpressionRow, field-OperationRow, field-LaterRow, field-InputRow, field-BranchCount, field-ConstantPart, field-BranchRun)
 
 -- ---- the bytes of a constant, as far as there are so many
-
-drop-clip : (s : List ℕ) (at : ℕ) → drop (clip at (length s)) s ≡ drop at s
-drop-clip s at = go (ltb at (length s)) refl
-  where
-    go : (t : Bool) → ltb at (length s) ≡ t → drop (pick t at (length s)) s ≡ drop at s
-    go true e = refl
-    go false e = drop-length s ∙ sym (drop-of-length-le s (ltb-false at (length s) e))
-
-take-clip : (l : List ℕ) (n : ℕ) → take (clip n (length l)) l ≡ take n l
-take-clip l n = go (ltb n (length l)) refl
-  where
-    go : (t : Bool) → ltb n (length l) ≡ t → take (pick t n (length l)) l ≡ take n l
-    go true e = refl
-    go false e = take-length l ∙ sym (take-all n l (ltb-false n (length l) e))
 
 pub value-part : (s : List ℕ) (b at n from len : ℕ) (t : Bool) → from ≡ clip at (length s) → len ≡ clip n (length s - from) →
     t ≡ isValue b (take len (drop from s)) → t ≡ isValue b (part s at n)

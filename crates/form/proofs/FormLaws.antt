@@ -28,6 +28,7 @@ use Rattle.network.specs.Rows.{firstChild, childCount, fieldA, fieldB, fieldC, 
 use Rattle.network.specs.Uses.{usesRows, broken}
 use Rattle.network.specs.Sizes.{rowsSum, rowsAll, levelsWithin, nodesTo, typeWithin, depthWithin, operandsWithin, expressionLarge, expressionSizes, large}
 use Rattle.network.specs.Form.{formOf}
+use Rattle.network.specs.TestLaws.{and-of}
 use Rattle.layout.specs.Loops.{Swept, swept-none, swept-more, swept-done}
 use Rattle.form.specs.declared.Spent.{Spent}
 use Rattle.form.specs.declared.Spent.the-variants.{Left, Large}
@@ -462,10 +463,6 @@ pub ruleset levels-laws = (levels-begin, levels-more, levels-done)
 
 -- ---- the whole
 
-and-both : (a b : Bool) → a && b ≡ true → (a ≡ true) × (b ≡ true)
-and-both true b e = (refl, e)
-and-both false b e = let z : _≡_ {A = ℕ} 0 1 = cc in absurd (omega arith)
-
 -- Refusal 3 leaves at most 256 rows.
 counts-few : (s : List ℕ) → counted s ≡ true → (expressionCount s ≤ 256) × (behaviourCount s ≤ 256)
 unfolding counted
@@ -475,10 +472,10 @@ counts-few s e =
     let behaviours = leb (behaviourCount s) 256 && operations in
     let expressions = leb (expressionCount s) 256 && behaviours in
     let types = leb (typeCount s) 256 && expressions in
-    let a = and-both (leb (pathCount s) 256) types e in
-    let b = and-both (leb (typeCount s) 256) expressions (a .1) in
-    let c = and-both (leb (expressionCount s) 256) behaviours (b .1) in
-    let d = and-both (leb (behaviourCount s) 256) operations (c .1) in
+    let a = and-of (leb (pathCount s) 256) types e in
+    let b = and-of (leb (typeCount s) 256) expressions (a .1) in
+    let c = and-of (leb (expressionCount s) 256) behaviours (b .1) in
+    let d = and-of (leb (behaviourCount s) 256) operations (c .1) in
     (leb-true (expressionCount s) 256 (c .0), leb-true (behaviourCount s) 256 (d .0))
 
 broken-kept : (s : List ℕ) → broken s ≡ Nowhere → expressionRows s ≡ Nowhere

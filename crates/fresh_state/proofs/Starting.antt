@@ -23,6 +23,7 @@ use Rattle.network.specs.Rows.{clientRow, noRow}
 use Rattle.network.specs.RowLaws.{counts-kept}
 use Rattle.network.specs.Decode.{behaviourOf, serviceOf, networkOf, rowsFrom}
 use Rattle.network.specs.NetworkLaws.{service-length}
+use Rattle.network.specs.TestLaws.{one-less}
 use Rattle.typing.specs.Result.{Checked, refused, passed}
 use Rattle.typing.specs.NetworkRules.{Environments}
 use Rattle.typing.specs.NetworkChecker.{checkNetwork}
@@ -31,8 +32,8 @@ use Rattle.checker.specs.declared.Answer.{Answer}
 use Rattle.checker.specs.Answer.{answerOf, IfPassed, ShapedAll}
 use Rattle.state.specs.Session.{State, free, live, newSession, setSlot}
 use Rattle.state.specs.Bytes.{zeros, stateBytes}
-use Rattle.state.specs.Shape.{serviceAt, clientOf, freshState}
-use Rattle.state.specs.FreshLaws.{free-bytes, start-bytes, freshUpTo, fresh-none, fresh-all, fresh-idle, fresh-client, fresh-sized}
+use Rattle.state.specs.Shape.{serviceAt, clientOf, freshState, freshUpTo}
+use Rattle.state.specs.FreshLaws.{free-bytes, start-bytes, fresh-none, fresh-all, fresh-idle, fresh-client, fresh-sized}
 use Rattle.moves.specs.Fresh.{Freshened, freshRefused, afterCheck, fresh}
 use Rattle.fresh_state.specs.Starting.{Starts, StartsFrom}
 
@@ -119,10 +120,6 @@ clients-next file q n z a b = record {
       b .tells w (omega (arith, m, l)) (a .tells w (omega (arith, m, l)) h ∙ ap (λ (j : ℕ). stateBytes (freshUpTo (networkOf file) j)) (sym (add-one q)))
       ∙ ap (λ (j : ℕ). stateBytes (freshUpTo (networkOf file) j)) e;
 }
-  where
-    one-less : (n : ℕ) → (n ≡ 0 → ⊥) → n ≡ suc (n - 1)
-    one-less zero h = absurd (h refl)
-    one-less (suc n) h = omega arith
 
 pub ruleset clients-laws = (clients-none, clients-next)
 

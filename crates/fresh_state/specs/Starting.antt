@@ -6,7 +6,7 @@ use Rattle.network.specs.Form.{WellFormed}
 use Rattle.network.specs.Layout.{serviceCount}
 use Rattle.network.specs.Decode.{networkOf}
 use Rattle.state.specs.Bytes.{stateBytes}
-use Rattle.state.specs.FreshLaws.{freshUpTo}
+use Rattle.state.specs.Shape.{freshUpTo}
 
 -- From the state in which the clients before k live, that in which the client of k lives too.
 pub record Starts (file : List ℕ) (k : ℕ) (s s′ : List ℕ) : Type 0 where

@@ -12,6 +12,7 @@ use Rattle.scalar.specs.Value.{pick}
 use Rattle.network.specs.declared.Broken.{Broken}
 use Rattle.network.specs.declared.Broken.the-variants.{At, Nowhere}
 use Rattle.network.specs.Least.{least, rule, leastOver}
+use Rattle.network.specs.FoldLaws.{least-none}
 
 pub small-left : (p q : ℕ) → p < q → p ≡ pick (ltb p q) p q
 small-left p q h = simp (lt-ltb p q h)
@@ -42,11 +43,6 @@ rule-broken t p m r e q = rw e q
 pub ruleset least-facts = (small-left, small-right, least-second, least-first, least-two, rule-holds, rule-broken)
 
 -- ---- `least` as a join: Nowhere is neutral, order and grouping do not matter, and no part counts twice
-
-pub least-right : (a : Broken) → least a Nowhere ≡ a
-unfolding least
-least-right Nowhere = refl
-least-right (At p) = refl
 
 -- The smaller of two numbers.
 abbrev min : ℕ → ℕ → ℕ
@@ -113,7 +109,7 @@ least-same p = ap At (min-left p p (omega arith))
 -- A rule is its own part and the others.
 pub rule-apart : (t : Bool) (p : ℕ) (m : Broken) → rule t p m ≡ least (rule t p Nowhere) m
 unfolding rule
-rule-apart t p m = rw (least-right (pick t Nowhere (At p))) refl
+rule-apart t p m = rw (least-none (pick t Nowhere (At p))) refl
 
 pub rule-true : (t : Bool) (p : ℕ) → t ≡ true → rule t p Nowhere ≡ Nowhere
 unfolding rule least
@@ -153,14 +149,14 @@ over-rest f a zero h = let z : a + 0 ≡ a = omega arith in rw z refl
 over-rest f a (suc k) h =
     let z : a + suc k ≡ suc (a + k) = omega arith in
     let e : f (a + k) ≡ Nowhere = h (a + k) (omega arith) (omega arith) in
-    rw (z, e) (least-right (leastOver (a + k) f) ∙ over-rest f a k (λ j l m. h j l (omega arith)))
+    rw (z, e) (least-none (leastOver (a + k) f) ∙ over-rest f a k (λ j l m. h j l (omega arith)))
 
 pub over-nothing : (f : ℕ → Broken) (n : ℕ) → ((j : ℕ) → j < n → f j ≡ Nowhere) → leastOver n f ≡ Nowhere
 unfolding leastOver
 over-nothing f zero h = refl
 over-nothing f (suc n) h =
     let e : f n ≡ Nowhere = h n (omega arith) in
-    rw e (least-right (leastOver n f) ∙ over-nothing f n (λ j l. h j (omega arith)))
+    rw e (least-none (leastOver n f) ∙ over-nothing f n (λ j l. h j (omega arith)))
 
 pub over-upto : (f : ℕ → Broken) (a b : ℕ) → a ≤ b → ((j : ℕ) → a ≤ j → j < b → f j ≡ Nowhere) → leastOver b f ≡ leastOver a f
 over-upto f a b l h =
@@ -170,7 +166,7 @@ over-upto f a b l h =
 -- A fold of pairs is a pair of folds.
 pub over-pair : (f g : ℕ → Broken) (n : ℕ) → leastOver n (λ j. least (f j) (g j)) ≡ least (leastOver n f) (leastOver n g)
 unfolding leastOver
-over-pair f g zero = sym (least-right Nowhere)
+over-pair f g zero = sym (least-none Nowhere)
 over-pair f g (suc n) =
     ap (λ (x : Broken). least x (least (f n) (g n))) (over-pair f g n) ∙ least-cross (leastOver n f) (leastOver n g) (f n) (g n)
 

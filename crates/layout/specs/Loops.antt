@@ -5,6 +5,9 @@ use mathlib.Core.Bool.{Bool, true, false, not, _&&_, _||_}
 use native.Mathlib.Omega.{arith}
 use lib.Dec.{leb, ltb}
 use borrow.Author.Tests.{lt-ltb, le-ltb, lt-leb, le-leb, ltb-true, ltb-false}
+use mathlib.Core.List.{List}
+use lib.ListN.{length, take, drop, drop-of-length-le}
+use lib.Seq.{take-all, take-length, drop-length}
 use Rattle.scalar.specs.Value.{pick}
 use Rattle.network.specs.declared.Broken.{Broken}
 use Rattle.network.specs.declared.Broken.the-variants.{Nowhere}
@@ -95,3 +98,18 @@ pub clip-past : (first n size a b c end : ℕ) → a ≡ first → b ≡ n → e
 clip-past first n size a b c end p q r e h = simp (le-ltb (first + n) size (omega arith))
 
 pub ruleset clip-laws = (clip-within, clip-past)
+
+-- As many numbers of a list as there are.
+pub drop-clip : (s : List ℕ) (at : ℕ) → drop (clip at (length s)) s ≡ drop at s
+drop-clip s at = go (ltb at (length s)) refl
+  where
+    go : (t : Bool) → ltb at (length s) ≡ t → drop (pick t at (length s)) s ≡ drop at s
+    go true e = refl
+    go false e = drop-length s ∙ sym (drop-of-length-le s (ltb-false at (length s) e))
+
+pub take-clip : (l : List ℕ) (n : ℕ) → take (clip n (length l)) l ≡ take n l
+take-clip l n = go (ltb n (length l)) refl
+  where
+    go : (t : Bool) → ltb n (length l) ≡ t → take (pick t n (length l)) l ≡ take n l
+    go true e = refl
+    go false e = take-length l ∙ sym (take-all n l (ltb-false n (length l) e))

@@ -18,8 +18,9 @@ use Rattle.tree_edit.specs.WroteLaws.{wrote-none, wrote-more, wrote-as}
 use Rattle.environments.specs.declared.Environment.{Environment}
 use Rattle.environments.specs.declared.Entry.{Entry}
 use Rattle.environments.specs.Environment.{bytesFor, standing, StandsFor}
-use Rattle.environments.specs.EnvironmentLaws.{bytes-length}
+use Rattle.environments.specs.EnvironmentLaws.{bytes-length, length-preorder}
 use Rattle.environments.specs.Listing.{entryAt, noEntry, preorder, Lists}
+use Rattle.network.specs.TestLaws.{one-less}
 use Rattle.listing.specs.Listed.{idBytes, nodeBytes, entryBytes}
 use Rattle.listing.specs.Writing.{nodesBy, NodesWritten, EnvironmentWritten}
 
@@ -39,12 +40,6 @@ node-wrote q role m x g h e i j k l t =
     (wrote-more (wrote-more (wrote-more (wrote-more (wrote-more (wrote-more g h) i) j) k) l) t)
 
 -- ---- the nodes of an environment
-
-length-preorder : (Γ : Types) (above : List ℕ) → length (preorder above Γ) ≡ nodes Γ
-unfolding preorder measure
-length-preorder end above = refl
-length-preorder (node i (mark m b) k r) above =
-    ap suc (length-append (preorder (above ++ (i ∷ [])) k) (preorder above r)) ∙ omega (arith, length-preorder k (above ++ (i ∷ [])), length-preorder r above)
 
 -- No path is longer than d.
 unfoldable Shallow : ℕ → List Entry → Type 0
@@ -88,10 +83,6 @@ pub count-told : (e : Environment) → e .len ≤ 512 → ((e .len - 5) / 7 ≡ 
 count-told e h = (sym (ap (λ (b : Bool). pick b 0 ((e .len - 5) / 7)) (le-ltb 512 (e .len) h)), omega arith)
 
 -- ---- the ways out of `put_nodes`
-
-one-less : (n : ℕ) → (n ≡ 0 → ⊥) → n ≡ suc (n - 1)
-one-less zero h = absurd (h refl)
-one-less (suc n) h = omega arith
 
 module _ (e : Environment) (q role i n : ℕ) {o : List ℕ} {w : ℕ} where
   pub nodes-none : n ≡ 0 → w + 18 * n ≤ length o → NodesWritten e q role i n o o w w

@@ -1,4 +1,3 @@
-mod ReachedLaws
 mod MarkLaws
 mod RowLaws
 mod ValueLaws

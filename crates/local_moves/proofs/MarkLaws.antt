@@ -1,8 +1,7 @@
 -- Ready rows: a row's progress, at each of the ways out of the code.
 use mathlib.Core.Path.{_≡_, refl, sym, ap, _∙_}
-use mathlib.Core.Bool.{Bool, true, false, not}
+use mathlib.Core.Bool.{Bool, true, false}
 use Prim.Native.Nat.{ℕ}
-use native.Mathlib.Omega.{arith}
 use Rattle.refusal.specs.declared.Refusal.the-variants.{MoveNotAllowed}
 use Rattle.state.specs.Session.{Progress, undone, done, waits, received, taken}
 use Rattle.state.specs.Shape.{isUndone}
@@ -74,17 +73,3 @@ if-ready-while done d x = refl
 if-ready-while waits d x = refl
 if-ready-while (received to) d x = refl
 if-ready-while (taken k) d x = refl
-
-pub held : {b c : Bool} → b ≡ c → not b ≡ false → c ≡ true
-held {b} {c} e f = sym e ∙ by b f
-  where
-    by : (b : Bool) → not b ≡ false → b ≡ true
-    by true f = refl
-    by false f = absurd (let z : _≡_ {A = ℕ} 0 1 = cc in omega arith)
-
-pub failed : {b c : Bool} → b ≡ c → not b ≡ true → c ≡ false
-failed {b} {c} e f = sym e ∙ by b f
-  where
-    by : (b : Bool) → not b ≡ true → b ≡ false
-    by true f = absurd (let z : _≡_ {A = ℕ} 0 1 = cc in omega arith)
-    by false f = refl

@@ -21,6 +21,7 @@ use Rattle.network.specs.Form.{WellFormed}
 use Rattle.network.specs.Layout.{behaviourCount}
 use Rattle.network.specs.RowLaws.{counts-kept}
 use Rattle.network.specs.Decode.{pathOf, expressionOf, behaviourOf, networkOf}
+use Rattle.network.specs.TestLaws.{told as held, untold as failed}
 use Rattle.rows.specs.declared.BehaviourRow.{BehaviourRow}
 use Rattle.rows.specs.Readers.{behaviourRowOf}
 use Rattle.behaviours.specs.Rows.{behaviourBy, KeptBy}
@@ -39,7 +40,8 @@ use Rattle.moves.specs.Moves.{refused, moved, notAllowed, require, onTree, onBo
 use Rattle.moves.specs.Moves.{localAt, localReached, localMove}
 use Rattle.moves.specs.Step.{finish}
 use Rattle.slots.specs.Slots.{treeIn}
-use Rattle.slots.specs.SlotLaws.{Living, row-set, tree-set, living-set, set-again, stands-set, living-holds, living-tree}
+use Rattle.slots.specs.SlotLaws.{row-set, tree-set, living-set, set-again, stands-set, living-holds, living-tree}
+use Rattle.slots.specs.Living.{Living}
 use Rattle.evaluation.specs.declared.Decision.{Decision}
 use Rattle.evaluation.specs.declared.Evaluated.{Evaluated}
 use Rattle.evaluation.specs.Condition.{conditionOf, onCondition}
@@ -49,14 +51,14 @@ use Rattle.reopening.specs.Reopening.{rowsBelow, withUndone}
 use Rattle.reopening.specs.ReopeningLaws.{undone-rows}
 use Rattle.readiness.specs.declared.Reached as coded
 use Rattle.readiness.specs.Reaching.{reachedAs, Reaches}
+use Rattle.readiness.specs.ReachedLaws.{reached-row}
 use Rattle.session_trees.specs.declared.Change.{Change}
 use Rattle.session_trees.specs.Changing.{KeptTree}
 use Rattle.moving.specs.declared.Running.{Running}
 use Rattle.moving.specs.Made.{StateOf, Made, InSession, Runs, RunsAt}
 use Rattle.moving.specs.MadeLaws.{in-session}
 use Rattle.local_moves.specs.Local.{readyWhile, Decides, AssignedTo, AssignsValue, MadeBy, RowMade}
-use Rattle.local_moves.proofs.MarkLaws.{if-undone, if-ready-while, held, failed}
-use Rattle.local_moves.proofs.ReachedLaws.{reached-row}
+use Rattle.local_moves.proofs.MarkLaws.{if-undone, if-ready-while}
 
 -- ---- a condition
 

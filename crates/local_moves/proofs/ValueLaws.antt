@@ -1,28 +1,22 @@
 -- Values that are assigned, at each of the ways out of the code.
 use mathlib.Core.Path.{_≡_, refl, sym, ap, subst, _∙_}
-use mathlib.Core.Bool.{Bool, true, false, not, _&&_, _||_}
-use mathlib.Core.List.{List, [], _∷_}
-use Prim.Native.Nat.{ℕ, _+_, _≤_, _<_}
-use native.Mathlib.Omega.{arith}
-use lib.Dec.{eqb}
+use mathlib.Core.Bool.{Bool}
+use mathlib.Core.List.{List}
+use Prim.Native.Nat.{ℕ, _≤_, _<_}
 use lib.ListN.{length, take}
 use lib.Seq.{length-take-le}
-use Rattle.wire.specs.Wire.{u16At}
 use Rattle.forest.specs.Forest.{Forest, Tree, tree}
-use Rattle.forest.specs.Path.{Path, path, setPayloadAt}
-use Rattle.scalar.specs.Value.{Value, pick}
+use Rattle.forest.specs.Path.{Path, setPayloadAt}
+use Rattle.scalar.specs.Value.{Value}
 use Rattle.scalar.specs.Scalar.{valueOf}
 use Rattle.scalar.specs.declared.Operand.{Operand}
 use Rattle.syntax.specs.Syntax.{Optional, some}
 use Rattle.refusal.specs.declared.Refusal.the-variants.{Stuck}
 use Rattle.typing.specs.Environment.{within}
 use Rattle.tree.specs.Encode.{payload}
-use Rattle.tree.specs.Ids.{steps, zeros, endsInZeros, isPath, pathOf}
+use Rattle.tree.specs.Ids.{isPath, pathOf}
 use Rattle.network.specs.Form.{WellFormed}
-use Rattle.network.specs.Layout.{pathCount, pathAt, expressionCount}
-use Rattle.network.specs.Rows.{pathRow}
-use Rattle.network.specs.RowLaws.{unbroken}
-use Rattle.network.specs.LeastLaws.{rule-kept}
+use Rattle.network.specs.Layout.{expressionCount}
 use Rattle.network.specs.Decode as network
 use Rattle.network.specs.Decode.{expressionOf}
 use Rattle.rows.specs.Readers.{pathIds}
@@ -30,7 +24,8 @@ use Rattle.state.specs.Session.{Session}
 use Rattle.moves.specs.Evaluation.{leaf, evaluate}
 use Rattle.moves.specs.Moves.{require, onTree, rootValue, voidValue}
 use Rattle.slots.specs.Slots.{treeIn}
-use Rattle.slots.specs.SlotLaws.{Living, living-tree}
+use Rattle.slots.specs.SlotLaws.{living-tree}
+use Rattle.slots.specs.Living.{Living}
 use Rattle.evaluation.specs.declared.Evaluated.{Evaluated}
 use Rattle.evaluation.specs.declared.Source.{Source}
 use Rattle.evaluation.specs.Evaluated.{SourceOf, Evaluates}
@@ -38,44 +33,8 @@ use Rattle.evaluation.specs.Writing.{WritesLeaf}
 use Rattle.evaluation.specs.WritingLaws.{leaf-good}
 use Rattle.session_trees.specs.declared.Change.{Change}
 use Rattle.session_trees.specs.Changing.{ChangedTo, Assigns}
+use Rattle.types.specs.PathLaws.{path-is, ids-path}
 use Rattle.local_moves.specs.Local.{SetsRoot, AssignedTo, AssignsValue}
-
--- ---- the path of a P row
-
-steps-until : (l : List ℕ) → steps l ≡ network.untilZero l
-unfolding steps network.untilZero
-steps-until [] = refl
-steps-until (i ∷ is) = ap (λ (z : List ℕ). pick (eqb i 0) [] (i ∷ z)) (steps-until is)
-
-path-is : (file : List ℕ) (p : ℕ) → pathOf (pathIds file p) ≡ network.pathOf file p
-unfolding pathOf pathIds network.pathOf
-path-is file p =
-    ap (path (u16At file (pathAt file p))) (steps-until (u16At file (pathAt file p + 2) ∷ u16At file (pathAt file p + 4) ∷ u16At file (pathAt file p + 6) ∷ []))
-
-true-false : {B : Type 0} → true ≡ false → B
-true-false e = absurd (let z : _≡_ {A = ℕ} 0 1 = cc in omega arith)
-
-zeros-by : (a b c d : Bool) → not a ≡ true → (not a || b) ≡ true → (not b || c) ≡ true → (not c || d) ≡ true
-    → pick a false (pick b (c && (d && true)) (pick c (d && true) (pick d true true))) ≡ true
-zeros-by true b c d p q r s = true-false (sym p)
-zeros-by false true true true p q r s = refl
-zeros-by false true true false p q r s = true-false (sym s)
-zeros-by false true false d p q r s = true-false (sym r)
-zeros-by false false true true p q r s = refl
-zeros-by false false true false p q r s = true-false (sym s)
-zeros-by false false false true p q r s = refl
-zeros-by false false false false p q r s = refl
-
-ids-path : (file : List ℕ) → WellFormed file → (p : ℕ) → p < pathCount file → isPath (pathIds file p) ≡ true
-unfolding pathRow pathIds isPath endsInZeros zeros
-ids-path file wf p le =
-    let h = unbroken file wf .paths p le in
-    let a = rule-kept _ _ _ h in
-    let b = rule-kept _ _ _ (a .1) in
-    let c = rule-kept _ _ _ (b .1) in
-    let d = rule-kept _ _ _ (c .1) in
-    zeros-by (eqb (u16At file (pathAt file p)) 0) (eqb (u16At file (pathAt file p + 2)) 0) (eqb (u16At file (pathAt file p + 4)) 0)
-    (eqb (u16At file (pathAt file p + 6)) 0) (a .0) (b .0) (c .0) (d .0)
 
 -- ---- one value
 

@@ -22,12 +22,12 @@ use Rattle.state.specs.Session.{Progress, undone, done, waits, received, taken,
 use Rattle.moves.specs.Evaluation.{evaluate}
 use Rattle.moves.specs.Moves.{Result, refused, require, onTree, onBool, rootValue, voidValue, localAt}
 use Rattle.moves.specs.Step.{Step, finish}
-use Rattle.slots.specs.SlotLaws.{Living}
 use Rattle.evaluation.specs.declared.Decision.{Decision}
 use Rattle.evaluation.specs.Condition.{onCondition}
 use Rattle.session_trees.specs.declared.Change.{Change}
 use Rattle.session_trees.specs.Changing.{KeptTree, ChangedTo}
 use Rattle.moving.specs.Made.{StateOf, InSession}
+use Rattle.slots.specs.Living.{Living}
 
 -- Moves' `ifReadyWhile` as a test: "a while whose body is done is again".
 abbrev pub readyWhile : Progress → Bool → Bool

@@ -1,3 +1,4 @@
 pub mod Made
+pub mod Stepped
 pub mod MadeLaws
 pub mod StepLaws

@@ -15,7 +15,7 @@ use Rattle.state.specs.Bytes.{readSession}
 use Rattle.state.specs.Shape.{behaviourIn, Stands}
 use Rattle.moves.specs.Moves.{Result, notAllowed, inSession}
 use Rattle.moves.specs.Step.{Step, finish}
-use Rattle.slots.specs.SlotLaws.{Living}
+use Rattle.slots.specs.Living.{Living}
 use Rattle.moving.specs.declared.Running.{Running}
 
 -- The bytes s stand for the state G of the file's shape.

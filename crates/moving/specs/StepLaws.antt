@@ -25,11 +25,7 @@ use Rattle.state.specs.ShapeLaws.{decode-state-sound}
 use Rattle.moves.specs.Moves.{Move, move}
 use Rattle.moves.specs.Step.{Step, refuse, finish, onForm, onState, buffersFit, step}
 use Rattle.moving.specs.Made.{StateOf, Made, MadeOut}
-
--- An outcome and the final bytes of state and out buffer are those of the definition.
-abbrev pub Stepped : List ℕ → List ℕ → List ℕ → Move → List ℕ → Outcome → List ℕ → List ℕ → Type 0
-Stepped file s out m outside o s′ out′ =
-    (o ≡ step file s out m outside .outcome) × (s′ ≡ step file s out m outside .state) × (out′ ≡ step file s out m outside .out)
+use Rattle.moving.specs.Stepped.{Stepped}
 
 module _ (file s out : List ℕ) (m : Move) (outside : List ℕ) where
   stepped : {o : Outcome} {s′ out′ : List ℕ} → step file s out m outside ≡ record { outcome = o; state = s′; out = out′ } → Stepped file s out m outside o s′ out′

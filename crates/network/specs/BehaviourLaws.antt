@@ -15,11 +15,12 @@ use Rattle.network.specs.Layout.{behaviourCount, behaviourAt}
 use Rattle.network.specs.Rows.{fieldA, fieldB, fieldC, fieldD, kindAt, isBranch, isChoice, isInput}
 use Rattle.network.specs.Form.{WellFormed}
 use Rattle.network.specs.Decode.{pathOf, expressionOf, operationOf, branchesFrom, behaviourFrom, behaviourTo, behaviourOf, rowOperation}
-use Rattle.syntax.specs.Rows.{hasRow}
+use Rattle.syntax.specs.Rows.{hasRow, rowOf}
 use Rattle.network.specs.Shapes.{PathShape, ExpressionShape, OperationShape, BehaviourShape, Outside, Apart, EachRowOnce, Standing}
 use Rattle.network.specs.Shapes.{alone, inChoice, isInputBehaviour, isChoiceBehaviour, AsInFile, OperationsBy}
 use Rattle.network.specs.DecodeLaws.{path-shape, expression-shape, operation-shape}
 use Rattle.network.specs.UseLaws.{Uses, one-user, Child, SubKept, InputKept, BranchKept, RowKept, behaviour-kept, branch-kept}
+use Rattle.network.specs.TestLaws.{apart}
 
 -- The n branches from row a on, of the choice r.
 abbrev pub Branches : List ℕ → ℕ → ℕ → ℕ → Type 0
@@ -180,37 +181,34 @@ branches-in s w r f e (suc (suc n)) a o h =
       branches-in s w r f e (suc n) (suc a) (omega arith) (λ j p q. h j (omega arith) (omega arith)),
     )
 
-no : {X : Type 0} → false ≡ true → X
-no e = let z : _≡_ {A = ℕ} 0 1 = cc in absurd (omega arith)
-
 row-in : (s : List ℕ) → WellFormed s → (r at : ℕ) (f : ℕ → Behaviour) → Later s r (λ j. InFile (kindAt s j) (f j)) → (k : BehaviourKind)
     → RowKept s r at k → InFile k (behaviourFrom s f r at k)
 unfolding behaviourFrom AsInFile
-row-in s w r at f e BehaviourKind.Nil h = (λ z. tt, λ z. no z)
+row-in s w r at f e BehaviourKind.Nil h = (λ z. tt, λ z. apart z)
 row-in s w r at f e BehaviourKind.OneWay h = (λ z. tt, λ z. (tt, tt))
 row-in s w r at f e BehaviourKind.RequestResponse h = (
   λ z. e (fieldD s at) (h .3 .child .later) (h .3 .child .exists) .0 (h .3 .kind),
   λ z.
       (tt, e (fieldD s at) (h .3 .child .later) (h .3 .child .exists) .0 (h .3 .kind)),
 )
-row-in s w r at f e BehaviourKind.Notification h = (λ z. tt, λ z. no z)
-row-in s w r at f e BehaviourKind.SolicitResponse h = (λ z. tt, λ z. no z)
+row-in s w r at f e BehaviourKind.Notification h = (λ z. tt, λ z. apart z)
+row-in s w r at f e BehaviourKind.SolicitResponse h = (λ z. tt, λ z. apart z)
 row-in s w r at f e BehaviourKind.If h = (
   λ z. (
     e (fieldB s at) (h .1 .child .later) (h .1 .child .exists) .0 (h .1 .kind),
     e (fieldC s at) (h .2 .child .later) (h .2 .child .exists) .0
         (h .2 .kind),
   ),
-  λ z. no z,
+  λ z. apart z,
 )
-row-in s w r at f e BehaviourKind.While h = (λ z. e (fieldB s at) (h .1 .child .later) (h .1 .child .exists) .0 (h .1 .kind), λ z. no z)
+row-in s w r at f e BehaviourKind.While h = (λ z. e (fieldB s at) (h .1 .child .later) (h .1 .child .exists) .0 (h .1 .kind), λ z. apart z)
 row-in s w r at f e BehaviourKind.Sequence h = (
   λ z. (
     e (fieldA s at) (h .0 .child .later) (h .0 .child .exists) .0 (h .0 .kind),
     e (fieldB s at) (h .1 .child .later)
         (h .1 .child .exists) .0 (h .1 .kind),
   ),
-  λ z. no z,
+  λ z. apart z,
 )
 row-in s w r at f e BehaviourKind.Parallel h = (
   λ z. (
@@ -218,12 +216,12 @@ row-in s w r at f e BehaviourKind.Parallel h = (
     e (fieldB s at) (h .1 .child .later)
         (h .1 .child .exists) .0 (h .1 .kind),
   ),
-  λ z. no z,
+  λ z. apart z,
 )
-row-in s w r at f e BehaviourKind.Assign h = (λ z. tt, λ z. no z)
-row-in s w r at f e BehaviourKind.Choice h = (λ z. branches-in s w r f e (fieldB s at) (fieldA s at) (h .0) (h .2), λ z. no z)
-row-in s w r at f e BehaviourKind.Branch h = (λ z. tt, λ z. no z)
-row-in s w r at f e BehaviourKind.Unknown h = (λ z. tt, λ z. no z)
+row-in s w r at f e BehaviourKind.Assign h = (λ z. tt, λ z. apart z)
+row-in s w r at f e BehaviourKind.Choice h = (λ z. branches-in s w r f e (fieldB s at) (fieldA s at) (h .0) (h .2), λ z. apart z)
+row-in s w r at f e BehaviourKind.Branch h = (λ z. tt, λ z. apart z)
+row-in s w r at f e BehaviourKind.Unknown h = (λ z. tt, λ z. apart z)
 
 in-to : (s : List ℕ) → WellFormed s → (d r : ℕ) → r < behaviourCount s → behaviourCount s ≤ r + d → InFile (kindAt s r) (behaviourTo s d r)
 unfolding behaviourTo
@@ -239,19 +237,19 @@ behaviour-in-file s w r l e = in-to s w (behaviourCount s) r l (omega arith) .0 
 -- A row of kind choice becomes a choice.
 choice-by : (s : List ℕ) (f : ℕ → Behaviour) (r at : ℕ) (k : BehaviourKind) → isChoice k ≡ true → T (isChoiceBehaviour (behaviourFrom s f r at k))
 unfolding behaviourFrom
-choice-by s f r at BehaviourKind.Nil e = no e
-choice-by s f r at BehaviourKind.OneWay e = no e
-choice-by s f r at BehaviourKind.RequestResponse e = no e
-choice-by s f r at BehaviourKind.Notification e = no e
-choice-by s f r at BehaviourKind.SolicitResponse e = no e
-choice-by s f r at BehaviourKind.If e = no e
-choice-by s f r at BehaviourKind.While e = no e
-choice-by s f r at BehaviourKind.Sequence e = no e
-choice-by s f r at BehaviourKind.Parallel e = no e
-choice-by s f r at BehaviourKind.Assign e = no e
+choice-by s f r at BehaviourKind.Nil e = apart e
+choice-by s f r at BehaviourKind.OneWay e = apart e
+choice-by s f r at BehaviourKind.RequestResponse e = apart e
+choice-by s f r at BehaviourKind.Notification e = apart e
+choice-by s f r at BehaviourKind.SolicitResponse e = apart e
+choice-by s f r at BehaviourKind.If e = apart e
+choice-by s f r at BehaviourKind.While e = apart e
+choice-by s f r at BehaviourKind.Sequence e = apart e
+choice-by s f r at BehaviourKind.Parallel e = apart e
+choice-by s f r at BehaviourKind.Assign e = apart e
 choice-by s f r at BehaviourKind.Choice e = tt
-choice-by s f r at BehaviourKind.Branch e = no e
-choice-by s f r at BehaviourKind.Unknown e = no e
+choice-by s f r at BehaviourKind.Branch e = apart e
+choice-by s f r at BehaviourKind.Unknown e = apart e
 
 pub choice-row : (s : List ℕ) → WellFormed s → (r : ℕ) → r < behaviourCount s → isChoice (kindAt s r) ≡ true → T (isChoiceBehaviour (behaviourOf s r))
 choice-row s w r l e = subst (λ (b : Behaviour). T (isChoiceBehaviour b)) (sym (behaviour-row s w r l))
@@ -292,3 +290,30 @@ operations-to s (suc d) r = row-operations s r (behaviourTo s d) (λ j. operatio
 pub behaviour-operations : (s : List ℕ) (r : ℕ) → OperationsBy (rowOperation s) (behaviourOf s r)
 unfolding behaviourOf
 behaviour-operations s r = operations-to s (behaviourCount s) r
+
+-- ---- the number of a decoded row
+
+pub row-kind : (s : List ℕ) (f : ℕ → Behaviour) (r at : ℕ) (k : BehaviourKind) → rowOf (behaviourFrom s f r at k) ≡ r
+unfolding rowOf behaviourFrom
+row-kind s f r at BehaviourKind.Nil = refl
+row-kind s f r at BehaviourKind.OneWay = refl
+row-kind s f r at BehaviourKind.RequestResponse = refl
+row-kind s f r at BehaviourKind.Notification = refl
+row-kind s f r at BehaviourKind.SolicitResponse = refl
+row-kind s f r at BehaviourKind.If = refl
+row-kind s f r at BehaviourKind.While = refl
+row-kind s f r at BehaviourKind.Sequence = refl
+row-kind s f r at BehaviourKind.Parallel = refl
+row-kind s f r at BehaviourKind.Assign = refl
+row-kind s f r at BehaviourKind.Choice = refl
+row-kind s f r at BehaviourKind.Branch = refl
+row-kind s f r at BehaviourKind.Unknown = refl
+
+pub row-to : (s : List ℕ) (d r : ℕ) → rowOf (behaviourTo s d r) ≡ r
+unfolding behaviourTo rowOf
+row-to s zero r = refl
+row-to s (suc d) r = row-kind s (behaviourTo s d) r (behaviourAt s r) (kindAt s r)
+
+pub row-of : (s : List ℕ) (r : ℕ) → rowOf (behaviourOf s r) ≡ r
+unfolding behaviourOf
+row-of s r = row-to s (behaviourCount s) r

@@ -33,7 +33,7 @@ use Rattle.network.specs.Decode.{operationOf}
 use Rattle.network.specs.Shapes.{AllPositive, PathShape, NodesShape, TreeNodesShape, treeNodes, treeLevels, rootMark, TypeShape}
 use Rattle.network.specs.Shapes.{MessageTypeShape, depth, PartsShape, ExpressionShape, LocationShape, OperationShape}
 use Rattle.network.specs.LeastLaws.{rule-kept}
-use Rattle.network.specs.TestLaws.{lt-of, le-of, eq-of, of-eq, and-of, not-of, clash, ne-of}
+use Rattle.network.specs.TestLaws.{lt-of, le-of, eq-of, of-eq, and-of, not-true, clash, ne-of}
 use Rattle.network.specs.RowLaws.{Unbroken, unbroken, PathKept, path-kept, TypeKept, type-kept, RootKept, type-size, expression-size}
 use Rattle.network.specs.RowLaws.{OperationKept, operation-kept}
 
@@ -255,7 +255,7 @@ expression-kept s w r l =
     let d = rule-kept (fieldFits s r (byteAt s (at + 1)) (expressionFields k .b) (fieldB s at) (fieldC s at)) (at + 4) _ (c .1) in
     record { kind = le-of (byteAt s at) 9 (a .0); basicType = b .0; fitsA = c .0; fitsB = d .0 }
 
-known-expression : (n : ℕ) → n ≤ 9 → expressionKind n ≡ ExpressionKind.Unknown → ⊥
+pub known-expression : (n : ℕ) → n ≤ 9 → expressionKind n ≡ ExpressionKind.Unknown → ⊥
 unfolding expressionKind
 known-expression zero l e = let z : _≡_ {A = ℕ} 0 1 = cc in omega arith
 known-expression (suc zero) l e = let z : _≡_ {A = ℕ} 0 1 = cc in omega arith
@@ -445,3 +445,11 @@ operation-shape s w r l = record {
     replies : (t : Bool) → eqb (operationTwoWay s r) 1 ≡ t → MessageTypeShape (pick t (typeOf s (replyType s r)) noReply)
     replies true e = root-shape s w (replyType s r) (k .reply (eq-of (operationTwoWay s r) 1 e))
     replies false e = no-reply
+
+-- ---- a two-way operation's reply type is its T row
+
+pub reply-row : (s : List ℕ) → WellFormed s → (o : ℕ) → o < operationCount s → operationOf s o .twoWay ≡ true
+    → (operationOf s o .reply ≡ typeOf s (replyType s o)) × (replyType s o < typeCount s)
+unfolding operationOf
+reply-row s w o l e =
+    (ap (λ (t : Bool). pick t (typeOf s (replyType s o)) noReply) e, operation-kept s w o l .reply (eq-of (operationTwoWay s o) 1 e) .exists)

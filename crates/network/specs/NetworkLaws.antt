@@ -20,7 +20,7 @@ use Rattle.network.specs.Decode.{operationOf, behaviourOf, rowOperation,
 use Rattle.network.specs.Meets.{entry, locationOf, someAt, inFile, isInputOperation, sameKind, meets, firstOf, metInput}
 use Rattle.network.specs.Shapes.{OperationShape, Apart, isChoiceBehaviour, FileBehaviour, IfAny, Role, asStarter, asClient, behaviourIn}
 use Rattle.network.specs.Shapes.{NetworkShape}
-use Rattle.network.specs.TestLaws.{lt-of, eq-of, of-eq, and-of, or-of, not-of, clash, ne-of}
+use Rattle.network.specs.TestLaws.{lt-of, eq-of, of-eq, and-of, or-of, not-true, clash, ne-of}
 use Rattle.network.specs.RowLaws.{ServiceKept, service-kept, OperationKept, operation-kept}
 use Rattle.network.specs.UseLaws.{uses-kept, one-service}
 use Rattle.network.specs.DecodeLaws.{positive, operation-shape}
@@ -129,7 +129,7 @@ client-kept s w q l ne =
     (λ e. absurd (clash e ne))
     (λ e.
     let a = and-of (ltb (clientRow s q) (behaviourCount s)) (not (isBranch (kindAt s (clientRow s q)))) e in
-    (lt-of (clientRow s q) (behaviourCount s) (a .0), not-of (isBranch (kindAt s (clientRow s q))) (a .1)))
+    (lt-of (clientRow s q) (behaviourCount s) (a .0), not-true (isBranch (kindAt s (clientRow s q))) (a .1)))
     (or-of (eqb (clientRow s q) noRow) (ltb (clientRow s q) (behaviourCount s) && not (isBranch (kindAt s (clientRow s q))))
     (service-kept s w q l .clients))
 

@@ -16,7 +16,7 @@ use Rattle.refusal.specs.declared.Verdict.{Verdict}
 use Rattle.refusal.specs.declared.Verdict.the-variants.{Done, Refused}
 use Rattle.network.specs.Least.{least, rule, leastOver}
 use Rattle.network.specs.Layout.{laidOut, counted, pathCount, typeCount, expressionCount, behaviourCount, operationCount, serviceCount, pathAt}
-use Rattle.network.specs.Layout.{typeAt, expressionAt, operationAt, serviceAt}
+use Rattle.network.specs.Layout.{typeAt, expressionAt, operationAt, serviceAt, behaviourAt}
 use Rattle.network.specs.Rows.{inRun, laterRun, pathRow, typeId, cardinality, typeBasic, firstChild, childCount, childrenFit, idBefore}
 use Rattle.network.specs.Rows.{childRule, childIds, typeRow, expressionRow, behaviourRow, pathRows, typeRows, expressionRows, behaviourRows}
 use Rattle.network.specs.Rows.{operationRows, serviceRows}
@@ -29,7 +29,7 @@ use Rattle.network.specs.Sizes.{typeWithin, levelsWithin, nodesTo, depth
 use Rattle.network.specs.Sizes.{expressionLarge, typeSizes, expressionSizes, large}
 use Rattle.network.specs.Form.{afterSizes, afterFields, formOf, WellFormed}
 use Rattle.network.specs.LeastLaws.{least-kept, rule-kept, over-kept}
-use Rattle.network.specs.TestLaws.{lt-of, le-of, eq-of, of-eq, and-of, or-of, not-of, clash, ne-of, under, in-run}
+use Rattle.network.specs.TestLaws.{lt-of, le-of, eq-of, of-eq, and-of, or-of, not-true, clash, ne-of, under, in-run}
 
 -- ---- none of 2 to 5
 
@@ -234,7 +234,7 @@ operation-kept s w r l =
     replies n t p e = rw e at p
 
     first-time : (q : ℕ) → repeatRule s r q ≡ Nowhere → sameService s r q && sameName s r q ≡ false
-    first-time q p = not-of (sameService s r q && sameName s r q)
+    first-time q p = not-true (sameService s r q && sameName s r q)
         (rule-kept (not (sameService s r q && sameName s r q)) (operationAt s r) Nowhere p .0)
 
 -- ---- S
@@ -263,3 +263,10 @@ service-kept s w r l =
     first-time : (q : ℕ) → locationRule s r q ≡ Nowhere → serviceLocation s q ≡ serviceLocation s r → ⊥
     first-time q p = ne-of (serviceLocation s q) (serviceLocation s r)
         (rule-kept (not (eqb (serviceLocation s q) (serviceLocation s r))) (serviceAt s r) Nowhere p .0)
+
+-- ---- places of rows
+
+-- The next B row is 10 bytes on.
+pub next-at : (s : List ℕ) (r : ℕ) → behaviourAt s r + 10 ≡ behaviourAt s (suc r)
+unfolding behaviourAt
+next-at s r = omega arith

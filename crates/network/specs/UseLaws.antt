@@ -22,7 +22,7 @@ use Rattle.network.specs.Rows.{fieldFits, fieldsRule, behaviourHead, bra
 use Rattle.network.specs.Uses.{fieldUses, one, usesBy, rowUses, serviceUses, usedByRows, used, secondUse, rowUseRule, serviceUseRule, usesRow}
 use Rattle.network.specs.Form.{WellFormed}
 use Rattle.network.specs.LeastLaws.{least-kept, rule-kept, over-kept, sum-part}
-use Rattle.network.specs.TestLaws.{lt-of, le-of, eq-of, of-eq, of-lt, and-of, not-of, clash, under, in-run, lt-not}
+use Rattle.network.specs.TestLaws.{lt-of, le-of, eq-of, of-eq, of-lt, and-of, not-true, clash, under, in-run, lt-not}
 use Rattle.network.specs.RowLaws.{Unbroken, unbroken}
 
 -- ---- uses
@@ -54,12 +54,12 @@ uses-kept s w t l =
     record {
       byRow = λ r x u.
           first-use (usedByRows s t r) (rowUses s t r)
-          (not-of (secondUse (usedByRows s t r) (rowUses s t r))
+          (not-true (secondUse (usedByRows s t r) (rowUses s t r))
           (rule-kept (not (secondUse (usedByRows s t r) (rowUses s t r))) (behaviourAt s r) Nowhere
           (over-kept (rowUseRule s t) (behaviourCount s) r (b .0) x) .0)) u;
       byService = λ q x u.
           first-use (used s t q) (serviceUses s t q)
-          (not-of (secondUse (used s t q) (serviceUses s t q))
+          (not-true (secondUse (used s t q) (serviceUses s t q))
           (rule-kept (not (secondUse (used s t q) (serviceUses s t q))) (serviceAt s q) Nowhere
           (over-kept (serviceUseRule s t) (serviceCount s) q (b .1) x) .0)) u;
     }
@@ -176,7 +176,7 @@ sub-test s r v e u =
     let b = and-of (ltb r v) (ltb v (behaviourCount s)) (a .0) in
     record {
       child = record { later = lt-of r v (b .0); exists = lt-of v (behaviourCount s) (b .1); uses = u };
-      kind = not-of
+      kind = not-true
           (isBranch (kindAt s v)) (a .1);
     }
 

@@ -3,7 +3,6 @@ use mathlib.Core.Path.{_≡_, refl, sym, ap, subst, _∙_}
 use mathlib.Core.Bool.{Bool, true, false, not, _&&_}
 use mathlib.Core.List.{List}
 use Prim.Native.Nat.{ℕ, _<_}
-use native.Mathlib.Omega.{arith}
 use lib.Dec.{eqb}
 use borrow.Author.Tests.{eq-eqb, ne-eqb}
 use Rattle.forest.specs.Forest.{Tree, tree, Lookup, absent, present}
@@ -21,14 +20,13 @@ use Rattle.network.specs.Layout.{typeCount, operationCount}
 use Rattle.network.specs.Rows.{operationTwoWay, requestType}
 use Rattle.network.specs.Decode.{typeOf, operationOf, networkOf}
 use Rattle.network.specs.RowLaws.{operation-kept}
+use Rattle.network.specs.TestLaws.{told, untold}
 use Rattle.tree.specs.Encode as trees
 use Rattle.tree.specs.Decode.{decodeMessage, isMessage}
 use Rattle.tree.specs.DecodeLaws.{absent-is, message-sound, decode-complete}
 use Rattle.types.specs.Tells.{FitsRow}
 use Rattle.types.specs.TellsLaws.{fits-message}
 use Rattle.state.specs.Session.{ReplyTo, nobody, outsider, State}
-use Rattle.state.specs.Bytes.{readState}
-use Rattle.state.specs.ReadLaws.{read-state}
 use Rattle.moves.specs.Targets as definition
 use Rattle.moves.specs.Moves.{Result, refused, notAllowed, require, onOperation, allowed, isMessageTree, mustFit, onMessage, deliver, outerMessage, inputNamed}
 use Rattle.moves.specs.Step.{Step, finish}
@@ -38,9 +36,9 @@ use Rattle.targets.specs.declared.Met.{Met}
 use Rattle.targets.specs.declared.Target.{Target}
 use Rattle.targets.specs.Meeting.{operationMet}
 use Rattle.targets.specs.MeetingLaws.{named-exists}
-use Rattle.targets.specs.Answers.{targetAs, StarterExists, Targets}
+use Rattle.targets.specs.Answers.{StarterExists, Targets}
 use Rattle.moving.specs.Made.{StateOf, Made}
-use Rattle.moving.specs.MadeLaws.{made-refused}
+use Rattle.moving.specs.MadeLaws.{made-refused, target-is}
 use Rattle.delivery.specs.Delivery.{onVerdict, Allowed, Delivers}
 use Rattle.delivery.specs.DeliveryLaws.{stands-holding, message-tree}
 use Rattle.outer_moves.specs.Outside.{arriving, Arrives}
@@ -59,26 +57,6 @@ module _ (file : List ℕ) (i number : ℕ) {w : ℕ} (e : w ≡ operationTwoWay
 pub ruleset reply-laws = (reply-outside, reply-nobody)
 
 -- ---- at the input
-
-told : {b c : Bool} → b ≡ c → not b ≡ false → c ≡ true
-told {b} {c} e f = sym e ∙ by b f
-  where
-    by : (b : Bool) → not b ≡ false → b ≡ true
-    by true f = refl
-    by false f = absurd (let z : _≡_ {A = ℕ} 0 1 = cc in omega arith)
-
-untold : {b c : Bool} → b ≡ c → not b ≡ true → c ≡ false
-untold {b} {c} e f = sym e ∙ by b f
-  where
-    by : (b : Bool) → not b ≡ true → b ≡ false
-    by false f = refl
-    by true f = absurd (let z : _≡_ {A = ℕ} 0 1 = cc in omega arith)
-
--- The target in the state that the bytes stand for.
-target-is : {file s : List ℕ} {i n : ℕ} {t : Target} {G : State} → Targets file s i n t → WellFormed file → StateOf file s G
-    → targetAs file t ≡ definition.target (networkOf file) G (operationOf file i) n
-target-is {file} {s} {i} {n} {t} {G} h w st =
-    h .tells w ∙ ap (λ (X : State). definition.target (networkOf file) X (operationOf file i) n) (ap readState (st .bytes) ∙ read-state (st .shape))
 
 -- What comes once the message may go to its target, and once it fits.
 abbrev delivered : List ℕ → State → ℕ → ℕ → ℕ → Tree Value → Result

@@ -1,9 +1,8 @@
 -- An outer reply, at each of the ways out of the code.
-use mathlib.Core.Path.{_≡_, refl, sym, ap, subst, _∙_}
+use mathlib.Core.Path.{_≡_, sym, ap, subst, _∙_}
 use mathlib.Core.Bool.{Bool, true, false, not}
 use mathlib.Core.List.{List}
-use Prim.Native.Nat.{ℕ, _+_, _<_, _≤_}
-use native.Mathlib.Omega.{arith}
+use Prim.Native.Nat.{ℕ, _<_}
 use Rattle.forest.specs.Forest.{Tree, Lookup, present}
 use Rattle.forest.specs.Path.{Path}
 use Rattle.scalar.specs.Value.{Value, pick}
@@ -19,27 +18,17 @@ use Rattle.network.specs.Form.{WellFormed}
 use Rattle.network.specs.Rows.{operationLocation, replyType}
 use Rattle.network.specs.Decode.{pathOf, operationOf, networkOf}
 use Rattle.network.specs.Meets.{inFile}
+use Rattle.network.specs.TestLaws.{not-true, not-false}
 use Rattle.types.specs.Tells.{FitsRow}
 use Rattle.state.specs.Session.{State}
 use Rattle.moves.specs.Moves.{Result, notAllowed, require, mustFit, onWaitingRow, takeReply, onMessage, outerReply}
 use Rattle.moves.specs.Step.{finish}
 use Rattle.moving.specs.declared.Running.{Running}
-use Rattle.moving.specs.Made.{StateOf, Made, InSession, Runs, RunsAt}
-use Rattle.moving.specs.MadeLaws.{made-refused, in-session}
+use Rattle.moving.specs.Made.{StateOf, Made, Runs, RunsAt}
+use Rattle.moving.specs.MadeLaws.{made-refused, in-session, running}
 use Rattle.waiting_rows.specs.declared.Waiting.{Waiting}
 use Rattle.waiting_rows.specs.Waiting.{waitingAs, RowsExist, WaitsAt, TakesReply}
 use Rattle.waiting_rows.specs.WaitingLaws.{waits-in, reply-fits}
-
-apart : {A : Type 0} → false ≡ true → A
-apart e = absurd (let z : _≡_ {A = ℕ} 0 1 = cc in omega arith)
-
-not-true : (t : Bool) → not t ≡ true → t ≡ false
-not-true true e = apart e
-not-true false e = refl
-
-not-false : (t : Bool) → not t ≡ false → t ≡ true
-not-false true e = refl
-not-false false e = apart (sym e)
 
 module _ (file s : List ℕ) (q n r : ℕ) (bytes : List ℕ) where
   abbrev outer : Network → State → Result
@@ -57,12 +46,9 @@ module _ (file s : List ℕ) (q n r : ℕ) (bytes : List ℕ) where
     outer-nothing e f = made-refused file outer f (λ w G st. subst (Runs file s G q n) e (h .tells w G st) _)
 
     module _ {slot b : ℕ} (e : x ≡ Running.Session slot b) {y : Waiting} (k : WaitsAt file s slot b q r y) where
-      running : WellFormed file → (G : State) → StateOf file s G → InSession file s G q n slot b
-      running w G st = subst (Runs file s G q n) e (h .tells w G st)
-
       outer-is : WellFormed file → (G : State) → StateOf file s G → outer (networkOf file) G ≡ waitingAs file y (replies G)
       outer-is w G st =
-          let i = running w G st in
+          let i = running h e w G st in
           in-session i (λ B S. onWaitingRow q S (atRow r B) (replies G)) ∙ waits-in i k w (replies G)
 
       pub outer-not-waiting : {a : Outcome} → y ≡ Waiting.NotAllowed → a ≡ refusedBy MoveNotAllowed → Made file outer s s a
@@ -97,7 +83,7 @@ module _ (file s : List ℕ) (q n r : ℕ) (bytes : List ℕ) where
             is-message = decode-sound messageDeep messageMany bytes (found .0) octets (found .1)
 
             rows-exist : WellFormed file → (G : State) → StateOf file s G → RowsExist file (Waiting.Row o p)
-            rows-exist w G st = subst (RowsExist file) g (k .exists w (running w G st .row))
+            rows-exist w G st = subst (RowsExist file) g (k .exists w (running h e w G st .row))
 
             outer-fits : (f : Bool) → fit ≡ f → WellFormed file → (G : State) → StateOf file s G
                 → outer (networkOf file) G ≡ require f MessageMisfit (takeReply G q n r (pathOf file p) (found .0))
@@ -114,14 +100,11 @@ module _ (file s : List ℕ) (q n r : ℕ) (bytes : List ℕ) where
             pub outer-taken : {s′ : List ℕ} {z : Outcome} → not fit ≡ false → TakesReply file s slot r p bytes s′ z → Made file outer s s′ z
             outer-taken y f = record {
               tells = λ w G st out.
-                  f .tells w (rows-exist w G st .1) G st q n b (running w G st) (found .0) is-message out
+                  f .tells w (rows-exist w G st .1) G st q n b (running h e w G st) (found .0) is-message out
                   ∙ ap (finish s out) (sym (outer-fits true (not-false fit y) w G st));
             }
 
 -- ---- what the calls ask for
-
-pub slot-inside : {file s : List ℕ} {q n slot b : ℕ} {x : Running} → RunsAt file s q n x → x ≡ Running.Session slot b → slot + 4096 ≤ 65536
-slot-inside {slot = slot} {b = b} h e = h .inside slot b e
 
 pub row-small : {file s : List ℕ} {slot b q r o p : ℕ} {y : Waiting} → WaitsAt file s slot b q r y → y ≡ Waiting.Row o p → r < 256
 row-small {o = o} {p = p} h e = h .small o p e

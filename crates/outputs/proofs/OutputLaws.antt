@@ -1,12 +1,12 @@
 -- Laws of refusal 13: one for each way out of the functions.
-use Prim.Native.Nat.{ℕ, zero, suc, _+_, _-_, _<_, _≤_}
+use Prim.Native.Nat.{ℕ, _+_, _-_, _<_, _≤_}
 use mathlib.Core.Path.{_≡_, refl, sym, _∙_, ap, subst}
 use mathlib.Core.List.{List, [], _∷_}
 use mathlib.Core.Bool.{Bool, true, false, not, _&&_, _||_}
 use native.Mathlib.Numerals.{add-one}
 use native.Mathlib.Omega.{arith}
 use lib.Dec.{eqb}
-use borrow.Author.Tests.{eq-eqb, ne-eqb, eqb-true}
+use borrow.Author.Tests.{eq-eqb, ne-eqb}
 use Rattle.refusal.specs.declared.Refusal.the-variants.{OutputMismatch}
 use Rattle.refusal.specs.declared.Verdict.{Verdict}
 use Rattle.refusal.specs.declared.Verdict.the-variants.{Done, Refused}
@@ -17,27 +17,17 @@ use Rattle.typing.specs.Result.{yields, require, Checked, refused, passed, atRo
 use Rattle.typing.specs.Rules.{sameBool, sameDirection, permits}
 use Rattle.typing.specs.NetworkChecker.{meets, meetsOne, meetsAt, checkOutputs}
 use Rattle.network.specs.Form.{WellFormed}
-use Rattle.network.specs.Layout.{typeCount, operationCount, serviceCount}
+use Rattle.network.specs.Layout.{operationCount, serviceCount}
 use Rattle.network.specs.Rows.{operationDirection, operationTwoWay, operationId, operationLocation, requestType, replyType, serviceLocation}
 use Rattle.network.specs.RowLaws.{OperationKept, operation-kept, CountsKept, counts-kept}
-use Rattle.network.specs.Decode.{typeOf, noReply, operationOf, serviceOf, rowsFrom, networkOf}
+use Rattle.network.specs.Decode.{typeOf, operationOf, serviceOf, rowsFrom, networkOf}
+use Rattle.network.specs.TestLaws.{not-true, not-false, and-of, one-less}
+use Rattle.network.specs.DecodeLaws.{reply-row}
 use Rattle.types.specs.Tells.{RowsOrder}
 use Rattle.operations.specs.Directions.{directionOf}
 use Rattle.outputs.specs.Outputs.{verdictOf, Meets, MeetsFrom, Located, MeetsServices, Output, OutputsFrom, Outputs}
 
 -- ---- tests
-
-not-true : (t : Bool) → not t ≡ true → t ≡ false
-not-true true e = sym e
-not-true false e = refl
-
-not-false : (t : Bool) → not t ≡ false → t ≡ true
-not-false true e = refl
-not-false false e = sym e
-
-and-of : (a b : Bool) → a && b ≡ true → (a ≡ true) × (b ≡ true)
-and-of true b e = (refl, e)
-and-of false b e = absurd (let z : _≡_ {A = ℕ} 0 1 = cc in omega arith)
 
 -- Four tests, of which one fails or all hold.
 first-fails : (a b : Bool) → a ≡ false → false ≡ a && b
@@ -61,12 +51,6 @@ unfolding permits
 two-way q t o e f =
     let a = and-of (eqb (o .service) q) (sameDirection (o .direction) input && sameBool (o .twoWay) t) e .1 in
     same-as (o .twoWay) t (and-of (sameDirection (o .direction) input) (sameBool (o .twoWay) t) a .1) f
-
-reply-row : (s : List ℕ) → WellFormed s → (o : ℕ) → o < operationCount s → operationOf s o .twoWay ≡ true
-    → (operationOf s o .reply ≡ typeOf s (replyType s o)) × (replyType s o < typeCount s)
-unfolding operationOf
-reply-row s w o l e =
-    (ap (λ (t : Bool). pick t (typeOf s (replyType s o)) noReply) e, operation-kept s w o l .reply (eqb-true (operationTwoWay s o) 1 e) .exists)
 
 -- ---- one input
 
@@ -138,10 +122,6 @@ module _ (file : List ℕ) (q o i : ℕ) {tw : ℕ} {p : Bool} (a : tw ≡ opera
 pub ruleset meet-laws = (meets-not-permitted, meets-other-id, meets-request, meets-one-way, meets-two-way)
 
 -- ---- rows one after another
-
-one-less : (n : ℕ) → (n ≡ 0 → ⊥) → n ≡ suc (n - 1)
-one-less zero h = absurd (h refl)
-one-less (suc n) h = omega arith
 
 rows-more : {A : Type 0} (f : ℕ → A) (i n : ℕ) → (n ≡ 0 → ⊥) → rowsFrom f i n ≡ f i ∷ rowsFrom f (i + 1) (n - 1)
 unfolding rowsFrom

@@ -12,6 +12,7 @@ use Rattle.scalar.specs.Value.{pick}
 use Rattle.wire.specs.Wire.{byteAt, u16At, u32At}
 use Rattle.state.specs.Session.{ReplyTo, nobody, outsider, waitingRow, Queued}
 use Rattle.state.specs.Bytes.{readReply, readEntry, readQueue, readSession}
+use Rattle.network.specs.TestLaws.{one-less}
 use Rattle.queues.specs.declared.ReplyTo as declared
 use Rattle.queues.specs.declared.ReplyTo.the-variants.{Nobody, Outsider, WaitingRow}
 use Rattle.queues.specs.declared.OldestEntry.{OldestEntry}
@@ -58,10 +59,6 @@ unfolding messageSpan
 span-is s slot k e f = ap (λ (n : ℕ). record { start = entryAt slot k + 8; len = n }) (f ∙ e)
 
 -- ---- how many messages
-
-one-less : (n : ℕ) → (n ≡ 0 → ⊥) → n ≡ suc (n - 1)
-one-less zero h = absurd (h refl)
-one-less (suc n) h = omega arith
 
 module _ (s : List ℕ) (at : ℕ) where
   queue-none : (n : ℕ) → n ≡ 0 → readQueue s n at ≡ []

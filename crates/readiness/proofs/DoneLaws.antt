@@ -13,6 +13,7 @@ use Rattle.network.specs.declared.BehaviourKind.{BehaviourKind}
 use Rattle.network.specs.Layout.{behaviourCount, behaviourAt}
 use Rattle.network.specs.Rows.{fieldA, fieldB, fieldC, fieldD, kindAt}
 use Rattle.network.specs.Decode.{branchesFrom, behaviourFrom, behaviourTo, behaviourOf}
+use Rattle.network.specs.TestLaws.{one-less}
 use Rattle.rows.specs.Readers.{behaviourRowAs, behaviourRowOf}
 use Rattle.state.specs.Session.{Progress, undone, done, waits, received, taken, Progresses}
 use Rattle.moves.specs.Readiness.{ifTaken, thenOrElse, isDone}
@@ -140,10 +141,6 @@ row-decides : (s : List ℕ) (p : Progresses) (d r : ℕ)
     → isDone p 0 (behaviourTo s (suc d) r) ≡ decided (λ a. isDone p 0 (behaviourTo s d a)) (decidersOf s p r)
 unfolding behaviourTo decidersOf behaviourRowOf
 row-decides s p d r = kind-decides s p d r (behaviourAt s r) (kindAt s r)
-
-pub one-less : (n : ℕ) → (n ≡ 0 → ⊥) → n ≡ suc (n - 1)
-one-less zero h = absurd (h refl)
-one-less (suc n) h = omega arith
 
 pub done-none : (s : List ℕ) (p : Progresses) (left r : ℕ) → left ≡ 0 → true ≡ isDone p 0 (behaviourTo s left r)
 unfolding behaviourTo isDone

@@ -9,13 +9,15 @@ use borrow.Author.Tests.{eq-eqb, ne-eqb}
 use Rattle.wire.specs.Wire.{u16At}
 use Rattle.scalar.specs.Value.{pick}
 use Rattle.syntax.specs.Syntax.{Behaviour}
-use Rattle.syntax.specs.Rows.{rowOf}
 use Rattle.network.specs.declared.BehaviourKind.{BehaviourKind}
 use Rattle.network.specs.Form.{WellFormed}
 use Rattle.network.specs.Layout.{behaviourCount, behaviourAt}
 use Rattle.network.specs.Rows.{fieldA, fieldB, fieldC, fieldD, kindAt}
-use Rattle.network.specs.Decode.{branchesFrom, behaviourFrom, behaviourTo, behaviourOf}
+use Rattle.network.specs.Decode.{branchesFrom, behaviourOf}
 use Rattle.network.specs.UseLaws.{RowKept, behaviour-kept}
+use Rattle.network.specs.TestLaws.{one-less}
+use Rattle.network.specs.RowLaws.{next-at}
+use Rattle.network.specs.BehaviourLaws.{row-of}
 use Rattle.rows.specs.declared.BehaviourRow.{BehaviourRow}
 use Rattle.rows.specs.Readers.{behaviourRowAs, behaviourRowOf}
 use Rattle.state.specs.Session.{Progress, undone, done, waits, received, taken, Progresses}
@@ -27,40 +29,9 @@ use Rattle.readiness.specs.declared.Ways.{Ways}
 use Rattle.readiness.specs.declared.Reached.{Reached}
 use Rattle.readiness.specs.Parts.{branchAt, inOrder, branchWays, waysIn, waysOf}
 use Rattle.readiness.specs.Reaching.{reachedAs, Offers, OffersRun, ReachesRow, Reaches}
-use Rattle.readiness.proofs.DoneLaws.{clipped, clipped-inside, first-of-one, first-of-many, next-of-many, one-less}
-
--- ---- a row's number
-
-row-kind : (s : List ℕ) (f : ℕ → Behaviour) (r at : ℕ) (k : BehaviourKind) → rowOf (behaviourFrom s f r at k) ≡ r
-unfolding rowOf behaviourFrom
-row-kind s f r at BehaviourKind.Nil = refl
-row-kind s f r at BehaviourKind.OneWay = refl
-row-kind s f r at BehaviourKind.RequestResponse = refl
-row-kind s f r at BehaviourKind.Notification = refl
-row-kind s f r at BehaviourKind.SolicitResponse = refl
-row-kind s f r at BehaviourKind.If = refl
-row-kind s f r at BehaviourKind.While = refl
-row-kind s f r at BehaviourKind.Sequence = refl
-row-kind s f r at BehaviourKind.Parallel = refl
-row-kind s f r at BehaviourKind.Assign = refl
-row-kind s f r at BehaviourKind.Choice = refl
-row-kind s f r at BehaviourKind.Branch = refl
-row-kind s f r at BehaviourKind.Unknown = refl
-
-row-to : (s : List ℕ) (d r : ℕ) → rowOf (behaviourTo s d r) ≡ r
-unfolding behaviourTo rowOf
-row-to s zero r = refl
-row-to s (suc d) r = row-kind s (behaviourTo s d) r (behaviourAt s r) (kindAt s r)
-
-row-of : (s : List ℕ) (r : ℕ) → rowOf (behaviourOf s r) ≡ r
-unfolding behaviourOf
-row-of s r = row-to s (behaviourCount s) r
+use Rattle.readiness.proofs.DoneLaws.{clipped, clipped-inside, first-of-one, first-of-many, next-of-many}
 
 -- ---- inputs of a choice
-
-next-at : (s : List ℕ) (r : ℕ) → behaviourAt s r + 10 ≡ behaviourAt s (suc r)
-unfolding behaviourAt
-next-at s r = omega arith
 
 offer-branch : (s : List ℕ) (c k i j n : ℕ) → offer c k i (branchesFrom s (behaviourOf s) j (suc n))
     ≡ offeredIf (eqb i (fieldA s (behaviourAt s j))) c k (behaviourOf s (fieldA s (behaviourAt s j)))

@@ -1,3 +1,4 @@
 pub mod Parts
 pub mod Reaching
+pub mod ReachedLaws
 pub mod NumberLaws

@@ -1,21 +1,15 @@
 -- The message that a receive takes, at each of the ways out of the code.
-use mathlib.Core.Path.{_≡_, refl, sym, ap, subst, _∙_}
-use mathlib.Core.Bool.{Bool, true, false, not, _&&_, _||_}
-use mathlib.Core.List.{List, [], _∷_}
+use mathlib.Core.Path.{_≡_, ap, subst, _∙_}
+use mathlib.Core.List.{List}
 use Prim.Native.Nat.{ℕ, _+_, _-_, _*_, _<_, _≤_}
 use native.Mathlib.Omega.{arith}
-use lib.Dec.{eqb}
 use lib.ListN.{take, drop}
-use Rattle.forest.specs.Path.{Path, path, replaceAt}
-use Rattle.scalar.specs.Value.{pick}
-use Rattle.wire.specs.Wire.{u16At, part}
+use Rattle.forest.specs.Path.{Path, replaceAt}
+use Rattle.wire.specs.Wire.{part}
 use Rattle.tree.specs.Encode.{Encodes, messageDeep, messageMany}
-use Rattle.tree.specs.Ids.{steps, zeros, endsInZeros, isPath, pathOf}
+use Rattle.tree.specs.Ids.{isPath, pathOf}
 use Rattle.network.specs.Form.{WellFormed}
-use Rattle.network.specs.Layout.{pathCount, pathAt}
-use Rattle.network.specs.LeastLaws.{rule-kept}
-use Rattle.network.specs.Rows.{pathRow}
-use Rattle.network.specs.RowLaws.{unbroken}
+use Rattle.network.specs.Layout.{pathCount}
 use Rattle.network.specs.Decode as network
 use Rattle.rows.specs.Readers.{pathIds}
 use Rattle.state.specs.Session.{Session}
@@ -27,48 +21,13 @@ use Rattle.queues.specs.declared.Span.{Span}
 use Rattle.queues.specs.Queue.{entryAt, messageSpan, oldestIn, without}
 use Rattle.queues.specs.ReadLaws.{oldest-entry}
 use Rattle.queues.specs.ChangeLaws.{EntryStands, live-entry, live-nothing, live-below, live-oldest}
-use Rattle.slots.specs.SlotLaws.{Living, living-holds}
+use Rattle.slots.specs.SlotLaws.{living-holds}
+use Rattle.slots.specs.Living.{Living}
 use Rattle.session_trees.specs.declared.Change.{Change}
 use Rattle.session_trees.specs.Changing.{KeptTree, ChangedTo, Replaces}
+use Rattle.types.specs.PathLaws.{path-is, ids-path}
 use Rattle.receive_moves.specs.declared.Taking.{Taking}
 use Rattle.receive_moves.specs.Receiving.{Takes}
-
--- ---- the path of a P row
-
-steps-until : (l : List ℕ) → steps l ≡ network.untilZero l
-unfolding steps network.untilZero
-steps-until [] = refl
-steps-until (i ∷ is) = ap (λ (z : List ℕ). pick (eqb i 0) [] (i ∷ z)) (steps-until is)
-
-path-is : (file : List ℕ) (p : ℕ) → pathOf (pathIds file p) ≡ network.pathOf file p
-unfolding pathOf pathIds network.pathOf
-path-is file p =
-    ap (path (u16At file (pathAt file p))) (steps-until (u16At file (pathAt file p + 2) ∷ u16At file (pathAt file p + 4) ∷ u16At file (pathAt file p + 6) ∷ []))
-
-true-false : {B : Type 0} → true ≡ false → B
-true-false e = absurd (let z : _≡_ {A = ℕ} 0 1 = cc in omega arith)
-
-zeros-by : (a b c d : Bool) → not a ≡ true → (not a || b) ≡ true → (not b || c) ≡ true → (not c || d) ≡ true →
-    pick a false (pick b (c && (d && true)) (pick c (d && true) (pick d true true))) ≡ true
-zeros-by true b c d p q r s = true-false (sym p)
-zeros-by false true true true p q r s = refl
-zeros-by false true true false p q r s = true-false (sym s)
-zeros-by false true false d p q r s = true-false (sym r)
-zeros-by false false true true p q r s = refl
-zeros-by false false true false p q r s = true-false (sym s)
-zeros-by false false false true p q r s = refl
-zeros-by false false false false p q r s = refl
-
-ids-path : (file : List ℕ) → WellFormed file → (p : ℕ) → p < pathCount file → isPath (pathIds file p) ≡ true
-unfolding pathRow pathIds isPath endsInZeros zeros
-ids-path file wf p le =
-    let h = unbroken file wf .paths p le in
-    let a = rule-kept _ _ _ h in
-    let b = rule-kept _ _ _ (a .1) in
-    let c = rule-kept _ _ _ (b .1) in
-    let d = rule-kept _ _ _ (c .1) in
-    zeros-by (eqb (u16At file (pathAt file p)) 0) (eqb (u16At file (pathAt file p + 2)) 0) (eqb (u16At file (pathAt file p + 4)) 0)
-    (eqb (u16At file (pathAt file p + 6)) 0) (a .0) (b .0) (c .0) (d .0)
 
 -- ---- the oldest message
 

@@ -16,6 +16,7 @@ use Rattle.network.specs.Form.{WellFormed}
 use Rattle.network.specs.Layout.{pathCount, behaviourCount}
 use Rattle.network.specs.RowLaws.{counts-kept}
 use Rattle.network.specs.Decode.{pathOf, operationOf, behaviourOf, networkOf}
+use Rattle.network.specs.TestLaws.{not-true, not-false}
 use Rattle.rows.specs.declared.BehaviourRow.{BehaviourRow}
 use Rattle.rows.specs.Readers.{behaviourRowOf}
 use Rattle.behaviours.specs.Rows.{behaviourBy, KeptBy}
@@ -31,6 +32,7 @@ use Rattle.operations.specs.Directions.{directionOf}
 use Rattle.queues.specs.Queue.{entryAt, without}
 use Rattle.readiness.specs.declared.Reached.{Reached}
 use Rattle.readiness.specs.Reaching.{reachedAs, Reaches}
+use Rattle.readiness.specs.ReachedLaws.{reaches-row, offered-row}
 use Rattle.moving.specs.declared.Running.{Running}
 use Rattle.moving.specs.Made.{StateOf, Made, InSession, Runs, RunsAt}
 use Rattle.moving.specs.MadeLaws.{made-refused, made-slot, in-session}
@@ -39,7 +41,6 @@ use Rattle.receive_moves.specs.declared.Settling.{Settling}
 use Rattle.receive_moves.specs.declared.Taking.{Taking}
 use Rattle.receive_moves.specs.Receiving.{inputOf, afterwards, settled, SettlesRow, storedBytes, TakenAs, Takes, Leaves}
 use Rattle.receive_moves.specs.Receiving.{inputReceives, ReceivesInput, ReceivesAt}
-use Rattle.receive_moves.proofs.Rows.{reached-row, offered-row}
 use Rattle.receive_moves.proofs.Storing.{receivedIn, Small, stored-made, stored-live}
 
 -- ---- what is left
@@ -56,14 +57,6 @@ leaves-slot file {s} {s′} {o} {r} q n at S w G st i j p m e b h = record {
       made-slot file (λ N K. moved (setSlot K q n (live S)) []) {s = s} {s′ = s′} {o = o} q n at (live S) e b (λ w G st. (i, j, p, m, refl)) .tells w G st out
       ∙ ap (finish s out) (sym h);
 }
-
-not-true : (d : Bool) → not d ≡ true → d ≡ false
-not-true true e = sym e
-not-true false e = refl
-
-not-false : (d : Bool) → not d ≡ false → d ≡ true
-not-false true e = refl
-not-false false e = sym e
 
 -- ---- an input
 
@@ -276,7 +269,7 @@ module _ (file s : List ℕ) (q n r : ℕ) {x : Running} (runs : RunsAt file s q
     receive-reached j i h = record {
       tells = λ w G st out.
           let f = inside w G st in
-          h .tells w G st n b f (reached-row file w (readSession s at .progress) r b (f .row) reaches j i) tt .tells out
+          h .tells w G st n b f (reaches-row file w (readSession s at .progress) r b (f .row) reaches j i) tt .tells out
           ∙ ap (finish s out) (sym (receiving w G st (Reached.Reached j) i));
     }
 

@@ -21,7 +21,8 @@ use Rattle.queues.specs.declared.ReplyTo as queues
 use Rattle.queues.specs.declared.ReplyTo.the-variants.{Nobody, Outsider, WaitingRow}
 use Rattle.queues.specs.Queue.{replyOf, without, removed}
 use Rattle.queues.specs.ChangeLaws.{remove-made, remove-live}
-use Rattle.slots.specs.SlotLaws.{Living, row-set, tree-set, living-set, set-again, living-holds}
+use Rattle.slots.specs.SlotLaws.{row-set, tree-set, living-set, set-again, living-holds}
+use Rattle.slots.specs.Living.{Living}
 use Rattle.session_trees.specs.Changing.{KeptTree}
 use Rattle.receive_moves.specs.declared.Settling.{Settling}
 use Rattle.receive_moves.specs.Receiving.{afterwards, settled, settledBytes, treeStored, storedBytes}

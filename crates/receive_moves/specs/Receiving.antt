@@ -22,10 +22,10 @@ use Rattle.state.specs.Bytes.{u16Bytes, padded, progressBytes, readEntry, readS
 use Rattle.moves.specs.Moves.{Result, nothing, message, oldest, voidValue, require, ifUndone, takes, receiveAt}
 use Rattle.moves.specs.Step.{Step, finish}
 use Rattle.queues.specs.Queue.{entryAt, without, removed}
-use Rattle.slots.specs.SlotLaws.{Living}
 use Rattle.session_trees.specs.Changing.{KeptTree}
 use Rattle.moving.specs.Made.{StateOf, InSession}
 use Rattle.rows.specs.declared.BehaviourRow.{BehaviourRow}
+use Rattle.slots.specs.Living.{Living}
 use Rattle.receive_moves.specs.declared.Input.{Input}
 use Rattle.receive_moves.specs.declared.Settling.{Settling}
 use Rattle.receive_moves.specs.declared.Taking.{Taking}

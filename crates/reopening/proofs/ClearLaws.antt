@@ -19,6 +19,7 @@ use Rattle.network.specs.declared.BehaviourKind.{BehaviourKind}
 use Rattle.network.specs.Layout.{behaviourCount, behaviourAt}
 use Rattle.network.specs.Rows.{fieldA, fieldB, fieldC, fieldD, kindAt}
 use Rattle.network.specs.Decode.{branchesFrom, behaviourFrom, behaviourTo, behaviourOf}
+use Rattle.network.specs.TestLaws.{one-less, or-false}
 use Rattle.rows.specs.Readers.{behaviourRowAs, behaviourRowOf}
 use Rattle.roots.specs.declared.Subs.{Subs}
 use Rattle.roots.specs.Parts.{subsIn, subsOf}
@@ -148,10 +149,6 @@ pub ruleset clear-laws = (clear-past, clear-put)
 
 -- ---- behaviours
 
-or-false : (a : Bool) → a ≡ a || false
-or-false true = refl
-or-false false = refl
-
 or-assoc : (a b c : Bool) → a || (b || c) ≡ (a || b) || c
 or-assoc true b c = refl
 or-assoc false b c = refl
@@ -181,10 +178,6 @@ rows-more s d r i = kind-rows s d r i (kindAt s r)
 rows-none : (s : List ℕ) (r i : ℕ) → isRow r i ≡ behaviourRows s 0 r i
 unfolding behaviourRows behaviourTo isRow hasRow
 rows-none s r i = refl
-
-one-less : (n : ℕ) → (n ≡ 0 → ⊥) → n ≡ suc (n - 1)
-one-less zero h = absurd (h refl)
-one-less (suc n) h = omega arith
 
 pub row-alone : (s : List ℕ) (slot x r left : ℕ) (a b : List ℕ) → x ≡ r → Clears (isRow x) slot a b → left ≡ 0 → Clears (behaviourRows s left r) slot a b
 row-alone s slot x r left a b e c z =

@@ -16,7 +16,6 @@ use Rattle.tree.specs.Ids.{isPath}
 use Rattle.tree.specs.Ids as ids
 use Rattle.tree_edit.specs.Wrote.{Wrote}
 use Rattle.tree_edit.specs.WroteLaws.{wrote-all}
-use Rattle.refusal.specs.declared.Refusal.{Refusal}
 use Rattle.refusal.specs.declared.Refusal.the-variants.{MoveNotAllowed, Stuck, MessageMisfit}
 use Rattle.refusal.specs.declared.Outcome.{Outcome}
 use Rattle.refusal.specs.Refusal.{doneWith, refusedBy}
@@ -28,6 +27,7 @@ use Rattle.typing.specs.Environment.{within}
 use Rattle.network.specs.Form.{WellFormed}
 use Rattle.network.specs.Layout.{pathCount}
 use Rattle.network.specs.Decode.{pathOf, operationOf, behaviourOf, networkOf}
+use Rattle.network.specs.TestLaws.{not-true, not-false}
 use Rattle.rows.specs.Readers.{pathIds}
 use Rattle.state.specs.Session.{ReplyTo, outsider, waitingRow, Progress, done, advance, Session, Slot, live, State, setSlot}
 use Rattle.state.specs.Bytes.{u32Bytes, messageBytes, progressBytes, slotBytes, stateBytes, readSession}
@@ -38,33 +38,23 @@ use Rattle.state.specs.KeepLaws.{advance-past}
 use Rattle.progress.specs.declared.Progress as coded
 use Rattle.progress.specs.Meaning.{meaning}
 use Rattle.progress.proofs.Progress as progress
-use Rattle.moves.specs.Moves.{Result, refused, moved, notAllowed, require, onFound, onLive, onReceived, voidValue, withProgress, saveWithin, mustFit, onWaitingRow, takeReply, answered, replyTo, replyAt, replyMove}
-use Rattle.moves.specs.Step.{Step, finish}
-use Rattle.slots.specs.SlotLaws.{Living, row-set, stands-set}
+use Rattle.moves.specs.Moves.{Result, moved, notAllowed, require, onFound, onLive, onReceived, voidValue, withProgress, saveWithin, mustFit, onWaitingRow, takeReply, answered, replyTo, replyAt, replyMove}
+use Rattle.moves.specs.Step.{finish}
+use Rattle.slots.specs.SlotLaws.{row-set, stands-set}
+use Rattle.slots.specs.Living.{Living}
 use Rattle.session_trees.specs.declared.Change.{Change}
 use Rattle.session_trees.specs.Changing.{ChangedTo, Replaces}
 use Rattle.moving.specs.declared.Running.{Running}
 use Rattle.moving.specs.Made.{StateOf, MadeOut, InSession, Runs, RunsAt}
-use Rattle.moving.specs.MadeLaws.{in-session}
+use Rattle.moving.specs.MadeLaws.{in-session, running, refused-step, made-out-refused}
 use Rattle.waiting_rows.specs.declared.Waiting.{Waiting}
 use Rattle.waiting_rows.specs.Waiting as waiting
 use Rattle.waiting_rows.specs.Waiting.{waitingAs, WaitsAt, replied, PutsReply}
 use Rattle.waiting_rows.specs.WaitingLaws.{waits-in}
-use Rattle.waiting_rows.specs.PathLaws.{ids-are, ids-path}
+use Rattle.types.specs.PathLaws.{ids-path, path-is}
 use Rattle.reply_moves.specs.declared.Replying.{Replying}
 use Rattle.reply_moves.specs.declared.Reply.{Reply}
 use Rattle.reply_moves.specs.Replying.{replyingAs, RowsExist, ReplyingAt, ReadAs, ReadsReply, FitsReply, RepliesOutside, StoresReply, RepliesInside}
-
-apart : {A : Type 0} → false ≡ true → A
-apart e = absurd (let z : _≡_ {A = ℕ} 0 1 = cc in omega arith)
-
-not-true : (t : Bool) → not t ≡ true → t ≡ false
-not-true true e = apart e
-not-true false e = refl
-
-not-false : (t : Bool) → not t ≡ false → t ≡ true
-not-false true e = refl
-not-false false e = apart (sym e)
 
 pub reply-inside : {file s : List ℕ} {slot c : ℕ} {o : List ℕ} {x : Reply} {n : ℕ} → ReadsReply file s slot c o x → x ≡ Reply.Message n → n ≤ length o
 reply-inside {n = n} h e = h .inside n e
@@ -72,19 +62,11 @@ reply-inside {n = n} h e = h .inside n e
 pub part-length : (m : List ℕ) (n : ℕ) → n ≤ length m → n ≡ length (take n m)
 part-length m n h = simp length-take (omega arith)
 
-pub slot-inside : {file s : List ℕ} {q n slot b : ℕ} {x : Running} → RunsAt file s q n x → x ≡ Running.Session slot b → slot + 4096 ≤ 65536
-slot-inside {slot = slot} {b = b} h e = h .inside slot b e
-
 pub waiting-small : {file s : List ℕ} {slot b q r o p : ℕ} {y : Waiting} → WaitsAt file s slot b q r y → y ≡ Waiting.Row o p → r < 256
 waiting-small {o = o} {p = p} h e = h .small o p e
 
 pub replying-small : {file s : List ℕ} {slot b q r o c : ℕ} {y : Replying} → ReplyingAt file s slot b q r y → y ≡ Replying.Row o c → r < 256
 replying-small {o = o} {c = c} h e = h .small o c e
-
--- A refusal.
-refused-step : {s out : List ℕ} {a : Outcome} {why : Refusal} {x : Result} → a ≡ refusedBy why → x ≡ refused why
-    → _≡_ {A = Step} (record { outcome = a; state = s; out = out }) (finish s out x)
-refused-step {s} {out} f e = ap (λ (y : Outcome). record { outcome = y; state = s; out = out }) f ∙ ap (finish s out) (sym e)
 
 -- ---- the state in which the replying row is done
 
@@ -224,7 +206,7 @@ module _ (file s : List ℕ) (slot r to r2 p : ℕ) (m : List ℕ) (small : r < 
     changed : ChangedTo o x (changedTree T t)
     changed =
         subst (λ (F : Forest Value). ChangedTo o x (replaceAt voidValue (pathOf file p) t F)) (sym (other h k r small .sameTree))
-        (subst (λ (y : Path). ChangedTo o x (replaceAt voidValue y t (k .session .tree))) (ap ids.pathOf d ∙ ids-are file p)
+        (subst (λ (y : Path). ChangedTo o x (replaceAt voidValue y t (k .session .tree))) (ap ids.pathOf d ∙ path-is file p)
         (c .tells (k .session) t (k .living) (ap isPath d ∙ ids-path file w p l) g))
 
     abbrev After : State
@@ -363,49 +345,43 @@ module _ (file s out : List ℕ) (q n r : ℕ) where
   abbrev moves : Network → State → Result
   moves N G = replyMove N G q n r
 
-  refused-out : {a : Outcome} {why : Refusal} → a ≡ refusedBy why
-      → (WellFormed file → (G : State) → StateOf file s G → moves (networkOf file) G ≡ refused why) → MadeOut file moves s s out out a
-  refused-out e h = record { tells = λ w G st l. refused-step e (h w G st) }
-
   module _ {x : Running} (h : RunsAt file s q n x) where
     pub move-nothing : {a : Outcome} → x ≡ Running.Nothing → a ≡ refusedBy MoveNotAllowed → MadeOut file moves s s out out a
-    move-nothing e f = refused-out f (λ w G st. subst (Runs file s G q n) e (h .tells w G st) _)
+    move-nothing e f = made-out-refused file moves f (λ w G st. subst (Runs file s G q n) e (h .tells w G st) _)
 
     module _ {slot b : ℕ} (e : x ≡ Running.Session slot b) {y : Replying} (k : ReplyingAt file s slot b q r y) where
-      running : WellFormed file → (G : State) → StateOf file s G → InSession file s G q n slot b
-      running w G st = subst (Runs file s G q n) e (h .tells w G st)
-
       move-is : (w : WellFormed file) (G : State) (st : StateOf file s G)
-          → moves (networkOf file) G ≡ replyingAs file (networkOf file) G q n (running w G st .session) r y
+          → moves (networkOf file) G ≡ replyingAs file (networkOf file) G q n (running h e w G st .session) r y
       move-is w G st =
-          let i = running w G st in
+          let i = running h e w G st in
           in-session i (λ B S. replyAt (networkOf file) G q n S (atRow r B))
           ∙ subst (λ (S : Session). replyAt (networkOf file) G q n S (atRow r (behaviourOf file b)) ≡ replyingAs file (networkOf file) G q n S r y) (i .reads)
           (k .tells w (i .row) (networkOf file) G n)
 
       pub move-not-allowed : {a : Outcome} → y ≡ Replying.NotAllowed → a ≡ refusedBy MoveNotAllowed → MadeOut file moves s s out out a
       move-not-allowed g f =
-          refused-out f (λ w G st. move-is w G st ∙ ap (λ (z : Replying). replyingAs file (networkOf file) G q n (running w G st .session) r z) g)
+          made-out-refused file moves f (λ w G st. move-is w G st
+          ∙ ap (λ (z : Replying). replyingAs file (networkOf file) G q n (running h e w G st .session) r z) g)
 
       module _ {o c : ℕ} (g : y ≡ Replying.Row o c) (p : coded.Progress) (m : meaning p ≡ readSession s slot .progress r) where
         abbrev next : State → Session → ReplyTo → Result
         next G S to = replyTo (networkOf file) G q n S r (operationOf file o) (pathOf file c) to
 
         move-row : (w : WellFormed file) (G : State) (st : StateOf file s G)
-            → moves (networkOf file) G ≡ onReceived (meaning p) (next G (running w G st .session))
+            → moves (networkOf file) G ≡ onReceived (meaning p) (next G (running h e w G st .session))
         move-row w G st =
-            let i = running w G st in
+            let i = running h e w G st in
             move-is w G st ∙ (ap (λ (z : Replying). replyingAs file (networkOf file) G q n (i .session) r z) g
             ∙ ap (λ (z : Progress). onReceived z (next G (i .session))) (ap (λ (S : Session). S .progress r) (sym (i .reads)) ∙ sym m))
 
         exists : (w : WellFormed file) (G : State) → StateOf file s G → RowsExist file (Replying.Row o c)
-        exists w G st = subst (RowsExist file) g (k .exists w (running w G st .row))
+        exists w G st = subst (RowsExist file) g (k .exists w (running h e w G st .row))
 
         pub move-outside : {v : ℕ} {s′ out′ : List ℕ} {a : Outcome} → p ≡ coded.Progress.FromOutsider v → RepliesOutside file s slot r o c v s′ out out′ a
             → MadeOut file moves s s′ out out′ a
         move-outside j f = record {
           tells = λ w G st l.
-              let i = running w G st in
+              let i = running h e w G st in
               f .tells w (exists w G st) G st q n b i l
               ∙ ap (finish s out) (sym (move-row w G st ∙ ap (λ (z : coded.Progress). onReceived (meaning z) (next G (i .session))) j));
         }
@@ -414,7 +390,7 @@ module _ (file s out : List ℕ) (q n r : ℕ) where
             → RepliesInside file s slot r c q2 n2 r2 s′ a → MadeOut file moves s s′ out out a
         move-inside {a2} {c2} {q2} {n2} {r2} j u v f = record {
           tells = λ w G st l.
-              let i = running w G st in
+              let i = running h e w G st in
               f .tells w (exists w G st .1) G st q n b i (operationOf file o) out
               ∙ ap (finish s out) (sym (move-row w G st ∙ (ap (λ (z : coded.Progress). onReceived (meaning z) (next G (i .session))) j
               ∙ (ap (λ (z : ℕ). next G (i .session) (waitingRow z c2 r2)) (sym u) ∙ ap (λ (z : ℕ). next G (i .session) (waitingRow q2 z r2)) (sym v)))));
@@ -422,7 +398,7 @@ module _ (file s out : List ℕ) (q n r : ℕ) where
 
         pub move-not-received : {a : Outcome} → OneOf (0 ∷ 1 ∷ 2 ∷ 3 ∷ 6 ∷ []) (tagOf progress.the-type p) → a ≡ refusedBy MoveNotAllowed
             → MadeOut file moves s s out out a
-        move-not-received j f = refused-out f (λ w G st. move-row w G st ∙ none-received p G (running w G st .session) j)
+        move-not-received j f = made-out-refused file moves f (λ w G st. move-row w G st ∙ none-received p G (running h e w G st .session) j)
           where
             none-received : (p : coded.Progress) (G : State) (S : Session) → OneOf (0 ∷ 1 ∷ 2 ∷ 3 ∷ 6 ∷ []) (tagOf progress.the-type p)
                 → onReceived (meaning p) (next G S) ≡ notAllowed

@@ -10,14 +10,14 @@ use lib.Dec.{leb}
 use Rattle.forest.specs.Forest.{Tree, tree, Lookup, absent, levels, nodes}
 use Rattle.forest.specs.Path.{Path, read}
 use Rattle.scalar.specs.Value.{Value}
-use Rattle.tree.specs.Encode.{children, Octets, WellFormed, Encodes, Message, empty, messageDeep, messageMany, treeDeep, treeMany}
-use Rattle.tree.specs.EncodeLaws.{of-good}
+use Rattle.tree.specs.Encode.{children, Octets, Encodes, Message, empty, messageDeep, messageMany, treeDeep, treeMany}
+use Rattle.tree.specs.EncodeLaws.{and-left, and-right}
 use Rattle.tree.specs.Decode.{decode, isPresent, isTree, isMessage}
 use Rattle.tree.specs.DecodeLaws.{decode-complete, message-sound, message-complete, encode-injective}
 use Rattle.tree.specs.Ids.{isPath}
 use Rattle.tree.specs.Ids as ids
-use Rattle.tree.specs.Standing.{Root, Spot, Followed}
-use Rattle.tree.specs.StandingLaws.{encodes-root}
+use Rattle.tree.specs.Standing.{Spot, Followed}
+use Rattle.tree.specs.StandingLaws.{encodes-root, root-good}
 use Rattle.tree.specs.declared.Found.{Found}
 use Rattle.tree_edit.specs.Wrote.{Wrote}
 use Rattle.tree_edit.specs.WroteLaws.{wrote-more, wrote-all-of}
@@ -27,43 +27,22 @@ use Rattle.network.specs.Form as network
 use Rattle.network.specs.Layout.{pathCount}
 use Rattle.network.specs.Rows.{replyType}
 use Rattle.network.specs.Decode.{pathOf, operationOf}
-use Rattle.network.specs.TestLaws.{le-of}
+use Rattle.network.specs.TestLaws.{le-of, apart, unequal, not-true, told}
 use Rattle.rows.specs.Readers.{pathIds}
 use Rattle.types.specs.Tells.{FitsRow}
+use Rattle.types.specs.PathLaws.{ids-path, path-is}
 use Rattle.state.specs.Session.{Session}
 use Rattle.state.specs.Bytes.{u32Bytes}
 use Rattle.state.specs.SizeLaws.{session-tree-size}
 use Rattle.moves.specs.Moves.{isMessageTree}
 use Rattle.slots.specs.Slots.{treeIn}
-use Rattle.slots.specs.SlotLaws.{Living, living-tree}
-use Rattle.waiting_rows.specs.PathLaws.{ids-are, ids-path}
+use Rattle.slots.specs.SlotLaws.{living-tree}
+use Rattle.slots.specs.Living.{Living}
 use Rattle.waiting_rows.specs.WaitingLaws.{reply-fits}
 use Rattle.reply_moves.specs.declared.Reply.{Reply}
 use Rattle.reply_moves.specs.Replying.{ReadsReply, FitsReply}
 
-apart : {A : Type 0} → false ≡ true → A
-apart e = absurd (let z : _≡_ {A = ℕ} 0 1 = cc in omega arith)
-
-unequal : {b : Bool} {A : Type 0} → b ≡ true → not b ≡ true → A
-unequal e f = absurd (let z : _≡_ {A = ℕ} 0 1 = cc in omega arith)
-
-not-true : (t : Bool) → not t ≡ true → t ≡ false
-not-true true e = apart e
-not-true false e = refl
-
-pub told : {b c : Bool} → b ≡ c → not b ≡ false → c ≡ true
-told {b} {c} e f = sym e ∙ by b f
-  where
-    by : (b : Bool) → not b ≡ false → b ≡ true
-    by true f = refl
-    by false f = apart (sym f)
-
 -- ---- `read_reply`
-
-root-good : (s : List ℕ) (at i : ℕ) (t : Tree Value) → Root s at i t → WellFormed treeDeep treeMany t
-root-good s at i t w =
-    let g = of-good (children t) treeDeep 0 (w .good) in
-    record { root = w .proper; sound = g .sound; rising = g .rising; shallow = g .shallow; few = w .small }
 
 no-length : {n : ℕ} {A : Type 0} → Reply.Missing ≡ Reply.Message n → A
 no-length e = absurd (let z : _≡_ {A = ℕ} 0 1 = cc in omega arith)
@@ -90,7 +69,7 @@ module _ (file s : List ℕ) (slot c : ℕ) {t is : List ℕ} (e : t ≡ treeIn 
     spot : {g : Found} → f ≡ g → network.WellFormed file → c < pathCount file → (S : Session) → Living s slot S
         → Spot t (ids.lastId (ids.pathOf is)) g (read (pathOf file c) (S .tree))
     spot {g} k w p S h =
-        subst (λ (x : Path). Spot t (ids.lastId (ids.pathOf is)) g (read x (S .tree))) (ap ids.pathOf d ∙ ids-are file c)
+        subst (λ (x : Path). Spot t (ids.lastId (ids.pathOf is)) g (read x (S .tree))) (ap ids.pathOf d ∙ path-is file c)
         (subst (λ (y : Found). Spot t (ids.lastId (ids.pathOf is)) y (read (ids.pathOf is) (S .tree))) k
         (l .tells 0 (tree empty (S .tree)) (encodes-root treeDeep treeMany t (tree empty (S .tree)) (omega arith) (omega arith) (encodes h))
         (ap isPath d ∙ ids-path file w c p)))
@@ -109,7 +88,7 @@ module _ (file s : List ℕ) (slot c : ℕ) {t is : List ℕ} (e : t ≡ treeIn 
             record {
               bytes = v .holds
                   ∙ (ap (subtreeOf (ids.pathOf is)) (decode-complete treeDeep treeMany t (tree empty (S .tree)) (encodes h))
-                  ∙ ap alone (ap (λ (x : Path). read x (S .tree)) (ap ids.pathOf d ∙ ids-are file c) ∙ z .is));
+                  ∙ ap alone (ap (λ (x : Path). read x (S .tree)) (ap ids.pathOf d ∙ path-is file c) ∙ z .is));
               good = g;
             },
           );
@@ -122,15 +101,7 @@ pub ruleset read-laws = (read-long, read-no-path, read-no-tree, read-nothing, re
 
 limits : (t : Tree Value) → isMessageTree t ≡ true → (levels (children t) ≤ messageDeep) × (nodes (children t) ≤ messageMany)
 limits (tree v k) e =
-    (le-of (levels k) messageDeep (first (leb (levels k) messageDeep) _ e), le-of (nodes k) messageMany (second (leb (levels k) messageDeep) _ e))
-  where
-    first : (a b : Bool) → (a && b) ≡ true → a ≡ true
-    first true b e = refl
-    first false b e = e
-
-    second : (a b : Bool) → (a && b) ≡ true → b ≡ true
-    second true b e = e
-    second false b e = apart e
+    (le-of (levels k) messageDeep (and-left (leb (levels k) messageDeep) _ e), le-of (nodes k) messageMany (and-right (leb (levels k) messageDeep) _ e))
 
 module _ (file m : List ℕ) (o : ℕ) (octets : Octets m) {u : Bool} (d : u ≡ isMessage m) where
   -- A tree that is no message's.

@@ -1,27 +1,28 @@
 -- Rows that reply, at each of the ways out of the code.
 use mathlib.Core.Path.{_≡_, refl, sym, ap, _∙_}
-use mathlib.Core.Bool.{Bool, true, false, not, _&&_}
+use mathlib.Core.Bool.{Bool, true, false, not}
 use mathlib.Core.List.{List, [], _∷_}
 use Prim.Native.Nat.{ℕ, _<_}
 use native.Mathlib.Omega.{arith}
 use types.Run.{OneOf, miss}
 use denote.Enum.Declared.{tagOf}
-use lib.Dec.{eqb}
 use Rattle.forest.specs.Compare.{T-of}
 use Rattle.refusal.specs.declared.Refusal.the-variants.{MoveNotAllowed}
-use Rattle.syntax.specs.Syntax.{Network, Operation, input, Optional, some, Behaviour}
+use Rattle.syntax.specs.Syntax.{Network, input, Optional, some, Behaviour}
 use Rattle.syntax.specs.Rows.{hasRow, atRow}
-use Rattle.typing.specs.Rules.{sameBool, sameDirection, permits}
+use Rattle.typing.specs.Rules.{permits}
 use Rattle.network.specs.declared.BehaviourKind.{BehaviourKind}
 use Rattle.network.specs.Form.{WellFormed}
 use Rattle.network.specs.Layout.{behaviourCount}
 use Rattle.network.specs.Rows.{kindAt}
 use Rattle.network.specs.OnceLaws.{rows-of}
 use Rattle.network.specs.Decode.{pathOf, operationOf, behaviourOf}
+use Rattle.network.specs.TestLaws.{not-true, not-false}
 use Rattle.rows.specs.declared.BehaviourRow.{BehaviourRow}
 use Rattle.rows.proofs.BehaviourRow as rows
 use Rattle.rows.specs.Readers.{behaviourRowAs, behaviourRowOf}
 use Rattle.operations.specs.Directions.{directionOf}
+use Rattle.operations.specs.PermitsLaws.{two-way}
 use Rattle.behaviours.specs.Rows.{behaviourBy}
 use Rattle.behaviours.specs.KindLaws.{row-is}
 use Rattle.state.specs.Session.{ReplyTo, Progress, undone, done, waits, received, taken, Session, State}
@@ -32,17 +33,6 @@ use Rattle.waiting_rows.specs.Waiting.{HasRow}
 use Rattle.waiting_rows.specs.PartLaws.{at-each-row, row-absent, row-present}
 use Rattle.reply_moves.specs.declared.Replying.{Replying}
 use Rattle.reply_moves.specs.Replying.{ReplyingAt}
-
-apart : {A : Type 0} → false ≡ true → A
-apart e = absurd (let z : _≡_ {A = ℕ} 0 1 = cc in omega arith)
-
-not-true : (t : Bool) → not t ≡ true → t ≡ false
-not-true true e = apart e
-not-true false e = refl
-
-not-false : (t : Bool) → not t ≡ false → t ≡ true
-not-false true e = refl
-not-false false e = apart (sym e)
 
 -- ---- what a row answers
 
@@ -102,18 +92,6 @@ module _ (file : List ℕ) (N : Network) (G : State) (q n : ℕ) (S : Session) w
       (λ i e c d m. answers-branch i e) (λ i e c d. answers-branch i e) b r l (p .0) (p .1)
 
 -- ---- `replying_at`
-
-and-of : (a b : Bool) → (a && b) ≡ true → b ≡ true
-and-of true b e = e
-and-of false b e = apart e
-
-same-true : (b : Bool) → sameBool b true ≡ true → b ≡ true
-same-true true e = refl
-same-true false e = e
-
-two-way : (q : ℕ) (o : Operation) → permits q input true o ≡ true → o .twoWay ≡ true
-unfolding permits
-two-way q o e = same-true (o .twoWay) (and-of (sameDirection (o .direction) input) (sameBool (o .twoWay) true) (and-of (eqb (o .service) q) _ e))
 
 nowhere : {o c : ℕ} {A : Type 0} → Replying.NotAllowed ≡ Replying.Row o c → A
 nowhere e = absurd (let z : _≡_ {A = ℕ} 0 1 = cc in omega arith)
@@ -201,7 +179,7 @@ module _ (file s : List ℕ) (slot b q r : ℕ) {t : Bool} (h : HasRow file b r 
           exists = λ w l.
               let i = rows-of file w b r l (T-of (runs w l)) .1 in
               let kept = row-is file w r (behaviourCount file) (record { exists = i; enough = omega arith }) e g .1 in
-              (kept .0, kept .2, two-way q (operationOf file o) (sym z ∙ not-false v j));
+              (kept .0, kept .2, two-way q input (operationOf file o) (sym z ∙ not-false v j));
           small = λ a c f. h .small (not-false t y);
         }
 

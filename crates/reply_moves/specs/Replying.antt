@@ -19,8 +19,8 @@ use Rattle.state.specs.Session.{outsider, waitingRow, Session, State}
 use Rattle.state.specs.Bytes.{readSession}
 use Rattle.moves.specs.Moves.{Result, notAllowed, onReceived, isMessageTree, takeReply, answered, replyTo, replyAt}
 use Rattle.moves.specs.Step.{Step, finish}
-use Rattle.slots.specs.SlotLaws.{Living}
 use Rattle.moving.specs.Made.{StateOf, InSession}
+use Rattle.slots.specs.Living.{Living}
 use Rattle.reply_moves.specs.declared.Replying.{Replying}
 use Rattle.reply_moves.specs.declared.Reply.{Reply}
 

@@ -3,7 +3,7 @@ use Prim.Native.Nat.{ℕ, zero, suc, _+_, _-_, _*_, _<_, _≤_}
 use mathlib.Core.Path.{_≡_, refl, sym, _∙_, ap, subst}
 use mathlib.Core.List.{List, [], _∷_}
 use mathlib.Core.Bool.{Bool, true, false, not, _&&_, _||_}
-use mathlib.Core.Logic.{_⊎_, inl, inr, ⊎-elim}
+use mathlib.Core.Logic.{⊎-elim}
 use native.Mathlib.Numerals.{add-one}
 use native.Mathlib.Omega.{arith}
 use lib.ListN.{getD, set, length, length-set, replicate, length-replicate}
@@ -18,6 +18,8 @@ use Rattle.network.specs.declared.BehaviourKind.{BehaviourKind}
 use Rattle.network.specs.Layout.{behaviourCount, pathAt, expressionAt, behaviourAt}
 use Rattle.network.specs.Rows.{fieldA, fieldB, fieldC, fieldD, expressionKindAt, kindAt}
 use Rattle.network.specs.Decode.{pathOf, expressionFrom, expressionTo, branchesFrom, behaviourFrom, behaviourTo, behaviourOf}
+use Rattle.network.specs.TestLaws.{one-less, or-false, or-assoc, and-of, both-true, or-of, clash}
+use Rattle.network.specs.RowLaws.{next-at}
 use Rattle.rows.specs.declared.ExpressionRow.{ExpressionRow}
 use Rattle.rows.specs.declared.BehaviourRow.{BehaviourRow}
 use Rattle.rows.specs.Readers.{expressionRowAs, expressionRowOf, behaviourRowAs, behaviourRowOf}
@@ -60,40 +62,18 @@ pub ruleset part-laws = (operands-are, own-are, subs-of-row)
 
 -- ---- tests
 
-or-assoc : (a b c : Bool) → (a || b) || c ≡ a || (b || c)
-or-assoc true b c = refl
-or-assoc false b c = refl
-
-or-false : (a : Bool) → a ≡ a || false
-or-false true = refl
-or-false false = refl
-
 or-true : (a : Bool) → a || true ≡ true
 or-true true = refl
 or-true false = refl
 
-and-of : (a b : Bool) → a && b ≡ true → (a ≡ true) × (b ≡ true)
-and-of true b e = (refl, e)
-and-of false b e = absurd (let z : _≡_ {A = ℕ} 0 1 = cc in omega arith)
-
-both-true : {a b : Bool} → a ≡ true → b ≡ true → a && b ≡ true
-both-true e f = rw (e, f) refl
-
 -- ---- marks one after another
-
-or-cases : (a b : Bool) → a || b ≡ true → (a ≡ true) ⊎ (b ≡ true)
-or-cases true b e = inl refl
-or-cases false b e = inr e
-
-never : {a : Bool} → a ≡ true → a ≡ false → ⊥
-never e f = let z : _≡_ {A = ℕ} 0 1 = cc in omega arith
 
 pub adds-none : (l : List ℕ) (f : ℕ → Bool) → ((i : ℕ) → f i ≡ false) → Adds f l l
 adds-none l f e = record {
   adds = λ n h. record {
     size = h;
     near = λ i k. or-false (marked l i) ∙ ap (λ (x : Bool). marked l i || x) (sym (e i));
-    far = λ i k t. absurd (never t (e i));
+    far = λ i k t. absurd (clash t (e i));
     keeps = λ t. t;
     full = λ k t. t;
   };
@@ -121,7 +101,7 @@ adds-both {l} {m} {o} f g h x y e = record {
         size = b .size;
         near = λ i j.
             b .near i j ∙ (ap (λ (z : Bool). z || g i) (a .near i j) ∙ (or-assoc (marked l i) (f i) (g i) ∙ ap (λ (z : Bool). marked l i || z) (sym (e i))));
-        far = λ i j t. ⊎-elim (λ u. b .keeps (a .far i j u)) (λ u. b .far i j u) (or-cases (f i) (g i) (sym (e i) ∙ t));
+        far = λ i j t. ⊎-elim (λ u. b .keeps (a .far i j u)) (λ u. b .far i j u) (or-of (f i) (g i) (sym (e i) ∙ t));
         keeps = λ t. b .keeps (a .keeps t);
         full = λ j t. a .full j (b .full j t);
       };
@@ -218,10 +198,6 @@ by-kind s d r i ExpressionKind.Unknown = refl
 expression-parts : (s : List ℕ) (d r i : ℕ) → expressionRoots s (suc d) r i ≡ operandRoots s d (operandsOf s r) i
 unfolding expressionRoots expressionTo operandsOf expressionRowOf
 expression-parts s d r i = by-kind s d r i (expressionKindAt s r)
-
-one-less : (d : ℕ) → (d ≡ 0 → ⊥) → d ≡ suc (d - 1)
-one-less zero h = absurd (h refl)
-one-less (suc d) h = omega arith
 
 parts-of : (s : List ℕ) (d r : ℕ) {x y : Operands} → (d ≡ 0 → ⊥) → x ≡ operandsOf s r → x ≡ y → (i : ℕ)
     → operandRoots s (d - 1) y i ≡ expressionRoots s d r i
@@ -364,10 +340,6 @@ branch-parts s d r zero i =
     or-false (occurs i (behaviourTo s d (fieldA s (behaviourAt s r))) || occurs i (behaviourTo s d (fieldB s (behaviourAt s r))))
 branch-parts s d r (suc n) i = refl
 
-next-at : (s : List ℕ) (r : ℕ) → behaviourAt s r + 10 ≡ behaviourAt s (suc r)
-unfolding behaviourAt
-next-at s r = omega arith
-
 pub more-branches : (s l m o p : List ℕ) (at n d a b : ℕ) → (n ≡ 0 → ⊥) → a ≡ u16At s (at + 2) → Adds (behaviourRoots s d a) l m
     → b ≡ u16At s (at + 4) → Adds (behaviourRoots s d b) m o → AddsBranches s (at + 10) (n - 1) d o p → AddsBranches s at n d l p
 more-branches s l m o p at n d a b h e x f y z = record {
@@ -393,7 +365,7 @@ shares-none a b = record { found = λ e. absurd (let z : _≡_ {A = ℕ} 0 1 = c
 -- The mark i besides.
 pub shares-next : (a b : List ℕ) (i : ℕ) (x y z : Bool) → Shares a b i x → y ≡ (not (eqb (getD a i 0) 0) && not (eqb (getD b i 0) 0)) → z ≡ (x || y) → Shares a b (i + 1) z
 unfolding marked
-shares-next a b i x y z h e f = record { found = λ t. ⊎-elim old new (or-cases x y (sym f ∙ t)); none = λ t k l u v. at k u v (neither t) (compare k i) l }
+shares-next a b i x y z h e f = record { found = λ t. ⊎-elim old new (or-of x y (sym f ∙ t)); none = λ t k l u v. at k u v (neither t) (compare k i) l }
   where
     old : x ≡ true → (k : ℕ) × (k < i + 1) × (marked a k ≡ true) × (marked b k ≡ true)
     old t = let w = h .found t in (w .0, (let q = w .1 in omega arith), w .2, w .3)
@@ -412,7 +384,7 @@ shares-next a b i x y z h e f = record { found = λ t. ⊎-elim old new (or-case
     at : (k : ℕ) → marked a k ≡ true → marked b k ≡ true → (x ≡ false) × (y ≡ false) → Compare k i → k < i + 1 → ⊥
     at k u v w (lt j) l = h .none (w .0) k j u v
     at k u v w (gt j) l = omega arith
-    at k u v w (eq j) l = never (e ∙ both-true (subst (λ (q : ℕ). marked a q ≡ true) j u) (subst (λ (q : ℕ). marked b q ≡ true) j v)) (w .1)
+    at k u v w (eq j) l = clash (e ∙ both-true (subst (λ (q : ℕ). marked a q ≡ true) j u) (subst (λ (q : ℕ). marked b q ≡ true) j v)) (w .1)
 
 pub shares-all : (a b : List ℕ) (i n : ℕ) (x : Bool) → Shares a b i x → i ≤ n → n ≤ i → Shares a b n x
 shares-all a b i n x h p q = let e : i ≡ n = omega arith in subst (λ (k : ℕ). Shares a b k x) e h
@@ -461,7 +433,7 @@ module _ (s o p : List ℕ) (n a b c m : ℕ) (room : m ≡ suc c) (e : n ≡ be
 
   unmarked : (l : List ℕ) → getD l c 0 ≡ 0 → marked l c ≡ true → ⊥
   unfolding marked
-  unmarked l z t = never t (rw (eq-eqb (getD l c 0) 0 z) refl)
+  unmarked l z t = clash t (rw (eq-eqb (getD l c 0) 0 z) refl)
 
   pub left-near : x ≡ false → getD o c 0 ≡ 0 → true ≡ noSharedRoot (behaviourOf s a) (behaviourOf s b)
   left-near k z = none-shared k (λ i j u v. unmarked o z (beyond a f i j u))
@@ -474,4 +446,4 @@ module _ (s o p : List ℕ) (n a b c m : ℕ) (room : m ≡ suc c) (e : n ≡ be
     where
       by : (y : Bool) → x ≡ y → not y ≡ noSharedRoot (behaviourOf s a) (behaviourOf s b)
       by true k = found-shared k
-      by false k = none-shared k (λ i j u v. never (from a f .full q (beyond a f i j u)) (clear m c))
+      by false k = none-shared k (λ i j u v. clash (from a f .full q (beyond a f i j u)) (clear m c))

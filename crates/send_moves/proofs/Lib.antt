@@ -1,3 +1,2 @@
-mod ReachedLaws
 mod RowLaws
 mod MakingLaws

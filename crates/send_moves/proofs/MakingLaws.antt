@@ -32,9 +32,9 @@ use Rattle.network.specs.Rows.{operationService, operationLocation, requestType
 use Rattle.network.specs.RowLaws.{operation-kept}
 use Rattle.network.specs.Decode.{typeOf, expressionOf, operationOf, behaviourOf, networkOf}
 use Rattle.network.specs.Meets.{inFile, metInput}
+use Rattle.network.specs.TestLaws.{apart, not-true, not-false}
 use Rattle.state.specs.Session.{ReplyTo, Progress, advance, Session, Slot, live, State, setSlot}
-use Rattle.state.specs.Bytes.{messageBytes, progressBytes, slotBytes, stateBytes, readSession, readState}
-use Rattle.state.specs.ReadLaws.{read-state}
+use Rattle.state.specs.Bytes.{messageBytes, progressBytes, slotBytes, stateBytes, readSession}
 use Rattle.state.specs.Shape.{behaviourIn, WellMade}
 use Rattle.state.specs.SizeLaws.{message-size, progress-size}
 use Rattle.state.specs.ChangeLaws.{set-same, set-other}
@@ -44,41 +44,31 @@ use Rattle.moves.specs.Targets as definition
 use Rattle.moves.specs.Readiness.{reach}
 use Rattle.moves.specs.Moves.{Result, refused, moved, notAllowed, require, onTree, onLive, onOperation, withProgress, withQueue, allowed, started}
 use Rattle.moves.specs.Moves.{deliver, isMessageTree, mustFit, goneOn, sendInside, sendOutside, sendBy, sendAt, sendReached, sendMove}
-use Rattle.moves.specs.Step.{Step, finish}
+use Rattle.moves.specs.Step.{finish}
 use Rattle.slots.specs.Slots.{treeIn}
-use Rattle.slots.specs.SlotLaws.{Living, living-tree, row-set}
+use Rattle.slots.specs.SlotLaws.{living-tree, row-set}
+use Rattle.slots.specs.Living.{Living}
 use Rattle.evaluation.specs.declared.Evaluated.{Evaluated}
 use Rattle.evaluation.specs.Evaluated.{StandsFor, Evaluates}
 use Rattle.evaluation.specs.Writing.{Writes}
 use Rattle.readiness.specs.declared.Reached as rows
 use Rattle.readiness.proofs.Reached as reached
 use Rattle.readiness.specs.Reaching.{reachedAs, Reaches}
+use Rattle.readiness.specs.ReachedLaws.{reached-row}
 use Rattle.targets.specs.declared.Met.{Met}
 use Rattle.targets.specs.declared.Target.{Target}
 use Rattle.targets.specs.Meeting.{operationMet}
 use Rattle.targets.specs.MeetingLaws.{met-exists}
-use Rattle.targets.specs.Answers.{targetAs, Targets}
+use Rattle.targets.specs.Answers.{Targets}
 use Rattle.moving.specs.declared.Running.{Running}
 use Rattle.moving.specs.Made.{StateOf, MadeOut, InSession, Runs, RunsAt}
-use Rattle.moving.specs.MadeLaws.{in-session}
+use Rattle.moving.specs.MadeLaws.{in-session, running, refused-step, made-out-refused, target-is}
 use Rattle.delivery.specs.Delivery.{Holding, onVerdict, Allowed, MustFit, startWithin, StartsWithin, Delivers}
 use Rattle.delivery.specs.DeliveryLaws.{stands-holding, holding-set, tree-message, Known, target-known}
 use Rattle.send_moves.specs.declared.Sending.{Sending}
 use Rattle.send_moves.specs.declared.Written.{Written}
 use Rattle.send_moves.specs.Sending.{afterSending, replyBack, sendingAs, RowsExist, SendingAt, WrittenAs, WritesMessage, SendsOutside}
 use Rattle.send_moves.specs.Sending.{SendsInside, SendsBy}
-use Rattle.send_moves.proofs.ReachedLaws.{reached-row}
-
-apart : {A : Type 0} → false ≡ true → A
-apart e = absurd (let z : _≡_ {A = ℕ} 0 1 = cc in omega arith)
-
-not-true : (t : Bool) → not t ≡ true → t ≡ false
-not-true true e = apart e
-not-true false e = refl
-
-not-false : (t : Bool) → not t ≡ false → t ≡ true
-not-false true e = refl
-not-false false e = apart (sym e)
 
 -- ---- `write_message`
 
@@ -131,10 +121,6 @@ must-is file o u k w l t g =
 
 fit-message : {m : List ℕ} (t : Tree Value) (b : Bool) → (isMessageTree t && b) ≡ true → Encodes treeDeep treeMany m t → Message m t
 fit-message t b e g = record { bytes = g .bytes; good = tree-message t (and-left (isMessageTree t) b e) (g .good) }
-
-refused-step : {s out : List ℕ} {a : Outcome} {why : Refusal} {x : Result} → a ≡ refusedBy why → x ≡ refused why
-    → _≡_ {A = Step} (record { outcome = a; state = s; out = out }) (finish s out x)
-refused-step {s} {out} f e = ap (λ (y : Outcome). record { outcome = y; state = s; out = out }) f ∙ ap (finish s out) (sym e)
 
 -- ---- the state in which the sender has gone on
 
@@ -299,11 +285,6 @@ pub put-length : (s : List ℕ) (slot i : ℕ) (after : Progress) {s₁ : List �
 put-length s slot i after l k j e =
     ap length e ∙ (length-withPart s (slot + 2416 + 6 * i) (progressBytes after) (omega (arith, l, k, j, progress-size after)) ∙ l)
 
-target-is : {file s : List ℕ} {i n : ℕ} {t : Target} {G : State} → Targets file s i n t → WellFormed file → StateOf file s G
-    → targetAs file t ≡ definition.target (networkOf file) G (operationOf file i) n
-target-is {file} {s} {i} {n} {t} {G} h w st =
-    h .tells w ∙ ap (λ (X : State). definition.target (networkOf file) X (operationOf file i) n) (ap readState (st .bytes) ∙ read-state (st .shape))
-
 service-is : (file : List ℕ) (k : ℕ) → operationService file k ≡ operationOf file k .service
 unfolding operationOf
 service-is file k = refl
@@ -459,9 +440,6 @@ module _ (file s : List ℕ) (slot i o e to : ℕ) (after : Progress) (back : Re
 
 -- ---- `send_move`
 
-pub slot-inside : {file s : List ℕ} {q n slot b : ℕ} {x : Running} → RunsAt file s q n x → x ≡ Running.Session slot b → slot + 4096 ≤ 65536
-slot-inside {slot = slot} {b = b} h e = h .inside slot b e
-
 pub sending-small : {file s : List ℕ} {slot q i o e : ℕ} {two : Bool} {y : Sending} → SendingAt file s slot q i y → y ≡ Sending.Row o e two → i < 256
 sending-small {o = o} {e = e} {two = two} h f = h .small o e two f
 
@@ -469,33 +447,26 @@ module _ (file s out : List ℕ) (q n r to : ℕ) where
   abbrev makes : Network → State → Result
   makes N G = sendMove N G q n r to
 
-  refused-out : {a : Outcome} {why : Refusal} → a ≡ refusedBy why
-      → (WellFormed file → (G : State) → StateOf file s G → makes (networkOf file) G ≡ refused why) → MadeOut file makes s s out out a
-  refused-out e h = record { tells = λ w G st l. refused-step e (h w G st) }
-
   module _ {x : Running} (h : RunsAt file s q n x) where
     pub move-nothing : {a : Outcome} → x ≡ Running.Nothing → a ≡ refusedBy MoveNotAllowed → MadeOut file makes s s out out a
-    move-nothing e f = refused-out f (λ w G st. subst (Runs file s G q n) e (h .tells w G st) _)
+    move-nothing e f = made-out-refused file makes f (λ w G st. subst (Runs file s G q n) e (h .tells w G st) _)
 
     module _ {slot b : ℕ} (e : x ≡ Running.Session slot b) {y : rows.Reached} (k : Reaches file (readSession s slot .progress) r b y) where
-      running : WellFormed file → (G : State) → StateOf file s G → InSession file s G q n slot b
-      running w G st = subst (Runs file s G q n) e (h .tells w G st)
-
       reaching : (w : WellFormed file) (G : State) (st : StateOf file s G) → reachedAs file y
-          ≡ reach (running w G st .session .progress) 0 r (behaviourOf file b)
+          ≡ reach (running h e w G st .session .progress) 0 r (behaviourOf file b)
       reaching w G st =
-          let i = running w G st in
+          let i = running h e w G st in
           k .tells w (i .row) ∙ ap (λ (S : Session). reach (S .progress) 0 r (behaviourOf file b)) (i .reads)
 
       move-is : (w : WellFormed file) (G : State) (st : StateOf file s G)
-          → makes (networkOf file) G ≡ sendReached (networkOf file) G q n (running w G st .session) to (reachedAs file y)
+          → makes (networkOf file) G ≡ sendReached (networkOf file) G q n (running h e w G st .session) to (reachedAs file y)
       move-is w G st =
-          let i = running w G st in
+          let i = running h e w G st in
           in-session i (λ B S. sendReached (networkOf file) G q n S to (reach (S .progress) 0 r B))
           ∙ ap (sendReached (networkOf file) G q n (i .session) to) (sym (reaching w G st))
 
       pub move-unreached : {a : Outcome} → OneOf (0 ∷ 2 ∷ []) (tagOf reached.the-type y) → a ≡ refusedBy MoveNotAllowed → MadeOut file makes s s out out a
-      move-unreached g f = refused-out f (λ w G st. move-is w G st ∙ other G (running w G st .session) y g)
+      move-unreached g f = made-out-refused file makes f (λ w G st. move-is w G st ∙ other G (running h e w G st .session) y g)
         where
           other : (G : State) (S : Session) (y : rows.Reached) → OneOf (0 ∷ 2 ∷ []) (tagOf reached.the-type y)
               → sendReached (networkOf file) G q n S to (reachedAs file y) ≡ notAllowed
@@ -506,26 +477,27 @@ module _ (file s out : List ℕ) (q n r to : ℕ) where
       module _ {i : ℕ} (g : y ≡ rows.Reached.Reached i) {z : Sending} (m : SendingAt file s slot q i z) where
         here : WellFormed file → (G : State) → StateOf file s G → i < behaviourCount file
         here w G st =
-            reached-row file w (running w G st .session .progress) b r i (running w G st .row) (ap (reachedAs file) (sym g) ∙ reaching w G st)
+            reached-row file w (running h e w G st .session .progress) b r i (running h e w G st .row) (ap (reachedAs file) (sym g) ∙ reaching w G st)
 
         move-row : (w : WellFormed file) (G : State) (st : StateOf file s G)
-            → makes (networkOf file) G ≡ sendingAs file (networkOf file) G q n (running w G st .session) to i z
+            → makes (networkOf file) G ≡ sendingAs file (networkOf file) G q n (running h e w G st .session) to i z
         move-row w G st =
-            let j = running w G st in
+            let j = running h e w G st in
             move-is w G st ∙ (ap (λ (t : rows.Reached). sendReached (networkOf file) G q n (j .session) to (reachedAs file t)) g
             ∙ subst (λ (S : Session). sendAt (networkOf file) G q n S to (behaviourOf file i) ≡ sendingAs file (networkOf file) G q n S to i z) (j .reads)
             (m .tells w (here w G st) (networkOf file) G n to))
 
         pub move-not-sending : {a : Outcome} → z ≡ Sending.Nothing → a ≡ refusedBy MoveNotAllowed → MadeOut file makes s s out out a
         move-not-sending c f =
-            refused-out f (λ w G st. move-row w G st ∙ ap (λ (t : Sending). sendingAs file (networkOf file) G q n (running w G st .session) to i t) c)
+            made-out-refused file makes f (λ w G st. move-row w G st
+            ∙ ap (λ (t : Sending). sendingAs file (networkOf file) G q n (running h e w G st .session) to i t) c)
 
         pub move-sends : {o c : ℕ} {two : Bool} {after : Progress} {back : ReplyTo} {s′ out′ : List ℕ} {a : Outcome} → z ≡ Sending.Row o c two
             → after ≡ afterSending two → back ≡ replyBack two (q % 256) (n % 256) i → SendsBy file s slot i o c to after back s′ out out′ a
             → MadeOut file makes s s′ out out′ a
         move-sends {o} {c} {two} {after} {back} f ea eb d = record {
           tells = λ w G st l.
-              let j = running w G st in
+              let j = running h e w G st in
               let N = networkOf file in
               let rowsIn : RowsExist file (Sending.Row o c two) = subst (RowsExist file) f (m .exists w (here w G st)) in
               let eq : q % 256 ≡ q = omega (arith, j .service) in

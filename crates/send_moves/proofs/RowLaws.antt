@@ -13,6 +13,7 @@ use Rattle.network.specs.Form.{WellFormed}
 use Rattle.network.specs.Layout.{behaviourCount}
 use Rattle.network.specs.RowLaws.{counts-kept}
 use Rattle.network.specs.Decode.{operationOf, behaviourOf}
+use Rattle.network.specs.TestLaws.{not-true, not-false}
 use Rattle.rows.specs.declared.BehaviourRow.{BehaviourRow}
 use Rattle.rows.proofs.BehaviourRow as rows
 use Rattle.rows.specs.Readers.{behaviourRowOf}
@@ -29,17 +30,6 @@ use Rattle.queues.specs.Queue.{replyOf}
 use Rattle.moves.specs.Moves.{Result, notAllowed, require, ifUndone, sendAt}
 use Rattle.send_moves.specs.declared.Sending.{Sending}
 use Rattle.send_moves.specs.Sending.{outputOf, replyBack, sendingAs, RowsExist, SendingAt}
-
-apart : {A : Type 0} → false ≡ true → A
-apart e = absurd (let z : _≡_ {A = ℕ} 0 1 = cc in omega arith)
-
-not-true : (t : Bool) → not t ≡ true → t ≡ false
-not-true true e = apart e
-not-true false e = refl
-
-not-false : (t : Bool) → not t ≡ false → t ≡ true
-not-false true e = refl
-not-false false e = apart (sym e)
 
 -- ---- `output_at`
 

@@ -18,8 +18,8 @@ use Rattle.state.specs.Bytes.{readSession}
 use Rattle.moves.specs.Evaluation.{evaluate}
 use Rattle.moves.specs.Moves.{Result, notAllowed, sendInside, sendOutside, sendBy, sendAt}
 use Rattle.moves.specs.Step.{Step, finish}
-use Rattle.slots.specs.SlotLaws.{Living}
 use Rattle.moving.specs.Made.{StateOf, InSession}
+use Rattle.slots.specs.Living.{Living}
 use Rattle.send_moves.specs.declared.Sending.{Sending}
 use Rattle.send_moves.specs.declared.Written.{Written}
 

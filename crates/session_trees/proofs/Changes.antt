@@ -22,7 +22,9 @@ use Rattle.state.specs.Bytes.{treeBytes, messageBytes}
 use Rattle.state.specs.SizeLaws.{message-size, session-tree-size}
 use Rattle.moves.specs.Moves.{voidValue}
 use Rattle.slots.specs.Slots.{treeIn}
-use Rattle.slots.specs.SlotLaws.{Living, living-tree}
+use Rattle.slots.specs.SlotLaws.{living-tree}
+use Rattle.slots.specs.Living.{Living}
+use Rattle.network.specs.TestLaws.{unequal}
 use Rattle.session_trees.specs.declared.Change.{Change}
 use Rattle.session_trees.specs.Changing.{KeptTree, ChangedTo, Replaces, Assigns, changeOf, Kept}
 
@@ -50,16 +52,6 @@ message-short m t h = omega (arith, ap length (h .bytes), message-size t (h .goo
 
 is-tree : (deep many : ℕ) (s : List ℕ) (t : Tree Value) → Encodes deep many s t → isTree deep many s ≡ true
 is-tree deep many s t e = ap (λ (l : Lookup Value). isPresent l) (decode-complete deep many s t e)
-
-unequal : {b : Bool} {A : Type 0} → b ≡ true → not b ≡ true → A
-unequal e f = absurd (let z : _≡_ {A = ℕ} 0 1 = cc in omega arith)
-
-pub told : {b c : Bool} → b ≡ c → not b ≡ false → c ≡ true
-told {b} {c} e f = sym e ∙ by b f
-  where
-    by : (b : Bool) → not b ≡ false → b ≡ true
-    by true f = refl
-    by false f = absurd (let z : _≡_ {A = ℕ} 0 1 = cc in omega arith)
 
 message-tree : (m : List ℕ) (t : Tree Value) → Encodes messageDeep messageMany m t → Encodes treeDeep treeMany m t
 message-tree m t e = encodes-up messageDeep messageMany treeDeep treeMany m t (omega arith) (omega arith) e

@@ -15,7 +15,7 @@ use Rattle.typing.specs.Environment.{within}
 use Rattle.state.specs.Session.{Session}
 use Rattle.state.specs.Bytes.{treeBytes}
 use Rattle.moves.specs.Moves.{voidValue}
-use Rattle.slots.specs.SlotLaws.{Living}
+use Rattle.slots.specs.Living.{Living}
 use Rattle.session_trees.specs.declared.Change.{Change}
 
 -- The first n bytes are those of the tree F, which keeps to its limits.

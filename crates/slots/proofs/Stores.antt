@@ -1,8 +1,8 @@
 -- Bytes that were stored, said as a part that is replaced.
-use mathlib.Core.Path.{_≡_, refl, sym, ap, _∙_}
+use mathlib.Core.Path.{_≡_, sym, ap, _∙_}
 use mathlib.Core.List.{List, [], _∷_, _++_}
 use mathlib.Core.Bool.{Bool}
-use Prim.Native.Nat.{ℕ, zero, suc, _+_, _-_, _*_, _/_, _%_, _≤_, _<_}
+use Prim.Native.Nat.{ℕ, _+_, _-_, _*_, _/_, _%_, _≤_, _<_}
 use native.Mathlib.Omega.{arith}
 use lib.Dec.{leb}
 use borrow.Author.Tests.{le-leb, lt-leb}
@@ -14,15 +14,11 @@ use Rattle.scalar.specs.NumberLaws.{put-16}
 use Rattle.tree_edit.specs.Wrote.{stored}
 use Rattle.state.specs.Bytes.{zeros, padded, u16Bytes}
 use Rattle.state.specs.PartLaws.{length-zeros, length-padded}
+use Rattle.state.specs.FreshLaws.{replicate-zeros}
 use Rattle.slots.specs.Slots.{treeIn}
 
 pub begin-sets : (s : List ℕ) (at : ℕ) {s₁ s₂ s₃ : List ℕ} → s₁ ≡ set s at 1 → s₂ ≡ set s₁ (at + 2) 5 → s₃ ≡ set s₂ (at + 18) 6 → s₃ ≡ set (set (set s at 1) (at + 2) 5) (at + 18) 6
 begin-sets s at a b c = c ∙ (ap (λ (x : List ℕ). set x (at + 18) 6) b ∙ ap (λ (x : List ℕ). set (set x (at + 2) 5) (at + 18) 6) a)
-
-replicate-zeros : (n : ℕ) → replicate n 0 ≡ zeros n
-unfolding zeros
-replicate-zeros zero = refl
-replicate-zeros (suc n) = ap (λ (l : List ℕ). 0 ∷ l) (replicate-zeros n)
 
 pub store-padded : (s : List ℕ) (at size : ℕ) (src : List ℕ) (n : ℕ) → n ≤ size → n ≤ length src → stored s at size src n ≡ withPart s at (padded size (take n src))
 store-padded s at size src n h l =

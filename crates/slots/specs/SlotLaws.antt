@@ -22,12 +22,7 @@ use Rattle.state.specs.ReadLaws.{slot-parts}
 use Rattle.state.specs.FreshLaws.{store-part, part-back, new-stores}
 use Rattle.state.specs.ChangeLaws.{set-bytes, slot-part, change-tree, change-row}
 use Rattle.slots.specs.Slots.{treeIn}
-
--- The slot that starts at `at` holds the live session S.
-pub record Living (s : List ℕ) (at : ℕ) (S : Session) : Type 0 where
-  pub inside : at + 4096 ≤ length s
-  pub bytes : part s at 4096 ≡ slotBytes (live S)
-  pub made : WellMade S
+use Rattle.slots.specs.Living.{Living}
 
 -- Another progress of a row.
 pub row-set : {s : List ℕ} {at : ℕ} {S : Session} → Living s at S → (r : ℕ) (x : Progress) → r < 256

@@ -9,11 +9,11 @@ use Rattle.syntax.specs.Syntax.{Network, Behaviour, nil, oneWay, requestRespons
 use Rattle.syntax.specs.Syntax.{parallel, assign, choice, branch, lastBranch, waiting, answering}
 use Rattle.syntax.specs.Rows.{hasRow}
 use Rattle.network.specs.Shapes.{Standing, alone, inChoice}
+use Rattle.network.specs.OnceLaws.{or-case}
 use Rattle.state.specs.Session.{Progress, Progresses, ReplyTo, undone, received, taken}
 use Rattle.state.specs.Shape.{isUndone, undoneOrDone, undoneDoneOrWaits, undoneDoneOrReceived, undoneOrTaken, undoneDoneOrBody, branches, suits}
 use Rattle.soundness.specs.Parts.{branchAt, NotIn, Once, Fresh, Clean, Reaches, atSelf, atFirst, atSecond, atLeft, atRight, atThen, atElse}
 use Rattle.soundness.specs.Parts.{atLoop, atServed, atBranch}
-use Rattle.soundness.specs.ContextLaws.{or-case}
 use Rattle.soundness.specs.RowLaws.{in-own, in-first, in-second, in-only, in-input, in-then, in-others, branch-rows, branch-once, branch-clean}
 use Rattle.soundness.specs.RowLaws.{reaches-rows, Off}
 

@@ -50,10 +50,6 @@ pub or-map : (a b c d : Bool) → (T a → T c) → (T b → T d) → T (a || b)
 or-map true b c d f g t = or-l c d (f tt)
 or-map false b c d f g t = or-r c d (g t)
 
-pub or-case : (a b : Bool) {X : Type 0} → (T a → X) → (T b → X) → T (a || b) → X
-or-case true b f g t = f tt
-or-case false b f g t = g t
-
 pub active-occurs : {L L2 R R2 : Behaviour} → Fewer L2 L → Active L L2 R R2 → Fewer R2 R
 unfolding occurs
 active-occurs f itself i t = f i t

@@ -1,10 +1,7 @@
 -- An expression that has a type in Γ has a value of that type in every tree whose own type is ≤ Γ.
 use mathlib.Core.Path.{_≡_, refl, sym, ap, subst, _∙_}
-use Prim.Native.Nat.{ℕ, zero, suc, _<_}
 use mathlib.Core.Bool.{Bool, true, false}
 use mathlib.Core.List.{[], _∷_}
-use native.Mathlib.Omega.{arith}
-use lib.ListN.{getD}
 use Rattle.forest.specs.Forest.{Forest, Tree, tree, Lookup, present}
 use Rattle.forest.specs.Path.{read}
 use Rattle.scalar.specs.Basic.{bool}
@@ -13,7 +10,7 @@ use Rattle.syntax.specs.Syntax.{mark, Types, MessageType, Optional, some, Expre
 use Rattle.subtyping.specs.Subtype.{rootBasic, Subtype, Subtypes}
 use Rattle.subtyping.specs.Own.{ownTypes, ownType}
 use Rattle.subtyping.specs.OwnLaws.{own-end}
-use Rattle.tree.specs.Encode.{Octets, Proper}
+use Rattle.tree.specs.Encode.{Proper}
 use Rattle.refusal.specs.declared.Refusal.the-variants.{PathNotFirm}
 use Rattle.typing.specs.Result.{yields, andThen}
 use Rattle.typing.specs.ResultLaws.{require-yields, andThen-yields, yields-inj}
@@ -23,7 +20,7 @@ use Rattle.typing.specs.ExpressionTyping.{unaryType, binaryType, typeOf}
 use Rattle.scalar.specs.Operator.{bit, ofBool}
 use Rattle.moves.specs.Evaluation.{found, isThere, applyUnary, applyBinary, onRoot, asLeaf, evaluate, leaf as leafValue}
 use Rattle.moves.specs.Moves.{rootValue}
-use Rattle.soundness.specs.OperatorsLaws.{operators}
+use Rattle.soundness.specs.OperatorsLaws.{operators, bit-octets}
 use Rattle.soundness.specs.GoodTrees.{Good, GoodTree, GoodLookup, GoodExpression}
 use Rattle.soundness.specs.GoodTreesLaws.{read-good, good-end}
 
@@ -39,18 +36,6 @@ leaf-typed v = record { basics = refl; children = own-end }
 
 gives-leaf : (v : Value) (n : MessageType) → Proper v → leaf (basicOf v) ≡ n → Gives (some (leafValue v)) n
 gives-leaf v n p e = record { what = leafValue v; there = refl; typed = subst (Subtype (ownType (leafValue v))) e (leaf-typed v); good = (p, good-end) }
-
-bit-octets : (c : Bool) → Octets (bit c ∷ [])
-bit-octets true = record { small = λ k. go k }
-  where
-    go : (k : ℕ) → getD (1 ∷ []) k 0 < 256
-    go zero = omega arith
-    go (suc k) = omega arith
-bit-octets false = record { small = λ k. go k }
-  where
-    go : (k : ℕ) → getD (0 ∷ []) k 0 < 256
-    go zero = omega arith
-    go (suc k) = omega arith
 
 bit-valid : (c : Bool) → isValue bool (bit c ∷ []) ≡ true
 unfolding isValue number

@@ -23,7 +23,7 @@ use Rattle.network.specs.UseLaws.{RowKept, behaviour-kept, branch-kept}
 use Rattle.network.specs.BehaviourLaws.{Branches, Later}
 use Rattle.network.specs.NetworkLaws.{operation-entry}
 use Rattle.tree.specs.Encode.{Octets}
-use Rattle.tree.specs.EncodeLaws.{octets-part}
+use Rattle.tree.specs.EncodeLaws.{octets-part, octets-nil}
 use Rattle.state.specs.Shape.{operationAt, serviceAt}
 use Rattle.soundness.specs.GoodTrees.{AllIds, GoodPath, GoodExpression}
 use Rattle.soundness.specs.Accepted.{OfFile, MadeOf}
@@ -86,9 +86,6 @@ ConstantBytes (presence x) = Unit {0}
 ConstantBytes (unary o e) = ConstantBytes e
 ConstantBytes (binary o a b) = ConstantBytes a × ConstantBytes b
 
-no-bytes : Octets []
-no-bytes = record { small = λ k. omega arith }
-
 data-bytes : (s : List ℕ) → Octets s → (v n : ℕ) → Octets (dataPart s v n)
 unfolding dataPart
 data-bytes s b v n = octets-part s (start s D + v) n b
@@ -106,11 +103,11 @@ constants-by s b f h at ExpressionKind.Subtract = (h (fieldA s at), h (fieldB s 
 constants-by s b f h at ExpressionKind.Less = (h (fieldA s at), h (fieldB s at))
 constants-by s b f h at ExpressionKind.Equal = (h (fieldA s at), h (fieldB s at))
 constants-by s b f h at ExpressionKind.And = (h (fieldA s at), h (fieldB s at))
-constants-by s b f h at ExpressionKind.Unknown = no-bytes
+constants-by s b f h at ExpressionKind.Unknown = octets-nil
 
 constants-to : (s : List ℕ) → Octets s → (d r : ℕ) → ConstantBytes (expressionTo s d r)
 unfolding expressionTo
-constants-to s b zero r = no-bytes
+constants-to s b zero r = octets-nil
 constants-to s b (suc d) r = constants-by s b (expressionTo s d) (λ j. constants-to s b d j) (expressionAt s r) (expressionKindAt s r)
 
 parts-good : (e : Expression) → PartsShape e → ConstantBytes e → GoodExpression e

@@ -2,7 +2,6 @@
 use mathlib.Core.Path.{refl}
 use Prim.Native.Nat.{ℕ}
 use mathlib.Core.List.{List, [], _∷_}
-use native.Mathlib.Omega.{arith}
 use Rattle.forest.specs.Compare.{Compare, lt, eq, gt, compare}
 use Rattle.forest.specs.Forest.{Forest, end, node, Tree, tree, Lookup, absent, present, findBy, find, setBy, set, childrenOf, payloadOf, Rising}
 use Rattle.forest.specs.Forest.{RisingTree, RisingLookup}
@@ -10,7 +9,8 @@ use Rattle.forest.specs.ForestLaws.{rising-set}
 use Rattle.forest.specs.Path.{Path, path, readSteps, read, writeSteps, write, replaceAt, setPayloadAt}
 use Rattle.scalar.specs.Basic.{void}
 use Rattle.scalar.specs.Value.{Value, value, isValue}
-use Rattle.tree.specs.Encode.{Octets, Proper, Sound}
+use Rattle.tree.specs.Encode.{Proper, Sound}
+use Rattle.tree.specs.EncodeLaws.{octets-nil}
 use Rattle.soundness.specs.GoodTrees.{Good, GoodTree, GoodLookup, IsId, AllIds, GoodPath}
 
 pub rising-of : (t : Tree Value) → GoodTree t → RisingTree t
@@ -51,13 +51,10 @@ pub good-children : (l : Lookup Value) → GoodLookup l → Good (childrenOf l)
 good-children absent g = good-end
 good-children (present (tree v k)) g = g .1
 
-no-octets : Octets []
-no-octets = record { small = λ k. omega arith }
-
 -- The void value that a missing step carries.
 pub proper-void : Proper (value void [])
 unfolding isValue
-proper-void = record { valid = refl; bytes = no-octets }
+proper-void = record { valid = refl; bytes = octets-nil }
 
 payload-good : (l : Lookup Value) → GoodLookup l → Proper (payloadOf (value void []) l)
 payload-good absent g = proper-void

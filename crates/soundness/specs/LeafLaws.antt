@@ -23,12 +23,13 @@ use Rattle.typing.specs.Typed.{Typed, TypedCondition, TypedSend, TypedReply}
 use Rattle.typing.specs.TypedLaws.{typed-rising}
 use Rattle.moves.specs.Evaluation.{evaluate}
 use Rattle.moves.specs.Moves.{rootValue, voidValue}
+use Rattle.network.specs.OnceLaws.{or-case}
 use Rattle.soundness.specs.GoodTrees.{Good, GoodTree, GoodLookup, GoodExpression}
 use Rattle.soundness.specs.GoodTreesLaws.{read-good}
 use Rattle.soundness.specs.EvaluationLaws.{progress, basic-of}
 use Rattle.soundness.specs.Parts.{branchAt}
 use Rattle.soundness.specs.MadeLaws.{branch-typed, branch-occurs, branch-sorted, some-inj}
-use Rattle.soundness.specs.ContextLaws.{finished, finished-same, Active, Fewer, or-case, hole}
+use Rattle.soundness.specs.ContextLaws.{finished, finished-same, Active, Fewer, hole}
 
 -- The tree before, the row, the tree after, what is left of the row.
 pub data Leaf (F : Forest Value) : Behaviour → Forest Value → Behaviour → Type 0 where

@@ -9,6 +9,8 @@ use Rattle.syntax.specs.Syntax.{Types, Optional, none, some, Network, Operation
 use Rattle.syntax.specs.Syntax.{solicitResponse, ifThenElse, whileDo, sequence, parallel, assign, choice, branch, lastBranch, waiting, answering}
 use Rattle.syntax.specs.Rows.{rowOf, hasRow, atRow, orElseSome, itself}
 use Rattle.network.specs.Shapes.{Standing, alone, inChoice, onlyAlone, onlyInChoice, EachRowOnce, AsInFile}
+use Rattle.network.specs.OnceLaws.{or-case}
+use Rattle.network.specs.TestLaws.{apart}
 use Rattle.typing.specs.Occurs.{occurs}
 use Rattle.typing.specs.OccursLaws.{or-l, or-r}
 use Rattle.typing.specs.Rules.{RisingOperation, WellSorted}
@@ -17,7 +19,6 @@ use Rattle.state.specs.Session.{Progress, Progresses, undone, done, waits, rece
 use Rattle.moves.specs.Readiness.{ifDone, ifWaits, ifReceived, ifTaken, thenOrElse, rest}
 use Rattle.soundness.specs.Parts.{branchAt, NotIn, NoneShared, Once, Reaches, atSelf, atFirst, atSecond, atLeft, atRight, atThen, atElse}
 use Rattle.soundness.specs.Parts.{atLoop, atServed, atBranch}
-use Rattle.soundness.specs.ContextLaws.{or-case}
 use Rattle.soundness.specs.RowLaws.{in-own, in-first, in-second, in-only, in-input, in-then, in-others, branch-rows, branch-once, reaches-rows}
 use Rattle.soundness.specs.Accepted.{OfFile, MadeOf, Accepted}
 
@@ -216,12 +217,9 @@ branch-atRow (choice r m) k i X o n e = absurd o
 branch-atRow (branch r a b m) zero i X o n e =
     go (eqb i r) e
   where
-    false-true : false ≡ true → ⊥
-    false-true h = let z : _≡_ {A = ℕ} 0 1 = cc in omega arith
-
     go : (c : Bool) → itself c (sequence r a b) (orElseSome (atRow i a) (atRow i b)) ≡ some X
         → itself c (branch r a b m) (orElseSome (orElseSome (atRow i a) (atRow i b)) (atRow i m)) ≡ some X
-    go true h = absurd (false-true (sym n ∙ ap isSequence (sym (some-inj h))))
+    go true h = apart (sym n ∙ ap isSequence (sym (some-inj h)))
     go false h = or-first (orElseSome (atRow i a) (atRow i b)) (atRow i m) X h
 branch-atRow (branch r a b m) (suc k) i X o n e =
     let im : T (hasRow i m) = branch-rows m k i (atRow-row i (branchAt k m) X e .1) in
@@ -231,12 +229,9 @@ branch-atRow (branch r a b m) (suc k) i X o n e =
     (branch-atRow m k i X (o .8) n e)
 branch-atRow (lastBranch r a b) k i X o n e = go (eqb i r) e
   where
-    false-true : false ≡ true → ⊥
-    false-true h = let z : _≡_ {A = ℕ} 0 1 = cc in omega arith
-
     go : (c : Bool) → itself c (sequence r a b) (orElseSome (atRow i a) (atRow i b)) ≡ some X
         → itself c (lastBranch r a b) (orElseSome (atRow i a) (atRow i b)) ≡ some X
-    go true h = absurd (false-true (sym n ∙ ap isSequence (sym (some-inj h))))
+    go true h = apart (sym n ∙ ap isSequence (sym (some-inj h)))
     go false h = h
 branch-atRow (waiting r w x) k i X o n e = absurd o
 branch-atRow (answering r w c d) k i X o n e = absurd o

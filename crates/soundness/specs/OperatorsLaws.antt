@@ -43,7 +43,7 @@ bit-small true zero = omega arith
 bit-small false zero = omega arith
 bit-small c (suc k) = omega arith
 
-bit-octets : (c : Bool) → Octets (bit c ∷ [])
+pub bit-octets : (c : Bool) → Octets (bit c ∷ [])
 bit-octets c = record { small = bit-small c }
 
 -- What an operator gives is made of bytes.

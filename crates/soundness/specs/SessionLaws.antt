@@ -15,6 +15,7 @@ use Rattle.syntax.specs.Syntax.{Types, Expression, some, Network, Operation, Be
 use Rattle.syntax.specs.Syntax.{ifThenElse, whileDo, sequence, assign, choice, waiting, answering}
 use Rattle.syntax.specs.Rows.{hasRow}
 use Rattle.network.specs.Shapes.{alone, inChoice}
+use Rattle.network.specs.OnceLaws.{or-case}
 use Rattle.subtyping.specs.Subtype.{Subtypes}
 use Rattle.subtyping.specs.Own.{ownTypes, Fits}
 use Rattle.subtyping.specs.OwnLaws.{tree-within}
@@ -34,7 +35,7 @@ use Rattle.soundness.specs.GoodTrees.{Good, GoodTree}
 use Rattle.soundness.specs.GoodTreesLaws.{replace-good, payload-set-good}
 use Rattle.soundness.specs.EvaluationLaws.{progress, root-proper}
 use Rattle.soundness.specs.Parts.{branchAt, NotIn, Once, Fresh, Clean, Reaches, atSelf, atServed, atLoop}
-use Rattle.soundness.specs.ContextLaws.{finished-same, Active, or-case, hole}
+use Rattle.soundness.specs.ContextLaws.{finished-same, Active, hole}
 use Rattle.soundness.specs.RowLaws.{in-own, branch-rows, branch-once, rest-fresh, rest-then, rest-else, rest-loop, rest-served, rest-branch}
 use Rattle.soundness.specs.RowLaws.{done-finished, reaches-rows, row-active, Off}
 use Rattle.soundness.specs.CleanLaws.{clean-same, clean-fresh, clean-at, clean-move, once-at, undone-taken, suits-same, suits-fresh, suits-at}

@@ -27,13 +27,15 @@ use Rattle.network.specs.Form.{WellFormed}
 use Rattle.network.specs.Layout.{behaviourCount, behaviourAt}
 use Rattle.network.specs.Rows.{fieldA, fieldB, fieldC, fieldD, kindAt}
 use Rattle.network.specs.Decode.{branchesFrom, behaviourOf}
+use Rattle.network.specs.TestLaws.{not-true, not-false, one-less, both-true}
+use Rattle.network.specs.RowLaws.{next-at}
 use Rattle.rows.specs.declared.BehaviourRow.{BehaviourRow}
 use Rattle.rows.specs.Readers.{behaviourRowAs, behaviourRowOf}
 use Rattle.environments.specs.declared.Environment.{Environment}
 use Rattle.environments.specs.declared.Step.{Step}
 use Rattle.environments.specs.Environment.{standing, Shape, StandsFor, stepOf, Answers}
 use Rattle.environments.specs.EnvironmentLaws.{answers-as, answers-done, answers-refused, answers-refuse, answers-pass, stands-empty}
-use Rattle.environments.specs.UnionLaws.{unionFrom-within, union-within}
+use Rattle.environments.specs.UnionLaws.{unionFrom-within, union-within, from-start}
 use Rattle.environments.specs.Tells.{OneTyped, Unites}
 use Rattle.behaviours.specs.Rows.{behaviourBy, Sub, BranchSubs, KeptBy}
 use Rattle.behaviours.specs.Checks.{Checks, Sequences}
@@ -43,14 +45,6 @@ use Rattle.starters.specs.Starters.{branchAt, branchList, Run, Gives, Ea
 use Rattle.starters.specs.declared.Gathered.{Gathered}
 
 -- ---- runs of branches
-
-one-less : (n : ℕ) → (n ≡ 0 → ⊥) → n ≡ suc (n - 1)
-one-less zero h = absurd (h refl)
-one-less (suc n) h = omega arith
-
-next-at : (s : List ℕ) (r : ℕ) → behaviourAt s r + 10 ≡ behaviourAt s (suc r)
-unfolding behaviourAt
-next-at s r = omega arith
 
 run-next : (file : List ℕ) (at n left j : ℕ) → (n ≡ 0 → ⊥) → Run file at n left j → Run file (at + 10) (n - 1) left (suc j)
 run-next file at n left j z h = record {
@@ -172,14 +166,6 @@ module _ (file : List ℕ) (q at n left : ℕ) {s : Step} (z : n ≡ 0 → ⊥) 
 
 pub ruleset each-laws = (each-none, each-refused, each-done)
 
-not-true : (t : Bool) → not t ≡ true → t ≡ false
-not-true true e = sym e
-not-true false e = refl
-
-not-false : (t : Bool) → not t ≡ false → t ≡ true
-not-false true e = refl
-not-false false e = sym e
-
 -- ---- one type in all branches
 
 with-none : (Γ : Types) → true ≡ oneTypeWith Γ []
@@ -242,9 +228,6 @@ pub ruleset one-laws = (one-none, one-not, one-more)
 
 -- ---- the union
 
-both-true : {a b : Bool} → a ≡ true → b ≡ true → a && b ≡ true
-both-true e f = rw (e, f) refl
-
 shape-within : (Γ : Types) → Shape Γ → within Γ ≡ true
 shape-within Γ h = both-true (le-leb _ _ (h .few)) (le-leb _ _ (h .shallow))
 
@@ -271,20 +254,11 @@ limited-refused r Γ why e = go (within Γ) refl e
     go true o f = absurd (not-refused (sym f))
     go false o f = (o, same-refusal f)
 
-from-one : (one : Bool) (Γ : Types) (Δs : List Types) → oneTypeFrom one Γ Δs ≡ true → one ≡ true
-unfolding oneTypeFrom
-from-one one Γ [] e = e
-from-one one Γ (Δ ∷ Δs) e = and-first one (oneType Δ Γ) (from-one (one && oneType Δ Γ) (union Δ Γ) Δs e)
-  where
-    and-first : (a b : Bool) → a && b ≡ true → a ≡ true
-    and-first true b f = refl
-    and-first false b f = f
-
 -- The next environment has one type with the union so far; the others follow.
 from-next : (Γ Δ : Types) (Δs : List Types) → oneTypeFrom true Γ (Δ ∷ Δs) ≡ true → (oneType Δ Γ ≡ true) × (oneTypeFrom true (union Δ Γ) Δs ≡ true)
 unfolding oneTypeFrom
 from-next Γ Δ Δs e =
-    let o = from-one (oneType Δ Γ) (union Δ Γ) Δs e in
+    let o = from-start (oneType Δ Γ) (union Δ Γ) Δs e in
     (o, sym (ap (λ (y : Bool). oneTypeFrom y (union Δ Γ) Δs) o) ∙ e)
 
 union-step : (Γ Δ : Types) (Δs : List Types) → unionFrom Γ (Δ ∷ Δs) ≡ unionFrom (union Δ Γ) Δs

@@ -6,7 +6,7 @@ use Prim.Native.Nat.{ℕ, zero, suc, _+_, _*_, _/_, _%_, _≤_, _<_}
 use native.Mathlib.Nat.{add-zero, zero-add, mul-zero, mul-suc}
 use native.Mathlib.Omega.{arith}
 use native.Mathlib.Decide.{decLt, ℕ-discrete}
-use lib.ListN.{length, set, take, drop, length-set, take-append-drop}
+use lib.ListN.{length, set, take, drop, length-set, take-append-drop, replicate}
 use lib.Seq.{length-take-le, set-append-left, drop-drop}
 use lib.Dec.{eqb, ltb}
 use borrow.Author.Tests.{eq-eqb, ne-eqb, lt-ltb, le-ltb}
@@ -19,8 +19,13 @@ use Rattle.state.specs.Session.{undone, free, live, State, setSlot, newS
 use Rattle.state.specs.SizeLaws.{Sized, sized-length, slot-size}
 use Rattle.state.specs.ShapeLaws.{new-made, no-service}
 use Rattle.state.specs.ChangeLaws.{set-other, set-bytes, slot-part}
-use Rattle.state.specs.Shape.{serviceAt, clientOf, freshSlot, freshState}
+use Rattle.state.specs.Shape.{serviceAt, clientOf, freshSlot, freshState, freshUpTo}
 use Rattle.state.specs.Bytes.{zeros, joined, queueBytes, progressBytes, rowsBytes, slotBytes, stateBytes}
+
+pub replicate-zeros : (n : ℕ) → replicate n 0 ≡ zeros n
+unfolding zeros
+replicate-zeros zero = refl
+replicate-zeros (suc n) = ap (λ (l : List ℕ). 0 ∷ l) (replicate-zeros n)
 
 zeros-join : (n m : ℕ) → zeros n ++ zeros m ≡ zeros (n + m)
 unfolding zeros
@@ -116,10 +121,6 @@ start-bytes {G} z q n i j e =
     ∙ rw s2
 
 -- ---- fresh state, one service after another
-
--- The clients of the services before k live, all else free.
-abbrev pub freshUpTo : Network → ℕ → State
-freshUpTo N k = λ q n. pick (ltb q k) (freshState N q n) free
 
 pub fresh-none : (N : Network) → freshUpTo N 0 ≡ (λ q n. free)
 fresh-none N = fun-ext (λ q. fun-ext (λ n. rw (le-ltb q 0 (omega arith))))

@@ -130,27 +130,35 @@ suits-live N rows q n S B e h = rw (e, h .queue, h .progress, h .quiet)
 
 -- ---- a slot of the shape
 
+pub set-made : (G : State) → ((k m : ℕ) → k < 4 → m < 4 → MadeSlot (G k m)) → (q n : ℕ) (x : Slot) → MadeSlot x → (k m : ℕ) → k < 4 → m < 4
+    → MadeSlot (setSlot G q n x k m)
+set-made G h q n x w k m a b = by (ℕ-discrete k q) (ℕ-discrete m n)
+  where
+    by : Dec (k ≡ q) → Dec (m ≡ n) → MadeSlot (setSlot G q n x k m)
+    by (yes u) (yes v) = rw (u, v, set-same G q n x) w
+    by (yes u) (no v) = rw (set-other G q n x k m (λ _ y. v y)) (h k m a b)
+    by (no u) v = rw (set-other G q n x k m (λ y _. u y)) (h k m a b)
+
+pub set-elsewhere : (G : State) → ((k m : ℕ) → (4 ≤ k) ⊎ (4 ≤ m) → G k m ≡ free) → (q n : ℕ) (x : Slot) → q < 4 → n < 4
+    → (k m : ℕ) → (4 ≤ k) ⊎ (4 ≤ m) → setSlot G q n x k m ≡ free
+set-elsewhere G h q n x i j k m o = set-other G q n x k m (λ u v. apart o u v) ∙ h k m o
+  where
+    apart : (4 ≤ k) ⊎ (4 ≤ m) → k ≡ q → m ≡ n → ⊥
+    apart (inl o) u v = omega arith
+    apart (inr o) u v = omega arith
+
 pub set-shape : {N : Network} {rows : ℕ} {G : State} → HasShape N rows G → (q n : ℕ) (x : Slot) → q < 4 → n < 4 → MadeSlot x → suitsSlot N rows q n x ≡ true
     → HasShape N rows (setSlot G q n x)
 set-shape {N} {rows} {G} h q n x i j w e = record {
-  made = λ k m a b. made k m a b (ℕ-discrete k q) (ℕ-discrete m n);
+  made = set-made G (h .made) q n x w;
   suited = λ k m a b. suited k m a b (ℕ-discrete k q) (ℕ-discrete m n);
-  elsewhere = λ k m o. set-other G q n x k m (λ u v. apart k m o u v) ∙ h .elsewhere k m o;
+  elsewhere = set-elsewhere G (h .elsewhere) q n x i j;
 }
   where
-    made : (k m : ℕ) → k < 4 → m < 4 → Dec (k ≡ q) → Dec (m ≡ n) → MadeSlot (setSlot G q n x k m)
-    made k m a b (yes u) (yes v) = rw (u, v, set-same G q n x) w
-    made k m a b (yes u) (no v) = rw (set-other G q n x k m (λ _ y. v y)) (h .made k m a b)
-    made k m a b (no u) v = rw (set-other G q n x k m (λ y _. u y)) (h .made k m a b)
-
     suited : (k m : ℕ) → k < 4 → m < 4 → Dec (k ≡ q) → Dec (m ≡ n) → suitsSlot N rows k m (setSlot G q n x k m) ≡ true
     suited k m a b (yes u) (yes v) = rw (u, v, set-same G q n x) e
     suited k m a b (yes u) (no v) = rw (set-other G q n x k m (λ _ y. v y)) (h .suited k m a b)
     suited k m a b (no u) v = rw (set-other G q n x k m (λ y _. u y)) (h .suited k m a b)
-
-    apart : (k m : ℕ) → (4 ≤ k) ⊎ (4 ≤ m) → k ≡ q → m ≡ n → ⊥
-    apart k m (inl o) u v = omega arith
-    apart k m (inr o) u v = omega arith
 
 -- Closing a session.
 pub free-shape : {N : Network} {rows : ℕ} {G : State} → HasShape N rows G → (q n : ℕ) → q < 4 → n < 4 → HasShape N rows (setSlot G q n free)

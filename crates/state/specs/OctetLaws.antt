@@ -14,7 +14,7 @@ use Rattle.scalar.specs.Value.{Value, value, pick, isValue}
 use Rattle.syntax.specs.Syntax.{Optional, none, some, Network, Operation, Behaviour, nil, oneWay, requestResponse, notification, solicitResponse, ifThenElse, whileDo, sequence, parallel, assign, choice, branch, lastBranch, waiting, answering}
 use Rattle.syntax.specs.Rows.{rowOf, hasRow}
 use Rattle.tree.specs.Encode.{count, encode, rooted, empty, Octets, Proper, WellFormed, messageDeep, messageMany, treeDeep, treeMany}
-use Rattle.tree.specs.EncodeLaws.{and-left, and-right, count-nodes, encode-octets}
+use Rattle.tree.specs.EncodeLaws.{and-left, and-right, count-nodes, encode-octets, octets-nil}
 use Rattle.state.specs.Session.{ReplyTo, nobody, outsider, waitingRow, Progress, undone, done, waits, received, taken, Progresses, Queued, Session, Slot, free, live, State}
 use Rattle.state.specs.Bytes.{zeros, joined, padded, u16Bytes, replyKind, replyBytes, messageBytes, entryBytes, queueBytes, progressBytes, rowsBytes, treeBytes, slotBytes, slotAt, stateBytes}
 use Rattle.state.specs.Shape.{isDestination, isNobody, isInput, isUndone, undoneOrDone, undoneDoneOrWaits, undoneDoneOrReceived, undoneOrTaken, undoneDoneOrBody, branches, suits, quietElsewhere, suitsOperation, suitsQueue, operationAt, behaviourIn, suitsBehaviour, suitsSlot, AllMessages, WellMade, MadeSlot, HasShape}
@@ -24,9 +24,6 @@ use Rattle.state.specs.RowShape.{suitsRow, PartOf}
 use Rattle.state.specs.RowLaws.{suits-row, row-part, quiet-each}
 
 -- ---- lists of bytes
-
-octets-nil : Octets []
-octets-nil = record { small = λ k. omega arith }
 
 octets-cons : {a : ℕ} {l : List ℕ} → a < 256 → Octets l → Octets (a ∷ l)
 octets-cons {a} {l} h o = record { small = by }

@@ -167,7 +167,7 @@ at-row (answering r o c d) i b h =
     from-itself i b _ r (answering r o c d) _ refl h (λ e f. (inl e, f)) (λ h. let w = at-row d i b h in (inr (w .0), w .1))
 
 -- Is there one?
-abbrev isSome : Optional Behaviour → Bool
+abbrev pub isSome : Optional Behaviour → Bool
 isSome none = false
 isSome (some b) = true
 
@@ -183,7 +183,7 @@ or-false : (t : Bool) → (t || false) ≡ t
 or-false true = refl
 or-false false = refl
 
-has-row : (i : ℕ) (B : Behaviour) → isSome (atRow i B) ≡ hasRow i B
+pub has-row : (i : ℕ) (B : Behaviour) → isSome (atRow i B) ≡ hasRow i B
 unfolding atRow hasRow
 has-row i (nil r) = some-itself (eqb i r) (nil r) none ∙ or-false (eqb i r)
 has-row i (oneWay r o y) = some-itself (eqb i r) (oneWay r o y) none ∙ or-false (eqb i r)

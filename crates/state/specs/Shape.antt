@@ -217,3 +217,7 @@ freshSlot (some B) = live newSession
 
 abbrev pub freshState : Network → State
 freshState N = λ q n. pick (eqb n 0) (freshSlot (clientOf (serviceAt (N .services) q))) free
+
+-- The clients of the services before k live, all else free.
+abbrev pub freshUpTo : Network → ℕ → State
+freshUpTo N k = λ q n. pick (ltb q k) (freshState N q n) free

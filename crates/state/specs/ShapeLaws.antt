@@ -12,12 +12,12 @@ use lib.ListN.{length}
 use lib.Dec.{eqb, ltb}
 use borrow.Author.Tests.{eq-eqb, ne-eqb, eqb-true, lt-ltb, le-ltb}
 use Rattle.forest.specs.Forest.{end, tree, Lookup, absent, present, childrenOf, Rising, measure}
-use Rattle.scalar.specs.Value.{Value, pick, isValue}
+use Rattle.scalar.specs.Value.{Value, pick}
 use Rattle.syntax.specs.Syntax.{Optional, none, some, Network, Service, Behaviour, nil, oneWay, requestResponse, notification, solicitResponse, ifThenElse, whileDo, sequence, parallel, assign, choice, branch, lastBranch, waiting, answering}
 use Rattle.wire.specs.Wire.{byteAt, u16At, part}
-use Rattle.tree.specs.Encode.{empty, Octets, Proper, Sound, WellFormed, messageDeep, messageMany, treeDeep, treeMany}
+use Rattle.tree.specs.Encode.{empty, Octets, Sound, WellFormed, messageDeep, messageMany, treeDeep, treeMany}
 use Rattle.tree.specs.Decode.{decode, decodeMessage}
-use Rattle.tree.specs.EncodeLaws.{and-left, and-right, octets-part}
+use Rattle.tree.specs.EncodeLaws.{and-left, and-right, octets-part, empty-proper}
 use Rattle.tree.specs.DecodeLaws.{decode-sound}
 use Rattle.state.specs.Session.{undone, free, live, State, newSession}
 use Rattle.state.specs.Bytes.{stateBytes, treeOr, readEntry, readQueue, readSession, readSlot, readState}
@@ -26,11 +26,6 @@ use Rattle.state.specs.SizeLaws.{state-length}
 use Rattle.state.specs.ReadLaws.{read-state}
 
 -- ---- what is read is well made
-
--- The root of a session's tree, and a root alone.
-empty-proper : Proper empty
-unfolding isValue
-empty-proper = record { valid = refl; bytes = record { small = λ k. omega arith } }
 
 pub end-well-formed : (deep many : ℕ) → WellFormed deep many (tree empty end)
 unfolding Sound Rising measure

@@ -5,7 +5,7 @@ use mathlib.Core.List.{List}
 use mathlib.Core.Bool.{Bool, true, false, _||_}
 use native.Mathlib.Omega.{arith}
 use native.Mathlib.Numerals.{add-one}
-use lib.ListN.{getD, set, length, length-set, replicate, length-replicate}
+use lib.ListN.{getD, set, length, length-set, replicate, length-replicate, getD-replicate}
 use lib.Seq.{getD-set-same, getD-set-other}
 use lib.Dec.{eqb}
 use borrow.Author.Tests.{eq-eqb, ne-eqb}
@@ -15,6 +15,7 @@ use Rattle.network.specs.declared.BehaviourKind.{BehaviourKind}
 use Rattle.network.specs.Layout.{start, B, behaviourCount, behaviourAt}
 use Rattle.network.specs.Rows.{fieldA, fieldB, fieldC, fieldD, kindAt}
 use Rattle.network.specs.Decode.{branchesFrom, behaviourFrom, behaviourTo, behaviourOf}
+use Rattle.network.specs.TestLaws.{one-less, or-false, or-assoc}
 use Rattle.rows.specs.Readers.{behaviourRowAs, behaviourRowOf}
 use Rattle.roots.specs.declared.Subs.{Subs}
 use Rattle.roots.specs.Parts.{subsIn, subsOf}
@@ -23,14 +24,6 @@ use Rattle.scalar.specs.Value.{pick}
 use Rattle.state_rows.specs.Marks.{markFor, Adds, itselfRow, rowsTo, branchRows, subRows, AddsBranches, RowsOf}
 
 -- ---- tests
-
-or-assoc : (a b c : Bool) → (a || b) || c ≡ a || (b || c)
-or-assoc true b c = refl
-or-assoc false b c = refl
-
-or-false : (a : Bool) → a ≡ a || false
-or-false true = refl
-or-false false = refl
 
 pick-or : (a b : Bool) (v : ℕ) → pick b 1 (pick a 1 v) ≡ pick (a || b) 1 v
 pick-or true true v = refl
@@ -95,10 +88,6 @@ kind-parts s d r i BehaviourKind.Unknown = or-false (eqb i r)
 row-parts : (s : List ℕ) (d r i : ℕ) → rowsTo s (suc d) r i ≡ itselfRow r i || subRows s d (subsOf s r) i
 unfolding rowsTo behaviourTo subsOf behaviourRowOf
 row-parts s d r i = kind-parts s d r i (kindAt s r)
-
-one-less : (d : ℕ) → (d ≡ 0 → ⊥) → d ≡ suc (d - 1)
-one-less zero h = absurd (h refl)
-one-less (suc d) h = omega arith
 
 subs-are : (s : List ℕ) (d r : ℕ) {x y : Subs} → (d ≡ 0 → ⊥) → x ≡ subsOf s r → x ≡ y → (i : ℕ) → rowsTo s d r i ≡ itselfRow r i || subRows s (d - 1) y i
 subs-are s d r h e f i =
@@ -186,18 +175,13 @@ pub ruleset branch-laws = (no-branches, last-branch, more-branches)
 
 -- ---- the whole
 
-zero-at : (n i : ℕ) → _≡_ {A = ℕ} (getD (replicate n 0) i 0) 0
-zero-at zero i = refl
-zero-at (suc n) zero = refl
-zero-at (suc n) (suc i) = zero-at n i
-
 pub all-marked : (s o : List ℕ) (n r : ℕ) → n ≡ behaviourCount s → Adds (rowsTo s n r) (replicate 256 0) o → RowsOf s r o
 unfolding behaviourOf rowsTo
 all-marked s o n r e h = record {
   all = h .keeps (length-replicate {A = ℕ} 256 0);
   rows = λ i k.
       h .adds (length-replicate {A = ℕ} 256 0) i k
-      ∙ (ap (λ (z : ℕ). pick (hasRow i (behaviourTo s n r)) 1 z) (zero-at 256 i)
+      ∙ (ap (λ (z : ℕ). pick (hasRow i (behaviourTo s n r)) 1 z) (getD-replicate 256 i 0 0 k)
       ∙ (by (hasRow i (behaviourTo s n r)) ∙ ap (λ (d : ℕ). markFor (hasRow i (behaviourTo s d r))) e));
 }
   where

@@ -18,7 +18,7 @@ use Rattle.network.specs.Form.{WellFormed}
 use Rattle.network.specs.Decode.{branchesFrom, behaviourFrom, behaviourTo, behaviourOf, networkOf}
 use Rattle.network.specs.RowLaws.{counts-kept}
 use Rattle.network.specs.UseLaws.{RowKept, behaviour-kept, branch-kept}
-use Rattle.network.specs.BehaviourLaws.{Branches, Later}
+use Rattle.network.specs.BehaviourLaws.{Branches, Later, row-kind}
 use Rattle.network.specs.OnceLaws.{rows-of}
 use Rattle.rows.specs.Readers.{behaviourRowAs, behaviourRowOf}
 use Rattle.state.specs.Session.{Progress, undone, done, waits, received, taken, Progresses}
@@ -93,22 +93,6 @@ branch-count s f zero a = refl
 branch-count s f (suc zero) a = refl
 branch-count s f (suc (suc n)) a = ap suc (branch-count s f (suc n) (suc a))
 
-row-of : (s : List ℕ) (f : ℕ → Behaviour) (r at : ℕ) (k : BehaviourKind) → rowOf (behaviourFrom s f r at k) ≡ r
-unfolding behaviourFrom rowOf
-row-of s f r at BehaviourKind.Nil = refl
-row-of s f r at BehaviourKind.OneWay = refl
-row-of s f r at BehaviourKind.RequestResponse = refl
-row-of s f r at BehaviourKind.Notification = refl
-row-of s f r at BehaviourKind.SolicitResponse = refl
-row-of s f r at BehaviourKind.If = refl
-row-of s f r at BehaviourKind.While = refl
-row-of s f r at BehaviourKind.Sequence = refl
-row-of s f r at BehaviourKind.Parallel = refl
-row-of s f r at BehaviourKind.Assign = refl
-row-of s f r at BehaviourKind.Choice = refl
-row-of s f r at BehaviourKind.Branch = refl
-row-of s f r at BehaviourKind.Unknown = refl
-
 module _ (s : List ℕ) (N : Network) (rows : ℕ) where
   -- A progress suits a part exactly if its row's kind permits it.
   abbrev Fits : Behaviour → Type 0
@@ -136,7 +120,7 @@ module _ (s : List ℕ) (N : Network) (rows : ℕ) where
       → (x : Progress) → suitsRow N rows x b ≡ permits N rows (allowedBy (behaviourRowOf s (rowOf b))) x
   unfolding behaviourRowOf
   own-fits f r k e b i x =
-      let o : rowOf b ≡ r = ap rowOf i ∙ row-of s f r (behaviourAt s r) k in
+      let o : rowOf b ≡ r = ap rowOf i ∙ row-kind s f r (behaviourAt s r) k in
       ap (suitsRow N rows x) i ∙ (by-kind f r (behaviourAt s r) x k ∙ rw (o, e))
 
   -- A branch, whose row is of kind branch.

@@ -14,16 +14,13 @@ use Rattle.network.specs.Rows.{operationService, operationDirection, operationT
 use Rattle.network.specs.Decode.{operationOf, serviceOf, rowsFrom, networkOf}
 use Rattle.network.specs.Meets.{entry, locationOf, someAt, inFile, isInputOperation, sameKind, meets, firstOf, metInput}
 use Rattle.network.specs.NetworkLaws.{service-entry}
+use Rattle.network.specs.TestLaws.{one-less}
 use Rattle.state.specs.Shape.{isInput}
 use Rattle.moves.specs.Moves.{isInputNamed}
 use Rattle.targets.specs.declared.Met.{Met}
 use Rattle.targets.specs.Meeting.{operationMet}
 
 -- ---- rows one after another
-
-one-less : (n : ℕ) → (n ≡ 0 → ⊥) → n ≡ suc (n - 1)
-one-less zero h = absurd (h refl)
-one-less (suc n) h = omega arith
 
 rows-more : {A : Type 0} (f : ℕ → A) (i n : ℕ) → (n ≡ 0 → ⊥) → rowsFrom f i n ≡ f i ∷ rowsFrom f (i + 1) (n - 1)
 unfolding rowsFrom

@@ -20,10 +20,11 @@ use Rattle.network.specs.Layout.{behaviourCount, serviceCount, behaviourAt}
 use Rattle.network.specs.Rows.{fieldA, fieldB, kindAt, isInput, isChoice, noRow, starterRow, clientRow, operationService}
 use Rattle.network.specs.Decode.{branchesFrom, behaviourFrom, behaviourTo, behaviourOf, operationOf, serviceOf, networkOf, optionalBehaviour}
 use Rattle.network.specs.Shapes.{asStarter, asClient}
-use Rattle.network.specs.RowLaws.{counts-kept}
+use Rattle.network.specs.RowLaws.{counts-kept, next-at}
 use Rattle.network.specs.UseLaws.{RowKept, behaviour-kept, branch-kept}
 use Rattle.network.specs.BehaviourLaws.{behaviour-row}
 use Rattle.network.specs.NetworkLaws.{top-of}
+use Rattle.network.specs.TestLaws.{not-true, not-false, one-less, true-false}
 use Rattle.rows.specs.declared.BehaviourRow.{BehaviourRow}
 use Rattle.rows.proofs.BehaviourRow as rows
 use Rattle.rows.specs.Readers.{behaviourRowOf}
@@ -41,10 +42,6 @@ use Rattle.targets.specs.declared.Start.{Start}
 use Rattle.targets.specs.declared.Target.{Target}
 use Rattle.targets.specs.Answers.{behaviourRun, RowExists, runsRow, RunsIn, startOf, RowsExist, NamesInput, PermitsInput, Run}
 use Rattle.targets.specs.Answers.{StartsAmong, StartsFrom, targetAs, StarterExists, liveTarget, FreeTarget, SlotTarget, Targets}
-
-one-less : (n : ℕ) → (n ≡ 0 → ⊥) → n ≡ suc (n - 1)
-one-less zero h = absurd (h refl)
-one-less (suc n) h = omega arith
 
 -- ---- what a session runs
 
@@ -155,10 +152,6 @@ pub ruleset names-laws = (names-are)
 
 -- ---- starters
 
-next-at : (s : List ℕ) (r : ℕ) → behaviourAt s r + 10 ≡ behaviourAt s (suc r)
-unfolding behaviourAt
-next-at s r = omega arith
-
 run-next : (file : List ℕ) (at n j : ℕ) → (n ≡ 0 → ⊥) → Run file at n j → Run file (at + 10) (n - 1) (suc j)
 run-next file at n j z h = record {
   there = ap (λ (y : ℕ). y + 10) (h .there) ∙ next-at file j;
@@ -223,9 +216,6 @@ module _ (file : List ℕ) (w c at k n : ℕ) {a : ℕ} {t : Bool} (z : n ≡ 0 
 
 pub ruleset among-laws = (among-none, among-here, among-later)
 
-no : {A : Type 0} → true ≡ false → A
-no e = absurd (let z : _≡_ {A = ℕ} 0 1 = cc in omega arith)
-
 no-choice : (file : List ℕ) (sub : ℕ → Behaviour) (w r at : ℕ) (k : BehaviourKind) → isChoice k ≡ false
     → definition.noTarget ≡ definition.startFrom w 0 0 (behaviourFrom file sub r at k)
 unfolding behaviourFrom definition.startFrom
@@ -239,37 +229,29 @@ no-choice file sub w r at BehaviourKind.While e = refl
 no-choice file sub w r at BehaviourKind.Sequence e = refl
 no-choice file sub w r at BehaviourKind.Parallel e = refl
 no-choice file sub w r at BehaviourKind.Assign e = refl
-no-choice file sub w r at BehaviourKind.Choice e = no e
+no-choice file sub w r at BehaviourKind.Choice e = true-false e
 no-choice file sub w r at BehaviourKind.Branch e = refl
 no-choice file sub w r at BehaviourKind.Unknown e = refl
 
 is-choice : (k : BehaviourKind) → isChoice k ≡ true → k ≡ BehaviourKind.Choice
-is-choice BehaviourKind.Nil e = no (sym e)
-is-choice BehaviourKind.OneWay e = no (sym e)
-is-choice BehaviourKind.RequestResponse e = no (sym e)
-is-choice BehaviourKind.Notification e = no (sym e)
-is-choice BehaviourKind.SolicitResponse e = no (sym e)
-is-choice BehaviourKind.If e = no (sym e)
-is-choice BehaviourKind.While e = no (sym e)
-is-choice BehaviourKind.Sequence e = no (sym e)
-is-choice BehaviourKind.Parallel e = no (sym e)
-is-choice BehaviourKind.Assign e = no (sym e)
+is-choice BehaviourKind.Nil e = true-false (sym e)
+is-choice BehaviourKind.OneWay e = true-false (sym e)
+is-choice BehaviourKind.RequestResponse e = true-false (sym e)
+is-choice BehaviourKind.Notification e = true-false (sym e)
+is-choice BehaviourKind.SolicitResponse e = true-false (sym e)
+is-choice BehaviourKind.If e = true-false (sym e)
+is-choice BehaviourKind.While e = true-false (sym e)
+is-choice BehaviourKind.Sequence e = true-false (sym e)
+is-choice BehaviourKind.Parallel e = true-false (sym e)
+is-choice BehaviourKind.Assign e = true-false (sym e)
 is-choice BehaviourKind.Choice e = refl
-is-choice BehaviourKind.Branch e = no (sym e)
-is-choice BehaviourKind.Unknown e = no (sym e)
+is-choice BehaviourKind.Branch e = true-false (sym e)
+is-choice BehaviourKind.Unknown e = true-false (sym e)
 
 choice-starts : (file : List ℕ) (w r : ℕ) → definition.startFrom w 0 0 (behaviourFrom file (behaviourOf file) r (behaviourAt file r) BehaviourKind.Choice)
     ≡ definition.startFrom w r 0 (branchesFrom file (behaviourOf file) (fieldA file (behaviourAt file r)) (fieldB file (behaviourAt file r)))
 unfolding behaviourFrom definition.startFrom
 choice-starts file w r = refl
-
-not-true : (t : Bool) → not t ≡ true → t ≡ false
-not-true true e = sym e
-not-true false e = refl
-
-not-false : (t : Bool) → not t ≡ false → t ≡ true
-not-false true e = refl
-not-false false e = sym e
 
 module _ (file : List ℕ) (w r : ℕ) {row first n : ℕ} {k : BehaviourKind} {t : Bool} (a : row ≡ behaviourAt file r) (b : first ≡ u16At file (row + 2))
     (c : n ≡ u16At file (row + 4)) (d : k ≡ kindAt file r) (e : t ≡ isChoice k) where

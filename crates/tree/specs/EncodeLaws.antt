@@ -13,7 +13,7 @@ use lib.Dec.{eqb, leb, ltb}
 use borrow.Author.Tests.{le-leb, lt-ltb, ltb-true, leb-true, eqb-true}
 use Rattle.forest.specs.Forest.{Forest, end, node, Above, Rising, measure, nodes, levels}
 use Rattle.scalar.specs.Value.{Value, value, isValue, isDouble, number, pick}
-use Rattle.tree.specs.Encode.{count, encode, Octets, Proper, Sound}
+use Rattle.tree.specs.Encode.{count, encode, Octets, Proper, Sound, empty}
 use Rattle.tree.specs.Decode.{idAt, basicAt, countAt, lenAt, valueAt, nextAt, headOk, headAt, Parse, bad, past, test, andThen, join, siblings}
 use Rattle.tree.specs.Decode.{parse, erase, scan}
 use Rattle.tree.specs.Standing.{Good}
@@ -386,7 +386,7 @@ unique s at d e a b f g r r′ p q x y c =
     cc
 
 -- the byte form is bytes
-octets-nil : Octets []
+pub octets-nil : Octets []
 octets-nil = record { small = λ k. omega arith }
 
 octets-cons : (a : ℕ) (l : List ℕ) → a < 256 → Octets l → Octets (a ∷ l)
@@ -434,3 +434,8 @@ encode-octets (node i (value b v) ks rest) h n =
     let c : count ks < 256 = omega (arith, count-nodes ks) in
     octets-cons _ _ (omega arith) (octets-cons _ _ (omega (arith, h .1)) (octets-cons _ _ (s .0) (octets-cons _ _ c (octets-cons _ _ (s .1)
     (octets-append v (encode ks ++ encode rest) (h .2 .bytes) (octets-append (encode ks) (encode rest) k r))))))
+
+-- A root alone.
+pub empty-proper : Proper empty
+unfolding isValue
+empty-proper = record { valid = refl; bytes = record { small = λ k. omega arith } }

@@ -201,3 +201,13 @@ first s at n (node x (value d v) ks rest) w e z h i b c m p q =
 pub no-first : {A : Type 0} (s : List ℕ) (at n : ℕ) (f : Forest Value) → Row s at f → count f ≡ n → (n ≡ 0 → ⊥) → (h : Head) → h ≡ headAt s at → h ≡ Fault → A
 no-first s at n end w e z h p q = absurd (z (sym (unfold count in e)))
 no-first s at n (node x (value d v) ks rest) w e z h p q = unseen s at x d v ks rest w h p q
+
+-- A row that stands at an equal position.
+pub moved : (s : List ℕ) (e at : ℕ) (f : Forest Value) → e ≡ at → Row s at f → Row s e f
+moved s e at f q w = subst (λ (z : ℕ). Row s z f) (sym q) w
+
+-- A tree that stands somewhere keeps to the limits.
+pub root-good : (s : List ℕ) (at i : ℕ) (t : Tree Value) → Root s at i t → WellFormed treeDeep treeMany t
+root-good s at i t w =
+    let g = of-good (children t) treeDeep 0 (w .good) in
+    record { root = w .proper; sound = g .sound; rising = g .rising; shallow = g .shallow; few = w .small }

@@ -1,5 +1,5 @@
 -- Subtyping of rows and trees, at each of the ways out of the code.
-use mathlib.Core.Path.{_≡_, refl, ap, sym, subst, _∙_}
+use mathlib.Core.Path.{_≡_, refl, ap, sym, _∙_}
 use mathlib.Core.List.{List}
 use mathlib.Core.Bool.{Bool, true, false, not, _&&_}
 use Prim.Native.Nat.{ℕ, zero, suc, _+_, _-_, _≤_, _<_}
@@ -17,7 +17,7 @@ use Rattle.network.specs.Layout.{typeCount}
 use Rattle.network.specs.Decode.{siblings, typeOf}
 use Rattle.tree.specs.Encode.{count, encode}
 use Rattle.tree.specs.Standing.{Good, Row, Root, Ended}
-use Rattle.tree.specs.StandingLaws.{row-root, row-kids, row-rest, root-kids}
+use Rattle.tree.specs.StandingLaws.{row-root, row-kids, row-rest, root-kids, moved}
 use Rattle.types.specs.Image.{markAs, typesAs, typeAs, typeHeadAt}
 use Rattle.types.specs.ImageLaws.{Seen, type-seen, type-unseen, root-type-seen, root-type-unseen}
 use Rattle.types.specs.TypeRows.{rowTypes, lineOf}
@@ -103,9 +103,6 @@ above-none i F e = rw e tt
 
 above-first : (i j : ℕ) (F : Types) (a : Mark) (k r : Types) → F ≡ node j a k r → i < j → Above i F
 above-first i j F a k r e l = rw e l
-
-moved : (s : List ℕ) (e at : ℕ) (f : Forest Value) → e ≡ at → Row s at f → Row s e f
-moved s e at f q w = subst (λ (z : ℕ). Row s z f) (sym q) w
 
 module _ (file : List ℕ) (r n : ℕ) (s : List ℕ) (at m : ℕ) where
   pub under-end : m ≡ 0 → RowsUnder file r n s at m (eqb n 0)

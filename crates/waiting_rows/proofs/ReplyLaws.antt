@@ -26,12 +26,13 @@ use Rattle.state.specs.Shape.{WellMade}
 use Rattle.state.specs.KeepLaws.{advance-past}
 use Rattle.moves.specs.Moves.{moved, require, voidValue, withTree, onLive, saveWithin, takeReply}
 use Rattle.moves.specs.Step.{finish}
-use Rattle.slots.specs.SlotLaws.{Living, row-set, tree-set, living-set, set-again, stands-set}
+use Rattle.slots.specs.SlotLaws.{row-set, tree-set, living-set, set-again, stands-set}
+use Rattle.slots.specs.Living.{Living}
 use Rattle.session_trees.specs.declared.Change.{Change}
 use Rattle.session_trees.specs.Changing.{KeptTree, ChangedTo, Replaces}
 use Rattle.moving.specs.Made.{InSession}
+use Rattle.types.specs.PathLaws.{ids-path, path-is}
 use Rattle.waiting_rows.specs.Waiting.{replied, PutsReply, TakesReply}
-use Rattle.waiting_rows.specs.PathLaws.{ids-are, ids-path}
 
 -- ---- `put_reply`
 
@@ -70,7 +71,7 @@ module _ (file s : List ℕ) (slot r p : ℕ) (m : List ℕ) {is o : List ℕ} {
 
   changed : WellFormed file → p < pathCount file → (S : Session) → Living s slot S → (t : Tree Value) → Message m t → ChangedTo o x (changedTree S t)
   changed w l S h t g =
-      subst (λ (y : Path). ChangedTo o x (replaceAt voidValue y t (S .tree))) (ap ids.pathOf d ∙ ids-are file p)
+      subst (λ (y : Path). ChangedTo o x (replaceAt voidValue y t (S .tree))) (ap ids.pathOf d ∙ path-is file p)
       (c .tells S t h (ap isPath d ∙ ids-path file w p l) g)
 
   -- The definition, in a live session.

@@ -1,6 +1,6 @@
 -- Rows that wait, at each of the ways out of the code.
 use mathlib.Core.Path.{_≡_, refl, sym, ap, _∙_}
-use mathlib.Core.Bool.{Bool, true, false, not, _&&_}
+use mathlib.Core.Bool.{Bool, true, false, not}
 use mathlib.Core.List.{List, [], _∷_}
 use Prim.Native.Nat.{ℕ, _<_, _≤_}
 use native.Mathlib.Omega.{arith}
@@ -13,7 +13,7 @@ use Rattle.forest.specs.Path.{Path}
 use Rattle.refusal.specs.declared.Refusal.the-variants.{MoveNotAllowed}
 use Rattle.syntax.specs.Syntax.{Operation, output, Optional, some, Behaviour}
 use Rattle.syntax.specs.Rows.{hasRow, atRow}
-use Rattle.typing.specs.Rules.{sameBool, sameDirection, permits}
+use Rattle.typing.specs.Rules.{permits}
 use Rattle.network.specs.declared.BehaviourKind.{BehaviourKind}
 use Rattle.network.specs.Form.{WellFormed}
 use Rattle.network.specs.Layout.{behaviourCount}
@@ -21,10 +21,12 @@ use Rattle.network.specs.Rows.{kindAt}
 use Rattle.network.specs.RowLaws.{counts-kept}
 use Rattle.network.specs.OnceLaws.{rows-of}
 use Rattle.network.specs.Decode.{pathOf, operationOf, behaviourOf}
+use Rattle.network.specs.TestLaws.{apart, not-true, not-false}
 use Rattle.rows.specs.declared.BehaviourRow.{BehaviourRow}
 use Rattle.rows.proofs.BehaviourRow as rows
 use Rattle.rows.specs.Readers.{behaviourRowAs, behaviourRowOf}
 use Rattle.operations.specs.Directions.{directionOf}
+use Rattle.operations.specs.PermitsLaws.{two-way}
 use Rattle.behaviours.specs.Rows.{behaviourBy}
 use Rattle.behaviours.specs.KindLaws.{row-is}
 use Rattle.state_rows.specs.Marks.{markFor, RowsOf}
@@ -37,17 +39,6 @@ use Rattle.moves.specs.Moves.{Result, notAllowed, require, ifWaiting, onWaiting
 use Rattle.waiting_rows.specs.declared.Waiting.{Waiting}
 use Rattle.waiting_rows.specs.Waiting.{HasRow, WaitsAt}
 use Rattle.waiting_rows.specs.PartLaws.{at-each-row, row-absent, row-present}
-
-apart : {A : Type 0} → false ≡ true → A
-apart e = absurd (let z : _≡_ {A = ℕ} 0 1 = cc in omega arith)
-
-not-true : (t : Bool) → not t ≡ true → t ≡ false
-not-true true e = apart e
-not-true false e = refl
-
-not-false : (t : Bool) → not t ≡ false → t ≡ true
-not-false true e = refl
-not-false false e = apart (sym e)
 
 -- ---- `has_row`
 
@@ -126,18 +117,6 @@ module _ (file : List ℕ) (q : ℕ) (S : Session) (f : Operation → Path → R
       (λ i e c d m. asks-branch i e) (λ i e c d. asks-branch i e) b r l (p .0) (p .1)
 
 -- ---- `waiting_at`
-
-and-of : (a b : Bool) → (a && b) ≡ true → b ≡ true
-and-of true b e = e
-and-of false b e = apart e
-
-same-true : (b : Bool) → sameBool b true ≡ true → b ≡ true
-same-true true e = refl
-same-true false e = e
-
-two-way : (q : ℕ) (o : Operation) → permits q output true o ≡ true → o .twoWay ≡ true
-unfolding permits
-two-way q o e = same-true (o .twoWay) (and-of (sameDirection (o .direction) output) (sameBool (o .twoWay) true) (and-of (eqb (o .service) q) _ e))
 
 nowhere : {o p : ℕ} {A : Type 0} → Waiting.NotAllowed ≡ Waiting.Row o p → A
 nowhere e = absurd (let z : _≡_ {A = ℕ} 0 1 = cc in omega arith)
@@ -221,7 +200,7 @@ module _ (file s : List ℕ) (slot b q r : ℕ) {t : Bool} (h : HasRow file b r 
           exists = λ w l.
               let i = rows-of file w b r l (T-of (runs w l)) .1 in
               let kept = row-is file w r (behaviourCount file) (record { exists = i; enough = omega arith }) e g .1 in
-              (kept .0, kept .2, two-way q (operationOf file o) (sym z ∙ not-false v n));
+              (kept .0, kept .2, two-way q output (operationOf file o) (sym z ∙ not-false v n));
           small = λ a c u. h .small (not-false t y);
         }
 

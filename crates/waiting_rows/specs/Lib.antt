@@ -1,4 +1,3 @@
 pub mod Waiting
 pub mod PartLaws
-pub mod PathLaws
 pub mod WaitingLaws

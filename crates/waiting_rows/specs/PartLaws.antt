@@ -1,38 +1,21 @@
 -- What stands at a row of a file's behaviour: the behaviour of that row, or a branch (`each-part`, `at-each-row`).
 use mathlib.Core.Path.{_≡_, refl, sym, ap, subst, _∙_}
-use mathlib.Core.Bool.{Bool, true, false, _||_}
+use mathlib.Core.Bool.{true, false}
 use mathlib.Core.List.{List}
 use mathlib.Core.Logic.{inl, inr}
 use Prim.Native.Nat.{ℕ, zero, suc, _+_, _<_, _≤_}
 use native.Mathlib.Omega.{arith}
-use lib.Dec.{eqb}
-use Rattle.syntax.specs.Syntax.{Optional, none, some, Behaviour, nil, oneWay, requestResponse, notification, solicitResponse, ifThenElse, whileDo, sequence, parallel, assign, choice, branch, lastBranch, waiting, answering}
-use Rattle.syntax.specs.Rows.{rowOf, hasRow, atRow, itself, orElseSome}
+use Rattle.syntax.specs.Syntax.{Optional, none, some, Behaviour, branch, lastBranch}
+use Rattle.syntax.specs.Rows.{rowOf, hasRow, atRow}
 use Rattle.network.specs.declared.BehaviourKind.{BehaviourKind}
 use Rattle.network.specs.Form.{WellFormed}
 use Rattle.network.specs.Layout.{behaviourCount, behaviourAt}
 use Rattle.network.specs.Rows.{fieldA, fieldB, kindAt}
 use Rattle.network.specs.Decode.{branchesFrom, behaviourFrom, behaviourOf}
 use Rattle.network.specs.UseLaws.{RowKept, behaviour-kept, branch-kept}
-use Rattle.network.specs.BehaviourLaws.{Branches, Later, behaviour-row}
+use Rattle.network.specs.BehaviourLaws.{Branches, Later, behaviour-row, row-kind}
 use Rattle.state.specs.RowShape.{PartOf}
-use Rattle.state.specs.RowLaws.{at-row}
-
-row-kind : (s : List ℕ) (f : ℕ → Behaviour) (r at : ℕ) (k : BehaviourKind) → rowOf (behaviourFrom s f r at k) ≡ r
-unfolding rowOf behaviourFrom
-row-kind s f r at BehaviourKind.Nil = refl
-row-kind s f r at BehaviourKind.OneWay = refl
-row-kind s f r at BehaviourKind.RequestResponse = refl
-row-kind s f r at BehaviourKind.Notification = refl
-row-kind s f r at BehaviourKind.SolicitResponse = refl
-row-kind s f r at BehaviourKind.If = refl
-row-kind s f r at BehaviourKind.While = refl
-row-kind s f r at BehaviourKind.Sequence = refl
-row-kind s f r at BehaviourKind.Parallel = refl
-row-kind s f r at BehaviourKind.Assign = refl
-row-kind s f r at BehaviourKind.Choice = refl
-row-kind s f r at BehaviourKind.Branch = refl
-row-kind s f r at BehaviourKind.Unknown = refl
+use Rattle.state.specs.RowLaws.{at-row, isSome, has-row}
 
 -- What holds of the behaviour of each row and of each branch.
 module _ (s : List ℕ) (w : WellFormed s) (P : ℕ → Behaviour → Type 0) (own : (r : ℕ) → r < behaviourCount s → P r (behaviourOf s r))
@@ -124,61 +107,16 @@ module _ (s : List ℕ) (w : WellFormed s) (P : ℕ → Behaviour → Type 0) (o
 
 -- ---- whether anything stands at a row
 
-abbrev isSome : Optional Behaviour → Bool
-isSome none = false
-isSome (some b) = true
-
-some-itself : (t : Bool) (c : Behaviour) (o : Optional Behaviour) → isSome (itself t c o) ≡ (t || isSome o)
-some-itself true c o = refl
-some-itself false c o = refl
-
-some-either : (x y : Optional Behaviour) → isSome (orElseSome x y) ≡ (isSome x || isSome y)
-some-either none y = refl
-some-either (some c) y = refl
-
-or-false : (t : Bool) → (t || false) ≡ t
-or-false true = refl
-or-false false = refl
-
-some-row : (i : ℕ) (B : Behaviour) → isSome (atRow i B) ≡ hasRow i B
-unfolding atRow hasRow
-some-row i (nil r) = some-itself (eqb i r) (nil r) none ∙ or-false (eqb i r)
-some-row i (oneWay r o y) = some-itself (eqb i r) (oneWay r o y) none ∙ or-false (eqb i r)
-some-row i (requestResponse r o y c d) = some-itself (eqb i r) (requestResponse r o y c d) (atRow i d) ∙ rw (some-row i d)
-some-row i (notification r o e) = some-itself (eqb i r) (notification r o e) none ∙ or-false (eqb i r)
-some-row i (solicitResponse r o e y) = some-itself (eqb i r) (solicitResponse r o e y) none ∙ or-false (eqb i r)
-some-row i (ifThenElse r e a z) =
-    some-itself (eqb i r) (ifThenElse r e a z) _ ∙ rw (some-either (atRow i a) (atRow i z), some-row i a, some-row i z)
-some-row i (whileDo r e z) = some-itself (eqb i r) (whileDo r e z) (atRow i z) ∙ rw (some-row i z)
-some-row i (sequence r a z) =
-    some-itself (eqb i r) (sequence r a z) _ ∙ rw (some-either (atRow i a) (atRow i z), some-row i a, some-row i z)
-some-row i (parallel r a z) =
-    some-itself (eqb i r) (parallel r a z) _ ∙ rw (some-either (atRow i a) (atRow i z), some-row i a, some-row i z)
-some-row i (assign r y e) = some-itself (eqb i r) (assign r y e) none ∙ or-false (eqb i r)
-some-row i (choice r m) = some-itself (eqb i r) (choice r m) (atRow i m) ∙ rw (some-row i m)
-some-row i (branch r a z m) =
-    some-itself (eqb i r) (branch r a z m) _ ∙ rw (
-      some-either (orElseSome (atRow i a) (atRow i z)) (atRow i m),
-      some-either (atRow i a) (atRow i z),
-      some-row i a,
-      some-row i z,
-      some-row i m,
-    )
-some-row i (lastBranch r a z) =
-    some-itself (eqb i r) (lastBranch r a z) _ ∙ rw (some-either (atRow i a) (atRow i z), some-row i a, some-row i z)
-some-row i (waiting r o y) = some-itself (eqb i r) (waiting r o y) none ∙ or-false (eqb i r)
-some-row i (answering r o c d) = some-itself (eqb i r) (answering r o c d) (atRow i d) ∙ rw (some-row i d)
-
 -- Nothing stands at a row that is none of the behaviour's, and something at each that is.
 pub row-absent : (i : ℕ) (B : Behaviour) → hasRow i B ≡ false → atRow i B ≡ none
-row-absent i B h = by (atRow i B) (some-row i B ∙ h)
+row-absent i B h = by (atRow i B) (has-row i B ∙ h)
   where
     by : (x : Optional Behaviour) → isSome x ≡ false → x ≡ none
     by none e = refl
     by (some b) e = absurd (let z : _≡_ {A = ℕ} 0 1 = cc in omega arith)
 
 pub row-present : (i : ℕ) (B : Behaviour) → hasRow i B ≡ true → (b : Behaviour) × (atRow i B ≡ some b)
-row-present i B h = by (atRow i B) (some-row i B ∙ h)
+row-present i B h = by (atRow i B) (has-row i B ∙ h)
   where
     by : (x : Optional Behaviour) → isSome x ≡ true → (b : Behaviour) × (x ≡ some b)
     by none e = absurd (let z : _≡_ {A = ℕ} 0 1 = cc in omega arith)

@@ -20,9 +20,9 @@ use Rattle.state.specs.Bytes.{slotBytes, readSession}
 use Rattle.state.specs.Shape.{WellMade}
 use Rattle.moves.specs.Moves.{Result, notAllowed, withTree, onWaitingRow, takeReply}
 use Rattle.moves.specs.Step.{Step, finish}
-use Rattle.slots.specs.SlotLaws.{Living}
 use Rattle.session_trees.specs.Changing.{KeptTree}
 use Rattle.moving.specs.Made.{StateOf, InSession}
+use Rattle.slots.specs.Living.{Living}
 use Rattle.waiting_rows.specs.declared.Waiting.{Waiting}
 
 -- x tells whether row r is one of the behaviour of B row b.

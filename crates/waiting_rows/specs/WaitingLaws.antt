@@ -4,19 +4,19 @@ use mathlib.Core.Bool.{Bool, true, _&&_}
 use mathlib.Core.List.{List}
 use Prim.Native.Nat.{ℕ, _<_}
 use lib.Dec.{leb}
-use borrow.Author.Tests.{le-leb, eqb-true}
+use borrow.Author.Tests.{le-leb}
 use Rattle.forest.specs.Forest.{Tree, tree, levels, nodes}
 use Rattle.forest.specs.Path.{Path}
-use Rattle.scalar.specs.Value.{Value, pick}
+use Rattle.scalar.specs.Value.{Value}
 use Rattle.tree.specs.Encode.{Message, messageDeep, messageMany}
 use Rattle.syntax.specs.Syntax.{Operation}
 use Rattle.syntax.specs.Rows.{atRow}
 use Rattle.subtyping.specs.Own.{fits}
 use Rattle.network.specs.Form.{WellFormed}
-use Rattle.network.specs.Layout.{typeCount, operationCount}
-use Rattle.network.specs.Rows.{operationTwoWay, replyType}
-use Rattle.network.specs.RowLaws.{operation-kept}
-use Rattle.network.specs.Decode.{typeOf, noReply, operationOf, behaviourOf}
+use Rattle.network.specs.Layout.{operationCount}
+use Rattle.network.specs.Rows.{replyType}
+use Rattle.network.specs.Decode.{typeOf, operationOf, behaviourOf}
+use Rattle.network.specs.DecodeLaws.{reply-row}
 use Rattle.types.specs.Tells.{FitsRow}
 use Rattle.types.specs.TellsLaws.{fits-message}
 use Rattle.state.specs.Session.{Session, State}
@@ -29,13 +29,6 @@ pub waits-in : {file s : List ℕ} {G : State} {q n slot b r : ℕ} {x : Waiting
     → (f : Operation → Path → Result) → onWaitingRow q (h .session) (atRow r (behaviourOf file b)) f ≡ waitingAs file x f
 waits-in {file} {s} {G} {q} {n} {slot} {b} {r} h k w f =
     ap (λ (S : Session). onWaitingRow q S (atRow r (behaviourOf file b)) f) (sym (h .reads)) ∙ sym (k .tells w (h .row) f)
-
--- A two-way operation's reply type is its T row.
-reply-row : (s : List ℕ) → WellFormed s → (o : ℕ) → o < operationCount s → operationOf s o .twoWay ≡ true
-    → (operationOf s o .reply ≡ typeOf s (replyType s o)) × (replyType s o < typeCount s)
-unfolding operationOf
-reply-row s w o l e =
-    (ap (λ (t : Bool). pick t (typeOf s (replyType s o)) noReply) e, operation-kept s w o l .reply (eqb-true (operationTwoWay s o) 1 e) .exists)
 
 message-tree : (m : List ℕ) (t : Tree Value) → Message m t → isMessageTree t ≡ true
 message-tree m (tree v k) h =

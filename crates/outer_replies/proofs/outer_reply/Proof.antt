@@ -1,11 +1,12 @@
 use native.Mathlib.Omega.{arith}
-use Rattle.outer_replies.proofs.OuterLaws.{outer-nothing, outer-not-waiting, outer-inside, outer-no-message, outer-misfit, outer-taken, slot-inside, row-small}
+use Rattle.outer_replies.proofs.OuterLaws.{outer-nothing, outer-not-waiting, outer-inside, outer-no-message, outer-misfit, outer-taken, row-small}
 use borrow.Author.Needs.{needs}
 use Rattle.outer_replies.proofs.outer_reply.Statement.{statement}
 use Rattle.outer_replies.proofs.outer_reply.Tie as tie
 use Rattle.outer_replies.proofs.outer_reply.Reads as reads
 use Rattle.outer_replies.proofs.outer_reply.Lts as lts
 use Rattle.moving.proofs.session_at.Reads as session-at-reads
+use Rattle.moving.specs.MadeLaws.{slot-inside}
 use Rattle.refusal.proofs.refused.Reads as refused-reads
 use Rattle.rows.proofs.operation_location.Reads as operation-location-reads
 use Rattle.rows.proofs.reply_type.Reads as reply-type-reads

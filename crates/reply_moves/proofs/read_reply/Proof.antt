@@ -1,4 +1,5 @@
-use Rattle.reply_moves.proofs.MessageLaws.{told, read-laws}
+use Rattle.network.specs.TestLaws.{told}
+use Rattle.reply_moves.proofs.MessageLaws.{read-laws}
 use borrow.Author.Needs.{needs}
 use Rattle.reply_moves.proofs.read_reply.Statement.{statement}
 use Rattle.reply_moves.proofs.read_reply.Tie as tie

@@ -1,12 +1,13 @@
 use mathlib.Core.Path.{refl}
 use native.Mathlib.Omega.{arith}
-use Rattle.reply_moves.proofs.AnswerLaws.{inside-nothing, inside-not-waiting, inside-missing, inside-misfit, inside-stored, slot-inside, waiting-small, reply-inside, part-length}
+use Rattle.reply_moves.proofs.AnswerLaws.{inside-nothing, inside-not-waiting, inside-missing, inside-misfit, inside-stored, waiting-small, reply-inside, part-length}
 use borrow.Author.Needs.{needs}
 use Rattle.reply_moves.proofs.reply_inside.Statement.{statement}
 use Rattle.reply_moves.proofs.reply_inside.Tie as tie
 use Rattle.reply_moves.proofs.reply_inside.Reads as reads
 use Rattle.reply_moves.proofs.reply_inside.Lts as lts
 use Rattle.moving.proofs.session_at.Reads as session-at-reads
+use Rattle.moving.specs.MadeLaws.{slot-inside}
 use Rattle.refusal.proofs.refused.Reads as refused-reads
 use Rattle.reply_moves.proofs.fits_reply.Reads as fits-reply-reads
 use Rattle.reply_moves.proofs.read_reply.Reads as read-reply-reads

@@ -1,11 +1,12 @@
 use native.Mathlib.Omega.{arith}
-use Rattle.reply_moves.proofs.AnswerLaws.{move-nothing, move-not-allowed, move-outside, move-inside, move-not-received, slot-inside, replying-small}
+use Rattle.reply_moves.proofs.AnswerLaws.{move-nothing, move-not-allowed, move-outside, move-inside, move-not-received, replying-small}
 use borrow.Author.Needs.{needs}
 use Rattle.reply_moves.proofs.reply_move.Statement.{statement}
 use Rattle.reply_moves.proofs.reply_move.Tie as tie
 use Rattle.reply_moves.proofs.reply_move.Reads as reads
 use Rattle.reply_moves.proofs.reply_move.Lts as lts
 use Rattle.moving.proofs.session_at.Reads as session-at-reads
+use Rattle.moving.specs.MadeLaws.{slot-inside}
 use Rattle.progress.proofs.row_progress.Reads as row-progress-reads
 use Rattle.refusal.proofs.refused.Reads as refused-reads
 use Rattle.reply_moves.proofs.reply_inside.Reads as reply-inside-reads

@@ -1,11 +1,12 @@
 use native.Mathlib.Omega.{arith}
-use Rattle.send_moves.proofs.MakingLaws.{slot-inside, sending-small, move-nothing, move-unreached, move-not-sending, move-sends}
+use Rattle.send_moves.proofs.MakingLaws.{sending-small, move-nothing, move-unreached, move-not-sending, move-sends}
 use borrow.Author.Needs.{needs}
 use Rattle.send_moves.proofs.send_move.Statement.{statement}
 use Rattle.send_moves.proofs.send_move.Tie as tie
 use Rattle.send_moves.proofs.send_move.Reads as reads
 use Rattle.send_moves.proofs.send_move.Lts as lts
 use Rattle.moving.proofs.session_at.Reads as session-at-reads
+use Rattle.moving.specs.MadeLaws.{slot-inside}
 use Rattle.readiness.proofs.reach.Reads as reach-reads
 use Rattle.refusal.proofs.refused.Reads as refused-reads
 use Rattle.send_moves.proofs.after_sending.Reads as after-sending-reads

@@ -1,4 +1,5 @@
-use Rattle.session_trees.proofs.Changes.{told, assign-laws}
+use Rattle.network.specs.TestLaws.{told}
+use Rattle.session_trees.proofs.Changes.{assign-laws}
 use native.Mathlib.Omega.{arith}
 use borrow.Author.Needs.{needs}
 use Rattle.session_trees.proofs.assign.Statement.{statement}

@@ -1,4 +1,5 @@
-use Rattle.session_trees.proofs.Changes.{told, replace-laws}
+use Rattle.network.specs.TestLaws.{told}
+use Rattle.session_trees.proofs.Changes.{replace-laws}
 use native.Mathlib.Omega.{arith}
 use borrow.Author.Needs.{needs}
 use Rattle.session_trees.proofs.replace.Statement.{statement}

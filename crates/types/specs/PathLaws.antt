@@ -1,9 +1,8 @@
--- The path of a P row, by its four ids.
+-- The ids of a P row are a path: that of the row.
 use mathlib.Core.Path.{_≡_, refl, sym, ap}
 use mathlib.Core.Bool.{Bool, true, false, not, _&&_, _||_}
 use mathlib.Core.List.{List, [], _∷_}
 use Prim.Native.Nat.{ℕ, _+_, _<_}
-use native.Mathlib.Omega.{arith}
 use lib.Dec.{eqb}
 use Rattle.forest.specs.Path.{path}
 use Rattle.scalar.specs.Value.{pick}
@@ -15,6 +14,7 @@ use Rattle.network.specs.Rows.{pathRow}
 use Rattle.network.specs.Decode as network
 use Rattle.network.specs.LeastLaws.{rule-kept}
 use Rattle.network.specs.RowLaws.{unbroken}
+use Rattle.network.specs.TestLaws.{true-false}
 use Rattle.rows.specs.Readers.{pathIds}
 
 steps-until : (l : List ℕ) → steps l ≡ network.untilZero l
@@ -26,9 +26,6 @@ pub path-is : (file : List ℕ) (p : ℕ) → pathOf (pathIds file p) ≡ networ
 unfolding pathOf pathIds network.pathOf
 path-is file p =
     ap (path (u16At file (pathAt file p))) (steps-until (u16At file (pathAt file p + 2) ∷ u16At file (pathAt file p + 4) ∷ u16At file (pathAt file p + 6) ∷ []))
-
-true-false : {B : Type 0} → true ≡ false → B
-true-false e = absurd (let z : _≡_ {A = ℕ} 0 1 = cc in omega arith)
 
 zeros-by : (a b c d : Bool) → not a ≡ true → (not a || b) ≡ true → (not b || c) ≡ true → (not c || d) ≡ true →
     pick a false (pick b (c && (d && true)) (pick c (d && true) (pick d true true))) ≡ true

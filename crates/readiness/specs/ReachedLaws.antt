@@ -1,0 +1,202 @@
+-- What is reached in a behaviour of a file, or offered there, are rows of the file.
+use mathlib.Core.Path.{_≡_, sym, subst}
+use mathlib.Core.Bool.{Bool, true, false, _||_}
+use mathlib.Core.List.{List}
+use Prim.Native.Nat.{ℕ, zero, suc, _<_}
+use native.Mathlib.Omega.{arith}
+use lib.Dec.{T, eqb, eqb-refl}
+use Rattle.syntax.specs.Syntax.{Behaviour, nil, oneWay, requestResponse, notification, solicitResponse, ifThenElse, whileDo}
+use Rattle.syntax.specs.Syntax.{sequence, parallel, assign, choice, branch, lastBranch, waiting, answering}
+use Rattle.syntax.specs.Rows.{rowOf, hasRow}
+use Rattle.network.specs.Form.{WellFormed}
+use Rattle.network.specs.Layout.{behaviourCount}
+use Rattle.network.specs.Decode.{behaviourOf}
+use Rattle.network.specs.OnceLaws.{or-left, or-right, rows-of}
+use Rattle.network.specs.BehaviourLaws.{row-of}
+use Rattle.state.specs.Session.{Progress, undone, done, waits, received, taken, Progresses}
+use Rattle.moves.specs.Readiness.{Reached, unreached, reached, offered, here, orElse, onlyIf}
+use Rattle.moves.specs.Readiness.{offeredIf, firstOr, ifReceived, ifTaken, thenOrElse, isDone, offer, reach}
+use Rattle.readiness.specs.declared.Reached as rows
+use Rattle.readiness.specs.Reaching.{reachedAs, Reaches}
+
+-- ---- what is reached in a behaviour has rows of the behaviour
+
+-- The rows of what is reached are among those of which P holds.
+abbrev RowsIn : (ℕ → Type 0) → Reached → Type 0
+RowsIn P unreached = Unit {0}
+RowsIn P (reached b) = P (rowOf b)
+RowsIn P (offered c k b) = P c × P (rowOf b)
+
+abbrev Each : (ℕ → Type 0) → Behaviour → Type 0
+Each P B = (j : ℕ) → T (hasRow j B) → P j
+
+own-row : (B : Behaviour) → T (hasRow (rowOf B) B)
+unfolding hasRow rowOf
+own-row (nil r) = eqb-refl r
+own-row (oneWay r o x) = eqb-refl r
+own-row (requestResponse r o x c d) = or-left (eqb r r) (hasRow r d) (eqb-refl r)
+own-row (notification r o e) = eqb-refl r
+own-row (solicitResponse r o e x) = eqb-refl r
+own-row (ifThenElse r e a b) = or-left (eqb r r) (hasRow r a || hasRow r b) (eqb-refl r)
+own-row (whileDo r e b) = or-left (eqb r r) (hasRow r b) (eqb-refl r)
+own-row (sequence r a b) = or-left (eqb r r) (hasRow r a || hasRow r b) (eqb-refl r)
+own-row (parallel r a b) = or-left (eqb r r) (hasRow r a || hasRow r b) (eqb-refl r)
+own-row (assign r x e) = eqb-refl r
+own-row (choice r m) = or-left (eqb r r) (hasRow r m) (eqb-refl r)
+own-row (branch r a b m) = or-left (eqb r r) ((hasRow r a || hasRow r b) || hasRow r m) (eqb-refl r)
+own-row (lastBranch r a b) = or-left (eqb r r) (hasRow r a || hasRow r b) (eqb-refl r)
+own-row (waiting r o x) = eqb-refl r
+own-row (answering r o c d) = or-left (eqb r r) (hasRow r d) (eqb-refl r)
+
+module _ (P : ℕ → Type 0) where
+  only : (r : ℕ) (d : Behaviour) → ((j : ℕ) → T (eqb j r || hasRow j d) → P j) → Each P d
+  only r d h j t = h j (or-right (eqb j r) (hasRow j d) t)
+
+  first : (r : ℕ) (a b : Behaviour) → ((j : ℕ) → T (eqb j r || (hasRow j a || hasRow j b)) → P j) → Each P a
+  first r a b h j t = h j (or-right (eqb j r) (hasRow j a || hasRow j b) (or-left (hasRow j a) (hasRow j b) t))
+
+  second : (r : ℕ) (a b : Behaviour) → ((j : ℕ) → T (eqb j r || (hasRow j a || hasRow j b)) → P j) → Each P b
+  second r a b h j t = h j (or-right (eqb j r) (hasRow j a || hasRow j b) (or-right (hasRow j a) (hasRow j b) t))
+
+  input-of : (r : ℕ) (a b m : Behaviour) → ((j : ℕ) → T (eqb j r || ((hasRow j a || hasRow j b) || hasRow j m)) → P j) → Each P a
+  input-of r a b m h j t =
+      h j (or-right (eqb j r) ((hasRow j a || hasRow j b) || hasRow j m)
+      (or-left (hasRow j a || hasRow j b) (hasRow j m) (or-left (hasRow j a) (hasRow j b) t)))
+
+  then-of : (r : ℕ) (a b m : Behaviour) → ((j : ℕ) → T (eqb j r || ((hasRow j a || hasRow j b) || hasRow j m)) → P j) → Each P b
+  then-of r a b m h j t =
+      h j (or-right (eqb j r) ((hasRow j a || hasRow j b) || hasRow j m)
+      (or-left (hasRow j a || hasRow j b) (hasRow j m) (or-right (hasRow j a) (hasRow j b) t)))
+
+  others-of : (r : ℕ) (a b m : Behaviour) → ((j : ℕ) → T (eqb j r || ((hasRow j a || hasRow j b) || hasRow j m)) → P j) → Each P m
+  others-of r a b m h j t =
+      h j (or-right (eqb j r) ((hasRow j a || hasRow j b) || hasRow j m) (or-right (hasRow j a || hasRow j b) (hasRow j m) t))
+
+  here-rows : (t : Bool) (b : Behaviour) (x : Reached) → Each P b → RowsIn P x → RowsIn P (here t b x)
+  here-rows true b x h k = h (rowOf b) (own-row b)
+  here-rows false b x h k = k
+
+  either-rows : (x y : Reached) → RowsIn P x → RowsIn P y → RowsIn P (orElse x y)
+  either-rows unreached y h k = k
+  either-rows (reached b) y h k = h
+  either-rows (offered c i b) y h k = h
+
+  only-rows : (t : Bool) (x : Reached) → RowsIn P x → RowsIn P (onlyIf t x)
+  only-rows true x h = h
+  only-rows false x h = tt
+
+  offered-rows : (t : Bool) (c k : ℕ) (b : Behaviour) (x : Reached) → P c → Each P b → RowsIn P x → RowsIn P (offeredIf t c k b x)
+  offered-rows true c k b x h i j = (h, i (rowOf b) (own-row b))
+  offered-rows false c k b x h i j = j
+
+  received-rows : (q : Progress) (x y : Reached) → RowsIn P x → RowsIn P y → RowsIn P (ifReceived q x y)
+  received-rows undone x y h k = h
+  received-rows done x y h k = h
+  received-rows waits x y h k = h
+  received-rows (received to) x y h k = k
+  received-rows (taken i) x y h k = h
+
+  taken-rows : (q : Progress) (x : Reached) (f : ℕ → Reached) → RowsIn P x → ((j : ℕ) → RowsIn P (f j)) → RowsIn P (ifTaken q x f)
+  taken-rows undone x f h k = h
+  taken-rows done x f h k = h
+  taken-rows waits x f h k = h
+  taken-rows (received to) x f h k = h
+  taken-rows (taken i) x f h k = k i
+
+  part-rows : (j : ℕ) (x y : Reached) → RowsIn P x → RowsIn P y → RowsIn P (thenOrElse j x y)
+  part-rows zero x y h k = h
+  part-rows (suc j) x y h k = k
+
+  branch-rows : (k : ℕ) (x : Reached) (f : ℕ → Reached) → RowsIn P x → ((j : ℕ) → RowsIn P (f j)) → RowsIn P (firstOr k x f)
+  branch-rows zero x f h i = h
+  branch-rows (suc k) x f h i = i k
+
+  offer-rows : (c k i : ℕ) (B : Behaviour) → P c → Each P B → RowsIn P (offer c k i B)
+  unfolding offer hasRow
+  offer-rows c k i (nil r) h e = tt
+  offer-rows c k i (oneWay r o x) h e = tt
+  offer-rows c k i (requestResponse r o x y d) h e = tt
+  offer-rows c k i (notification r o x) h e = tt
+  offer-rows c k i (solicitResponse r o x y) h e = tt
+  offer-rows c k i (ifThenElse r x a b) h e = tt
+  offer-rows c k i (whileDo r x b) h e = tt
+  offer-rows c k i (sequence r a b) h e = tt
+  offer-rows c k i (parallel r a b) h e = tt
+  offer-rows c k i (assign r x y) h e = tt
+  offer-rows c k i (choice r m) h e = tt
+  offer-rows c k i (branch r a b m) h e =
+      offered-rows (eqb i (rowOf a)) c k a _ h (input-of r a b m e) (offer-rows c (suc k) i m h (others-of r a b m e))
+  offer-rows c k i (lastBranch r a b) h e = offered-rows (eqb i (rowOf a)) c k a unreached h (first r a b e) tt
+  offer-rows c k i (waiting r o x) h e = tt
+  offer-rows c k i (answering r o y d) h e = tt
+
+  sequence-rows : (p : Progresses) (i r : ℕ) (a b : Behaviour) → RowsIn P (reach p 0 i a) → RowsIn P (reach p 0 i b)
+      → RowsIn P (orElse (reach p 0 i a) (onlyIf (isDone p 0 a) (reach p 0 i b)))
+  sequence-rows p i r a b h k = either-rows (reach p 0 i a) _ h (only-rows (isDone p 0 a) (reach p 0 i b) k)
+
+  reach-rows : (p : Progresses) (k i : ℕ) (B : Behaviour) → Each P B → RowsIn P (reach p k i B)
+  unfolding reach hasRow
+  reach-rows p k i (nil r) h = here-rows (eqb i r) (nil r) unreached h tt
+  reach-rows p k i (oneWay r o x) h = here-rows (eqb i r) (oneWay r o x) unreached h tt
+  reach-rows p k i (requestResponse r o x c d) h =
+      here-rows (eqb i r) (requestResponse r o x c d) _ h (received-rows (p r) unreached (reach p 0 i d) tt (reach-rows p 0 i d (only r d h)))
+  reach-rows p k i (notification r o e) h = here-rows (eqb i r) (notification r o e) unreached h tt
+  reach-rows p k i (solicitResponse r o e x) h = here-rows (eqb i r) (solicitResponse r o e x) unreached h tt
+  reach-rows p k i (ifThenElse r e a b) h =
+      here-rows (eqb i r) (ifThenElse r e a b) _ h
+      (taken-rows (p r) unreached (λ j. thenOrElse j (reach p 0 i a) (reach p 0 i b)) tt
+      (λ j. part-rows j (reach p 0 i a) (reach p 0 i b) (reach-rows p 0 i a (first r a b h)) (reach-rows p 0 i b (second r a b h))))
+  reach-rows p k i (whileDo r e b) h =
+      here-rows (eqb i r) (whileDo r e b) _ h (taken-rows (p r) unreached (λ j. reach p 0 i b) tt (λ j. reach-rows p 0 i b (only r b h)))
+  reach-rows p k i (sequence r a b) h =
+      here-rows (eqb i r) (sequence r a b) _ h
+      (sequence-rows p i r a b (reach-rows p 0 i a (first r a b h)) (reach-rows p 0 i b (second r a b h)))
+  reach-rows p k i (parallel r a b) h =
+      here-rows (eqb i r) (parallel r a b) _ h
+      (either-rows (reach p 0 i a) (reach p 0 i b) (reach-rows p 0 i a (first r a b h)) (reach-rows p 0 i b (second r a b h)))
+  reach-rows p k i (assign r x e) h = here-rows (eqb i r) (assign r x e) unreached h tt
+  reach-rows p k i (choice r m) h =
+      here-rows (eqb i r) (choice r m) _ h
+      (taken-rows (p r) (offer r 0 i m) (λ j. reach p j i m) (offer-rows r 0 i m (h r (or-left (eqb r r) (hasRow r m) (eqb-refl r))) (only r m h))
+      (λ j. reach-rows p j i m (only r m h)))
+  reach-rows p k i (branch r a b m) h =
+      branch-rows k (orElse (reach p 0 i a) (onlyIf (isDone p 0 a) (reach p 0 i b))) (λ j. reach p j i m)
+      (sequence-rows p i r a b (reach-rows p 0 i a (input-of r a b m h)) (reach-rows p 0 i b (then-of r a b m h)))
+      (λ j. reach-rows p j i m (others-of r a b m h))
+  reach-rows p k i (lastBranch r a b) h =
+      sequence-rows p i r a b (reach-rows p 0 i a (first r a b h)) (reach-rows p 0 i b (second r a b h))
+  reach-rows p k i (waiting r o x) h = tt
+  reach-rows p k i (answering r o c d) h = tt
+
+-- ---- in a file
+
+-- The rows of the file.
+abbrev InFile : List ℕ → ℕ → Type 0
+InFile file j = j < behaviourCount file
+
+module _ (file : List ℕ) (w : WellFormed file) (p : Progresses) where
+  reach-in : (b r : ℕ) → b < behaviourCount file → RowsIn (InFile file) (reach p 0 r (behaviourOf file b))
+  reach-in b r l = reach-rows (InFile file) p 0 r (behaviourOf file b) (λ j t. rows-of file w b j l t .1)
+
+  -- By the definition,
+  pub reached-row : (b r i : ℕ) → b < behaviourCount file → reached (behaviourOf file i) ≡ reach p 0 r (behaviourOf file b) → i < behaviourCount file
+  reached-row b r i l e =
+      let k : rowOf (behaviourOf file i) < behaviourCount file = subst (RowsIn (InFile file)) (sym e) (reach-in b r l) in
+      omega (arith, k, row-of file i)
+
+-- and by the code.
+module _ (file : List ℕ) (w : WellFormed file) (p : Progresses) (i r : ℕ) (l : r < behaviourCount file) {x : rows.Reached} (h : Reaches file p i r x) where
+  rows-reached : RowsIn (InFile file) (reachedAs file x)
+  rows-reached =
+      subst (RowsIn (InFile file)) (sym (h .tells w l)) (reach-in file w p r i l)
+
+  pub reaches-row : (j : ℕ) → x ≡ rows.Reached.Reached j → j < behaviourCount file
+  reaches-row j e =
+      let k : rowOf (behaviourOf file j) < behaviourCount file = subst (λ (y : rows.Reached). RowsIn (InFile file) (reachedAs file y)) e rows-reached in
+      omega (arith, k, row-of file j)
+
+  pub offered-row : (c k j : ℕ) → x ≡ rows.Reached.Offered c k j → (c < behaviourCount file) × (j < behaviourCount file)
+  offered-row c k j e =
+      let z : (c < behaviourCount file) × (rowOf (behaviourOf file j) < behaviourCount file) =
+      subst (λ (y : rows.Reached). RowsIn (InFile file) (reachedAs file y)) e rows-reached in
+      (z .0, omega (arith, z .1, row-of file j))
