@@ -452,32 +452,38 @@ clean-shut N rows p (requestResponse r o x y d) c t = clean-shut N rows p d (c .
 clean-shut N rows p (notification r o e) c t = tt
 clean-shut N rows p (solicitResponse r o e x) c t = tt
 clean-shut N rows p (ifThenElse r e a b) c t =
-    let u = and-r (undoneOrTaken 2 (p r)) (suits N rows p a && suits N rows p b) t in
-    (clean-shut N rows p a (c .2) (and-l (suits N rows p a) (suits N rows p b) u),
-    clean-shut N rows p b (c .3) (and-r (suits N rows p a) (suits N rows p b) u))
+    let u = and-r (undoneOrTaken 2 (p r)) (suits N rows p a && suits N rows p b) t in (
+      clean-shut N rows p a (c .2) (and-l (suits N rows p a) (suits N rows p b) u),
+      clean-shut N rows p b (c .3) (and-r (suits N rows p a) (suits N rows p b) u),
+    )
 clean-shut N rows p (whileDo r e b) c t = clean-shut N rows p b c (and-r (undoneDoneOrBody (p r)) (suits N rows p b) t)
 clean-shut N rows p (sequence r a b) c t =
-    let u = and-r (isUndone (p r)) (suits N rows p a && suits N rows p b) t in
-    (clean-shut N rows p a (c .0) (and-l (suits N rows p a) (suits N rows p b) u),
-    clean-shut N rows p b (c .1) (and-r (suits N rows p a) (suits N rows p b) u))
+    let u = and-r (isUndone (p r)) (suits N rows p a && suits N rows p b) t in (
+      clean-shut N rows p a (c .0) (and-l (suits N rows p a) (suits N rows p b) u),
+      clean-shut N rows p b (c .1) (and-r (suits N rows p a) (suits N rows p b) u),
+    )
 clean-shut N rows p (parallel r a b) c t =
-    let u = and-r (isUndone (p r)) (suits N rows p a && suits N rows p b) t in
-    (clean-shut N rows p a (c .0) (and-l (suits N rows p a) (suits N rows p b) u),
-    clean-shut N rows p b (c .1) (and-r (suits N rows p a) (suits N rows p b) u))
+    let u = and-r (isUndone (p r)) (suits N rows p a && suits N rows p b) t in (
+      clean-shut N rows p a (c .0) (and-l (suits N rows p a) (suits N rows p b) u),
+      clean-shut N rows p b (c .1) (and-r (suits N rows p a) (suits N rows p b) u),
+    )
 clean-shut N rows p (assign r x e) c t = tt
-clean-shut N rows p (choice r m) c t =
-    (λ u. c .0 (untaken-undone (branches m) (p r) (and-l (undoneOrTaken (branches m) (p r)) (suits N rows p m) t) u),
-    clean-shut N rows p m (c .1) (and-r (undoneOrTaken (branches m) (p r)) (suits N rows p m) t))
+clean-shut N rows p (choice r m) c t = (
+  λ u. c .0 (untaken-undone (branches m) (p r) (and-l (undoneOrTaken (branches m) (p r)) (suits N rows p m) t) u),
+  clean-shut N rows p m (c .1) (and-r (undoneOrTaken (branches m) (p r)) (suits N rows p m) t),
+)
 clean-shut N rows p (branch r a b m) c t =
     let u = and-r (isUndone (p r)) ((suits N rows p a && suits N rows p b) && suits N rows p m) t in
-    let v = and-l (suits N rows p a && suits N rows p b) (suits N rows p m) u in
-    (clean-shut N rows p a (c .0) (and-l (suits N rows p a) (suits N rows p b) v),
-    clean-shut N rows p b (c .1) (and-r (suits N rows p a) (suits N rows p b) v),
-    clean-shut N rows p m (c .2) (and-r (suits N rows p a && suits N rows p b) (suits N rows p m) u))
+    let v = and-l (suits N rows p a && suits N rows p b) (suits N rows p m) u in (
+      clean-shut N rows p a (c .0) (and-l (suits N rows p a) (suits N rows p b) v),
+      clean-shut N rows p b (c .1) (and-r (suits N rows p a) (suits N rows p b) v),
+      clean-shut N rows p m (c .2) (and-r (suits N rows p a && suits N rows p b) (suits N rows p m) u),
+    )
 clean-shut N rows p (lastBranch r a b) c t =
-    let u = and-r (isUndone (p r)) (suits N rows p a && suits N rows p b) t in
-    (clean-shut N rows p a (c .0) (and-l (suits N rows p a) (suits N rows p b) u),
-    clean-shut N rows p b (c .1) (and-r (suits N rows p a) (suits N rows p b) u))
+    let u = and-r (isUndone (p r)) (suits N rows p a && suits N rows p b) t in (
+      clean-shut N rows p a (c .0) (and-l (suits N rows p a) (suits N rows p b) u),
+      clean-shut N rows p b (c .1) (and-r (suits N rows p a) (suits N rows p b) u),
+    )
 clean-shut N rows p (waiting r o x) c t = tt
 clean-shut N rows p (answering r o x d) c t = tt
 
