@@ -113,26 +113,45 @@ offer c k i (lastBranch r a b) = offeredIf (eqb i (rowOf a)) c k a unreached
 offer c k i (waiting r o x) = unreached
 offer c k i (answering r o y d) = unreached
 
--- The row i from the top down: through sequences whose first part is done, both sides of a parallel, the taken part of an if,
--- while or choice, the body of a received request-response; and "each input of a ready choice".
-unfoldable pub reach : Progresses → ℕ → ℕ → Behaviour → Reached
-reach p k i (nil r) = here (eqb i r) (nil r) unreached
-reach p k i (oneWay r o x) = here (eqb i r) (oneWay r o x) unreached
-reach p k i (requestResponse r o x c d) = here (eqb i r) (requestResponse r o x c d) (ifReceived (p r) unreached (reach p 0 i d))
-reach p k i (notification r o e) = here (eqb i r) (notification r o e) unreached
-reach p k i (solicitResponse r o e x) = here (eqb i r) (solicitResponse r o e x) unreached
-reach p k i (ifThenElse r e a b) =
-    here (eqb i r) (ifThenElse r e a b) (ifTaken (p r) unreached (λ j. thenOrElse j (reach p 0 i a) (reach p 0 i b)))
-reach p k i (whileDo r e b) = here (eqb i r) (whileDo r e b) (ifTaken (p r) unreached (λ j. reach p 0 i b))
-reach p k i (sequence r a b) = here (eqb i r) (sequence r a b) (orElse (reach p 0 i a) (onlyIf (isDone p 0 a) (reach p 0 i b)))
-reach p k i (parallel r a b) = here (eqb i r) (parallel r a b) (orElse (reach p 0 i a) (reach p 0 i b))
-reach p k i (assign r x e) = here (eqb i r) (assign r x e) unreached
-reach p k i (choice r m) = here (eqb i r) (choice r m) (ifTaken (p r) (offer r 0 i m) (λ j. reach p j i m))
-reach p k i (branch r a b m) =
-    firstOr k (orElse (reach p 0 i a) (onlyIf (isDone p 0 a) (reach p 0 i b))) (λ j. reach p j i m)
-reach p k i (lastBranch r a b) = orElse (reach p 0 i a) (onlyIf (isDone p 0 a) (reach p 0 i b))
-reach p k i (waiting r o x) = unreached
-reach p k i (answering r o c d) = unreached
+unfoldable mutual
+  -- The row i from the top down: through sequences whose first part is done, both sides of a parallel, the taken part of an if,
+  -- while or choice, "each input of a ready choice", and the body of a received request-response, also where that is such an input.
+  pub reach : Progresses → ℕ → ℕ → Behaviour → Reached
+  reach p k i (nil r) = here (eqb i r) (nil r) unreached
+  reach p k i (oneWay r o x) = here (eqb i r) (oneWay r o x) unreached
+  reach p k i (requestResponse r o x c d) = here (eqb i r) (requestResponse r o x c d) (ifReceived (p r) unreached (reach p 0 i d))
+  reach p k i (notification r o e) = here (eqb i r) (notification r o e) unreached
+  reach p k i (solicitResponse r o e x) = here (eqb i r) (solicitResponse r o e x) unreached
+  reach p k i (ifThenElse r e a b) =
+      here (eqb i r) (ifThenElse r e a b) (ifTaken (p r) unreached (λ j. thenOrElse j (reach p 0 i a) (reach p 0 i b)))
+  reach p k i (whileDo r e b) = here (eqb i r) (whileDo r e b) (ifTaken (p r) unreached (λ j. reach p 0 i b))
+  reach p k i (sequence r a b) = here (eqb i r) (sequence r a b) (orElse (reach p 0 i a) (onlyIf (isDone p 0 a) (reach p 0 i b)))
+  reach p k i (parallel r a b) = here (eqb i r) (parallel r a b) (orElse (reach p 0 i a) (reach p 0 i b))
+  reach p k i (assign r x e) = here (eqb i r) (assign r x e) unreached
+  reach p k i (choice r m) = here (eqb i r) (choice r m) (ifTaken (p r) (orElse (offer r 0 i m) (served p i m)) (λ j. reach p j i m))
+  reach p k i (branch r a b m) =
+      firstOr k (orElse (reach p 0 i a) (onlyIf (isDone p 0 a) (reach p 0 i b))) (λ j. reach p j i m)
+  reach p k i (lastBranch r a b) = orElse (reach p 0 i a) (onlyIf (isDone p 0 a) (reach p 0 i b))
+  reach p k i (waiting r o x) = unreached
+  reach p k i (answering r o c d) = unreached
+
+  -- The row i in the body of a received input of a choice in which no branch is taken.
+  pub served : Progresses → ℕ → Behaviour → Reached
+  served p i (nil r) = unreached
+  served p i (oneWay r o x) = unreached
+  served p i (requestResponse r o x c d) = ifReceived (p r) unreached (reach p 0 i d)
+  served p i (notification r o e) = unreached
+  served p i (solicitResponse r o e x) = unreached
+  served p i (ifThenElse r e a b) = unreached
+  served p i (whileDo r e b) = unreached
+  served p i (sequence r a b) = unreached
+  served p i (parallel r a b) = unreached
+  served p i (assign r x e) = unreached
+  served p i (choice r m) = unreached
+  served p i (branch r a b m) = orElse (served p i a) (served p i m)
+  served p i (lastBranch r a b) = served p i a
+  served p i (waiting r o x) = unreached
+  served p i (answering r o c d) = unreached
 
 -- 01's *rest*: "a done row is nil; a waiting one places its reply type; a received one is its body's rest and reply; an if or
 -- choice with a part taken is that part's rest; a while with its body taken is the body's rest, then the while."

@@ -20,7 +20,8 @@ use Rattle.network.specs.Decode.{behaviourOf}
 use Rattle.readiness.specs.declared.Part.{Part}
 use Rattle.readiness.specs.declared.Deciders.{Deciders}
 use Rattle.readiness.specs.declared.Ways.{Ways}
-use Rattle.readiness.specs.Parts.{branchAt, branchDeciders, decidersIn, decidersOf, inOrder, branchWays, waysIn, waysOf}
+use Rattle.readiness.specs.declared.Body.{Body}
+use Rattle.readiness.specs.Parts.{branchAt, branchDeciders, decidersIn, decidersOf, inOrder, branchWays, waysIn, waysOf, bodyIn, bodyOf}
 
 -- ---- the progress of a row
 
@@ -406,3 +407,84 @@ pub ruleset ways-laws = (
   ways-while,
   ways-choice,
 )
+
+-- ---- the body of a received input
+
+module _ (s : List ℕ) (p : Progresses) (r : ℕ) (x : BehaviourRow) (e : x ≡ behaviourRowOf s r) where
+  body-by : {y : BehaviourRow} {b : Body} → x ≡ y → b ≡ bodyIn p r y → b ≡ bodyOf s p r
+  unfolding bodyOf
+  body-by h g = g ∙ ap (bodyIn p r) (sym h ∙ e)
+
+  pub body-nil : x ≡ BehaviourRow.Nil → Body.Nothing ≡ bodyOf s p r
+  unfolding bodyIn
+  body-nil h = body-by h refl
+
+  pub body-one-way : {a b : ℕ} → x ≡ BehaviourRow.OneWay a b → Body.Nothing ≡ bodyOf s p r
+  unfolding bodyIn
+  body-one-way h = body-by h refl
+
+  pub body-notification : {a b : ℕ} → x ≡ BehaviourRow.Notification a b → Body.Nothing ≡ bodyOf s p r
+  unfolding bodyIn
+  body-notification h = body-by h refl
+
+  pub body-solicit : {a b c : ℕ} → x ≡ BehaviourRow.SolicitResponse a b c → Body.Nothing ≡ bodyOf s p r
+  unfolding bodyIn
+  body-solicit h = body-by h refl
+
+  pub body-if : {a b c : ℕ} → x ≡ BehaviourRow.If a b c → Body.Nothing ≡ bodyOf s p r
+  unfolding bodyIn
+  body-if h = body-by h refl
+
+  pub body-while : {a b : ℕ} → x ≡ BehaviourRow.While a b → Body.Nothing ≡ bodyOf s p r
+  unfolding bodyIn
+  body-while h = body-by h refl
+
+  pub body-sequence : {a b : ℕ} → x ≡ BehaviourRow.Sequence a b → Body.Nothing ≡ bodyOf s p r
+  unfolding bodyIn
+  body-sequence h = body-by h refl
+
+  pub body-parallel : {a b : ℕ} → x ≡ BehaviourRow.Parallel a b → Body.Nothing ≡ bodyOf s p r
+  unfolding bodyIn
+  body-parallel h = body-by h refl
+
+  pub body-assign : {a b : ℕ} → x ≡ BehaviourRow.Assign a b → Body.Nothing ≡ bodyOf s p r
+  unfolding bodyIn
+  body-assign h = body-by h refl
+
+  pub body-choice : {a b : ℕ} → x ≡ BehaviourRow.Choice a b → Body.Nothing ≡ bodyOf s p r
+  unfolding bodyIn
+  body-choice h = body-by h refl
+
+  pub body-branch : {a b : ℕ} → x ≡ BehaviourRow.Branch a b → Body.Nothing ≡ bodyOf s p r
+  unfolding bodyIn
+  body-branch h = body-by h refl
+
+  pub body-unknown : x ≡ BehaviourRow.Unknown → Body.Nothing ≡ bodyOf s p r
+  unfolding bodyIn
+  body-unknown h = body-by h refl
+
+  pub body-received : {a b c d : ℕ} {t : Bool} → x ≡ BehaviourRow.RequestResponse a b c d → t ≡ ifReceived (p r) false true → t ≡ true → Body.Row d ≡ bodyOf s p r
+  unfolding bodyIn
+  body-received {d} h f g = body-by h (by (p r) (sym f ∙ g))
+    where
+      by : (q : Progress) → ifReceived q false true ≡ true → Body.Row d ≡ ifReceived q Body.Nothing (Body.Row d)
+      by undone g = absurd (let z : _≡_ {A = ℕ} 0 1 = cc in omega arith)
+      by done g = absurd (let z : _≡_ {A = ℕ} 0 1 = cc in omega arith)
+      by waits g = absurd (let z : _≡_ {A = ℕ} 0 1 = cc in omega arith)
+      by (received to) g = refl
+      by (taken k) g = absurd (let z : _≡_ {A = ℕ} 0 1 = cc in omega arith)
+
+  pub body-unreceived : {a b c d : ℕ} {t : Bool} → x ≡ BehaviourRow.RequestResponse a b c d → t ≡ ifReceived (p r) false true → t ≡ false
+      → Body.Nothing ≡ bodyOf s p r
+  unfolding bodyIn
+  body-unreceived {d} h f g = body-by h (by (p r) (sym f ∙ g))
+    where
+      by : (q : Progress) → ifReceived q false true ≡ false → Body.Nothing ≡ ifReceived q Body.Nothing (Body.Row d)
+      by undone g = refl
+      by done g = refl
+      by waits g = refl
+      by (received to) g = absurd (let z : _≡_ {A = ℕ} 0 1 = cc in omega arith)
+      by (taken k) g = refl
+
+pub ruleset body-laws =
+    (body-nil, body-one-way, body-notification, body-solicit, body-if, body-while, body-sequence, body-parallel, body-assign, body-choice, body-branch, body-unknown, body-received, body-unreceived)

@@ -21,14 +21,15 @@ use Rattle.network.specs.BehaviourLaws.{row-of}
 use Rattle.rows.specs.declared.BehaviourRow.{BehaviourRow}
 use Rattle.rows.specs.Readers.{behaviourRowAs, behaviourRowOf}
 use Rattle.state.specs.Session.{Progress, undone, done, waits, received, taken, Progresses}
-use Rattle.moves.specs.Readiness.{ifReceived, ifTaken, thenOrElse, isDone, unreached, reached, offered, here, orElse, onlyIf, offeredIf, offer, reach}
+use Rattle.moves.specs.Readiness.{ifReceived, ifTaken, thenOrElse, isDone, unreached, reached, offered, here, orElse, onlyIf, offeredIf, offer, reach, served}
 use Rattle.moves.specs.Readiness as moves
 use Rattle.behaviours.specs.Rows.{behaviourBy, Sub, BranchSubs, KeptBy}
 use Rattle.behaviours.specs.KindLaws.{row-is}
 use Rattle.readiness.specs.declared.Ways.{Ways}
+use Rattle.readiness.specs.declared.Body.{Body}
 use Rattle.readiness.specs.declared.Reached.{Reached}
-use Rattle.readiness.specs.Parts.{branchAt, inOrder, branchWays, waysIn, waysOf}
-use Rattle.readiness.specs.Reaching.{reachedAs, Offers, OffersRun, ReachesRow, Reaches}
+use Rattle.readiness.specs.Parts.{branchAt, inOrder, branchWays, waysIn, waysOf, bodyIn, bodyOf}
+use Rattle.readiness.specs.Reaching.{reachedAs, Offers, ReachesBody, ReachesServed, ReachesInputs, ReachesRow, Reaches}
 use Rattle.readiness.proofs.DoneLaws.{clipped, clipped-inside, first-of-one, first-of-many, next-of-many}
 
 -- ---- inputs of a choice
@@ -68,14 +69,6 @@ module _ (s : List ℕ) (c k i at n : ℕ) (h : n ≡ 0 → ⊥) {a : ℕ} (e : 
 
 pub ruleset offer-laws = (offer-none, offer-here, offer-next)
 
-pub run-many : (s : List ℕ) (c i first n : ℕ) (x : Reached) → 8 < n → OffersRun s c i first n x
-run-many s c i first n x l = record { tells = λ m. absurd (omega arith) }
-
-pub run-few : (s : List ℕ) (c i first n : ℕ) {at : ℕ} {x : Reached} → at ≡ behaviourAt s first → Offers s c 0 i at n x → OffersRun s c i first n x
-run-few s c i first n e o = record { tells = λ m. o .tells first e }
-
-pub ruleset run-laws = (run-many, run-few)
-
 -- ---- a row
 
 -- What is reached through the ways of row r.
@@ -87,7 +80,7 @@ module _ (s : List ℕ) (p : Progresses) (i : ℕ) where
   passing r Ways.Nowhere = unreached
   passing r (Ways.One a) = through a
   passing r (Ways.Two a b) = orElse (through a) (through b)
-  passing r (Ways.Inputs first n) = offer r 0 i (branchesFrom s (behaviourOf s) first n)
+  passing r (Ways.Inputs first n) = orElse (offer r 0 i (branchesFrom s (behaviourOf s) first n)) (served p i (branchesFrom s (behaviourOf s) first n))
 
   or-none : (x : moves.Reached) → orElse x unreached ≡ x
   or-none unreached = refl
@@ -163,7 +156,7 @@ module _ (s : List ℕ) (p : Progresses) (i : ℕ) where
   row-passes left r (BehaviourRow.Choice first n) k =
       let m = k .0 in
       ap (here (eqb i r) (behaviourBy s r (BehaviourRow.Choice first n)))
-      (taken-passes r (p r) (offer r 0 i (branchesFrom s (behaviourOf s) first n)) (Ways.Inputs first n)
+      (taken-passes r (p r) (passing r (Ways.Inputs first n)) (Ways.Inputs first n)
       (λ j. reach p j i (branchesFrom s (behaviourOf s) first n)) (λ j. branchWays s p first n j) refl (λ j. branch-passes r first n j (λ e. omega arith)))
   row-passes left r (BehaviourRow.Branch a b) k = refl
   row-passes left r BehaviourRow.Unknown k = refl
@@ -210,7 +203,7 @@ abbrev KeptWays : List ℕ → ℕ → Ways → Type 0
 KeptWays s left Ways.Nowhere = Unit {0}
 KeptWays s left (Ways.One a) = Sub s left a
 KeptWays s left (Ways.Two a b) = Sub s left a × Sub s left b
-KeptWays s left (Ways.Inputs first n) = n ≤ 8
+KeptWays s left (Ways.Inputs first n) = (n ≤ 8) × ((j : ℕ) → first ≤ j → j < first + n → BranchSubs s left j)
 
 taken-kept : (P : Ways → Type 0) (q : Progress) (w : Ways) (g : ℕ → Ways) → P w → ((j : ℕ) → P (g j)) → P (ifTaken q w g)
 taken-kept P undone w g a b = a
@@ -263,7 +256,7 @@ module _ (s : List ℕ) (p : Progresses) (left r : ℕ) where
   ways-kept (BehaviourRow.Parallel a b) k n = k
   ways-kept (BehaviourRow.Assign x e) k n = tt
   ways-kept (BehaviourRow.Choice first n) k m =
-      taken-kept (KeptWays s left) (p r) (Ways.Inputs first n) (λ j. branchWays s p first n j) m (λ j. branch-kept first n j (k .0) (k .1))
+      taken-kept (KeptWays s left) (p r) (Ways.Inputs first n) (λ j. branchWays s p first n j) (m, k .1) (λ j. branch-kept first n j (k .0) (k .1))
   ways-kept (BehaviourRow.Branch a b) k n = tt
   ways-kept BehaviourRow.Unknown k n = tt
 
@@ -321,10 +314,151 @@ module _ (s : List ℕ) (p : Progresses) (i r left : ℕ) (h : left ≡ 0 → �
         → ReachesRow s p i b (left - 1) y → ReachesRow s p i r left y
     reach-second g o q n = record { tells = λ w l. n .tells w (by-ways g w l .1 .1) ∙ sym (first-side unreached g o (ap (reachedAs s) q) w l) }
 
-    pub reach-inputs : {first n : ℕ} {x : Reached} → v ≡ Ways.Inputs first n → OffersRun s r i first n x → ReachesRow s p i r left x
-    reach-inputs g o = record { tells = λ w l. let d = by-ways g w l in o .tells (d .1) ∙ sym (d .0) }
+    pub reach-inputs : {first n : ℕ} {x : Reached} → v ≡ Ways.Inputs first n → ReachesInputs s p i r first n (left - 1) x → ReachesRow s p i r left x
+    reach-inputs g o = record { tells = λ w l. let d = by-ways g w l in o .tells w (d .1 .0) (d .1 .1) ∙ sym (d .0) }
 
 pub ruleset reach-row-laws = (reach-none, reach-here, reach-nowhere, reach-one, reach-first, reach-offered, reach-second, reach-inputs)
+
+-- ---- the bodies of received inputs
+
+module _ (s : List ℕ) (p : Progresses) (i : ℕ) where
+  -- What is reached in a body.
+  abbrev inBody : Body → moves.Reached
+  inBody Body.Nothing = unreached
+  inBody (Body.Row d) = reach p 0 i (behaviourOf s d)
+
+  received-body : (q : Progress) (d : ℕ) → ifReceived q unreached (reach p 0 i (behaviourOf s d)) ≡ inBody (ifReceived q Body.Nothing (Body.Row d))
+  received-body undone d = refl
+  received-body done d = refl
+  received-body waits d = refl
+  received-body (received to) d = refl
+  received-body (taken k) d = refl
+
+  body-passes : (a : ℕ) (y : BehaviourRow) → served p i (behaviourBy s a y) ≡ inBody (bodyIn p a y)
+  unfolding served bodyIn
+  body-passes a BehaviourRow.Nil = refl
+  body-passes a (BehaviourRow.OneWay o x) = refl
+  body-passes a (BehaviourRow.RequestResponse o x c d) = received-body (p a) d
+  body-passes a (BehaviourRow.Notification o e) = refl
+  body-passes a (BehaviourRow.SolicitResponse o e x) = refl
+  body-passes a (BehaviourRow.If e b c) = refl
+  body-passes a (BehaviourRow.While e b) = refl
+  body-passes a (BehaviourRow.Sequence b c) = refl
+  body-passes a (BehaviourRow.Parallel b c) = refl
+  body-passes a (BehaviourRow.Assign x e) = refl
+  body-passes a (BehaviourRow.Choice first n) = refl
+  body-passes a (BehaviourRow.Branch b c) = refl
+  body-passes a BehaviourRow.Unknown = refl
+
+  abbrev KeptBody : ℕ → Body → Type 0
+  KeptBody left Body.Nothing = Unit {0}
+  KeptBody left (Body.Row d) = Sub s left d
+
+  body-received : (left d : ℕ) (q : Progress) → Sub s left d → KeptBody left (ifReceived q Body.Nothing (Body.Row d))
+  body-received left d undone k = tt
+  body-received left d done k = tt
+  body-received left d waits k = tt
+  body-received left d (received to) k = k
+  body-received left d (taken j) k = tt
+
+  body-kept : (left a : ℕ) (y : BehaviourRow) → KeptBy s left y → KeptBody left (bodyIn p a y)
+  unfolding bodyIn
+  body-kept left a BehaviourRow.Nil k = tt
+  body-kept left a (BehaviourRow.OneWay o x) k = tt
+  body-kept left a (BehaviourRow.RequestResponse o x c d) k = body-received left d (p a) (k .3)
+  body-kept left a (BehaviourRow.Notification o e) k = tt
+  body-kept left a (BehaviourRow.SolicitResponse o e x) k = tt
+  body-kept left a (BehaviourRow.If e b c) k = tt
+  body-kept left a (BehaviourRow.While e b) k = tt
+  body-kept left a (BehaviourRow.Sequence b c) k = tt
+  body-kept left a (BehaviourRow.Parallel b c) k = tt
+  body-kept left a (BehaviourRow.Assign x e) k = tt
+  body-kept left a (BehaviourRow.Choice first n) k = tt
+  body-kept left a (BehaviourRow.Branch b c) k = tt
+  body-kept left a BehaviourRow.Unknown k = tt
+
+pub body-none : (s : List ℕ) (p : Progresses) (i a left : ℕ) (x : Reached) → left ≡ 0 → ReachesBody s p i a left x
+body-none s p i a left x e = record { tells = λ w h. let m = h .exists in let n = h .enough in absurd (omega arith) }
+
+module _ (s : List ℕ) (p : Progresses) (i a left : ℕ) (h : left ≡ 0 → ⊥) {v : Body} (f : v ≡ bodyOf s p a) where
+  body-reached : {y : Body} → v ≡ y → WellFormed s → Sub s left a → (served p i (behaviourOf s a) ≡ inBody s p i y) × KeptBody s p i (left - 1) y
+  unfolding bodyOf
+  body-reached {y} g w l =
+      let z = behaviourRowOf s a in
+      let d = row-is s w a (left - 1) (subst (λ (n : ℕ). Sub s n a) (one-less left h) l) {x = z} {y = z} refl refl in
+      let e = sym f ∙ g in (
+        ap (served p i) (d .0) ∙ body-passes s p i a z ∙ ap (inBody s p i) e,
+        subst (KeptBody s p i (left - 1)) e (body-kept s p i (left - 1) a z (d .1)),
+      )
+
+  pub body-nothing : v ≡ Body.Nothing → ReachesBody s p i a left Reached.Unreached
+  body-nothing g = record { tells = λ w l. sym (body-reached g w l .0) }
+
+  pub body-row : {d : ℕ} {x : Reached} → v ≡ Body.Row d → ReachesRow s p i d (left - 1) x → ReachesBody s p i a left x
+  body-row g o = record { tells = λ w l. let d = body-reached g w l in o .tells w (d .1) ∙ sym (d .0) }
+
+pub ruleset reach-body-laws = (body-none, body-nothing, body-row)
+
+served-branch : (s : List ℕ) (p : Progresses) (i j n : ℕ) → served p i (branchesFrom s (behaviourOf s) j (suc n))
+    ≡ orElse (served p i (behaviourOf s (fieldA s (behaviourAt s j)))) (served p i (branchesFrom s (behaviourOf s) (suc j) n))
+unfolding served branchesFrom
+served-branch s p i j zero = sym (or-none s p i (served p i (behaviourOf s (fieldA s (behaviourAt s j)))))
+served-branch s p i j (suc n) = refl
+
+pub served-none : (s : List ℕ) (p : Progresses) (i at n left : ℕ) → n ≡ 0 → ReachesServed s p i at n left Reached.Unreached
+unfolding served branchesFrom
+served-none s p i at n left e = record { tells = λ w j h b. rw e refl }
+
+module _ (s : List ℕ) (p : Progresses) (i at n left : ℕ) (h : n ≡ 0 → ⊥) {a : ℕ} (e : a ≡ u16At s (at + 2)) {x : Reached} (o : ReachesBody s p i a left x) where
+  input-is : (j : ℕ) → at ≡ behaviourAt s j → fieldA s (behaviourAt s j) ≡ a
+  input-is j g = sym (e ∙ ap (λ (y : ℕ). u16At s (y + 2)) g)
+
+  first-served : (y : moves.Reached) → reachedAs s x ≡ y → WellFormed s → (j : ℕ) → at ≡ behaviourAt s j
+      → ((m : ℕ) → j ≤ m → m < j + n → BranchSubs s left m)
+      → served p i (branchesFrom s (behaviourOf s) j n) ≡ orElse y (served p i (branchesFrom s (behaviourOf s) (suc j) (n - 1)))
+  first-served y q w j g b =
+      let k = one-less n h in
+      let f : Sub s left a = subst (λ (z : ℕ). Sub s left z) (input-is j g) (b j (omega arith) (omega (arith, k)) .input) in
+      ap (λ (m : ℕ). served p i (branchesFrom s (behaviourOf s) j m)) k ∙ served-branch s p i j (n - 1)
+      ∙ ap (λ (m : ℕ). orElse (served p i (behaviourOf s m)) (served p i (branchesFrom s (behaviourOf s) (suc j) (n - 1)))) (input-is j g)
+      ∙ ap (λ (z : moves.Reached). orElse z (served p i (branchesFrom s (behaviourOf s) (suc j) (n - 1)))) (sym (o .tells w f) ∙ q)
+
+  pub served-first : {m : ℕ} → x ≡ Reached.Reached m → ReachesServed s p i at n left (Reached.Reached m)
+  served-first {m} q = record { tells = λ w j g b. sym (first-served (reached (behaviourOf s m)) (ap (reachedAs s) q) w j g b) }
+
+  pub served-offered : {c k m : ℕ} → x ≡ Reached.Offered c k m → ReachesServed s p i at n left (Reached.Offered c k m)
+  served-offered {c} {k} {m} q = record { tells = λ w j g b. sym (first-served (offered c k (behaviourOf s m)) (ap (reachedAs s) q) w j g b) }
+
+  pub served-next : {y : Reached} → x ≡ Reached.Unreached → ReachesServed s p i (at + 10) (n - 1) left y → ReachesServed s p i at n left y
+  served-next q r = record {
+    tells = λ w j g b.
+        let k = one-less n h in
+        r .tells w (suc j) (ap (λ (y : ℕ). y + 10) g ∙ next-at s j) (λ m u v. b m (omega arith) (omega (arith, k)))
+        ∙ sym (first-served unreached (ap (reachedAs s) q) w j g b);
+  }
+
+pub ruleset reach-served-laws = (served-none, served-first, served-offered, served-next)
+
+pub inputs-many : (s : List ℕ) (p : Progresses) (i c first n left : ℕ) (x : Reached) → 8 < n → ReachesInputs s p i c first n left x
+inputs-many s p i c first n left x l = record { tells = λ w m b. absurd (omega arith) }
+
+module _ (s : List ℕ) (p : Progresses) (i c first n left : ℕ) {at : ℕ} (e : at ≡ behaviourAt s first) {x : Reached} (o : Offers s c 0 i at n x) where
+  abbrev bodies : moves.Reached
+  bodies = served p i (branchesFrom s (behaviourOf s) first n)
+
+  first-input : (y : moves.Reached) → reachedAs s x ≡ y → orElse (offer c 0 i (branchesFrom s (behaviourOf s) first n)) bodies ≡ orElse y bodies
+  first-input y q = ap (λ (z : moves.Reached). orElse z bodies) (sym (o .tells first e) ∙ q)
+
+  pub inputs-reached : {m : ℕ} → x ≡ Reached.Reached m → ReachesInputs s p i c first n left (Reached.Reached m)
+  inputs-reached {m} q = record { tells = λ w l b. sym (first-input (reached (behaviourOf s m)) (ap (reachedAs s) q)) }
+
+  pub inputs-offered : {d k m : ℕ} → x ≡ Reached.Offered d k m → ReachesInputs s p i c first n left (Reached.Offered d k m)
+  inputs-offered {d} {k} {m} q = record { tells = λ w l b. sym (first-input (offered d k (behaviourOf s m)) (ap (reachedAs s) q)) }
+
+  pub inputs-served : {y : Reached} → x ≡ Reached.Unreached → ReachesServed s p i at n left y → ReachesInputs s p i c first n left y
+  inputs-served q r = record { tells = λ w l b. r .tells w first e b ∙ sym (first-input unreached (ap (reachedAs s) q)) }
+
+pub ruleset reach-inputs-laws = (inputs-many, inputs-reached, inputs-offered, inputs-served)
 
 pub reach-whole : (s : List ℕ) (p : Progresses) (i r : ℕ) {n : ℕ} {x : Reached} → n ≡ behaviourCount s → ReachesRow s p i r n x → Reaches s p i r x
 reach-whole s p i r e o = record { tells = λ w l. o .tells w (record { exists = l; enough = omega (arith, e) }) }

@@ -15,7 +15,7 @@ use Rattle.network.specs.OnceLaws.{or-left, or-right, rows-of}
 use Rattle.network.specs.BehaviourLaws.{row-of}
 use Rattle.state.specs.Session.{Progress, undone, done, waits, received, taken, Progresses}
 use Rattle.moves.specs.Readiness.{Reached, unreached, reached, offered, here, orElse, onlyIf}
-use Rattle.moves.specs.Readiness.{offeredIf, firstOr, ifReceived, ifTaken, thenOrElse, isDone, offer, reach}
+use Rattle.moves.specs.Readiness.{offeredIf, firstOr, ifReceived, ifTaken, thenOrElse, isDone, offer, reach, served}
 use Rattle.readiness.specs.declared.Reached as rows
 use Rattle.readiness.specs.Reaching.{reachedAs, Reaches}
 
@@ -134,39 +134,60 @@ module _ (P : ℕ → Type 0) where
       → RowsIn P (orElse (reach p 0 i a) (onlyIf (isDone p 0 a) (reach p 0 i b)))
   sequence-rows p i r a b h k = either-rows (reach p 0 i a) _ h (only-rows (isDone p 0 a) (reach p 0 i b) k)
 
-  reach-rows : (p : Progresses) (k i : ℕ) (B : Behaviour) → Each P B → RowsIn P (reach p k i B)
-  unfolding reach hasRow
-  reach-rows p k i (nil r) h = here-rows (eqb i r) (nil r) unreached h tt
-  reach-rows p k i (oneWay r o x) h = here-rows (eqb i r) (oneWay r o x) unreached h tt
-  reach-rows p k i (requestResponse r o x c d) h =
-      here-rows (eqb i r) (requestResponse r o x c d) _ h (received-rows (p r) unreached (reach p 0 i d) tt (reach-rows p 0 i d (only r d h)))
-  reach-rows p k i (notification r o e) h = here-rows (eqb i r) (notification r o e) unreached h tt
-  reach-rows p k i (solicitResponse r o e x) h = here-rows (eqb i r) (solicitResponse r o e x) unreached h tt
-  reach-rows p k i (ifThenElse r e a b) h =
-      here-rows (eqb i r) (ifThenElse r e a b) _ h
-      (taken-rows (p r) unreached (λ j. thenOrElse j (reach p 0 i a) (reach p 0 i b)) tt
-      (λ j. part-rows j (reach p 0 i a) (reach p 0 i b) (reach-rows p 0 i a (first r a b h)) (reach-rows p 0 i b (second r a b h))))
-  reach-rows p k i (whileDo r e b) h =
-      here-rows (eqb i r) (whileDo r e b) _ h (taken-rows (p r) unreached (λ j. reach p 0 i b) tt (λ j. reach-rows p 0 i b (only r b h)))
-  reach-rows p k i (sequence r a b) h =
-      here-rows (eqb i r) (sequence r a b) _ h
-      (sequence-rows p i r a b (reach-rows p 0 i a (first r a b h)) (reach-rows p 0 i b (second r a b h)))
-  reach-rows p k i (parallel r a b) h =
-      here-rows (eqb i r) (parallel r a b) _ h
-      (either-rows (reach p 0 i a) (reach p 0 i b) (reach-rows p 0 i a (first r a b h)) (reach-rows p 0 i b (second r a b h)))
-  reach-rows p k i (assign r x e) h = here-rows (eqb i r) (assign r x e) unreached h tt
-  reach-rows p k i (choice r m) h =
-      here-rows (eqb i r) (choice r m) _ h
-      (taken-rows (p r) (offer r 0 i m) (λ j. reach p j i m) (offer-rows r 0 i m (h r (or-left (eqb r r) (hasRow r m) (eqb-refl r))) (only r m h))
-      (λ j. reach-rows p j i m (only r m h)))
-  reach-rows p k i (branch r a b m) h =
-      branch-rows k (orElse (reach p 0 i a) (onlyIf (isDone p 0 a) (reach p 0 i b))) (λ j. reach p j i m)
-      (sequence-rows p i r a b (reach-rows p 0 i a (input-of r a b m h)) (reach-rows p 0 i b (then-of r a b m h)))
-      (λ j. reach-rows p j i m (others-of r a b m h))
-  reach-rows p k i (lastBranch r a b) h =
-      sequence-rows p i r a b (reach-rows p 0 i a (first r a b h)) (reach-rows p 0 i b (second r a b h))
-  reach-rows p k i (waiting r o x) h = tt
-  reach-rows p k i (answering r o c d) h = tt
+  mutual
+    unfolding reach served hasRow
+
+    reach-rows : (p : Progresses) (k i : ℕ) (B : Behaviour) → Each P B → RowsIn P (reach p k i B)
+    reach-rows p k i (nil r) h = here-rows (eqb i r) (nil r) unreached h tt
+    reach-rows p k i (oneWay r o x) h = here-rows (eqb i r) (oneWay r o x) unreached h tt
+    reach-rows p k i (requestResponse r o x c d) h =
+        here-rows (eqb i r) (requestResponse r o x c d) _ h (received-rows (p r) unreached (reach p 0 i d) tt (reach-rows p 0 i d (only r d h)))
+    reach-rows p k i (notification r o e) h = here-rows (eqb i r) (notification r o e) unreached h tt
+    reach-rows p k i (solicitResponse r o e x) h = here-rows (eqb i r) (solicitResponse r o e x) unreached h tt
+    reach-rows p k i (ifThenElse r e a b) h =
+        here-rows (eqb i r) (ifThenElse r e a b) _ h
+        (taken-rows (p r) unreached (λ j. thenOrElse j (reach p 0 i a) (reach p 0 i b)) tt
+        (λ j. part-rows j (reach p 0 i a) (reach p 0 i b) (reach-rows p 0 i a (first r a b h)) (reach-rows p 0 i b (second r a b h))))
+    reach-rows p k i (whileDo r e b) h =
+        here-rows (eqb i r) (whileDo r e b) _ h (taken-rows (p r) unreached (λ j. reach p 0 i b) tt (λ j. reach-rows p 0 i b (only r b h)))
+    reach-rows p k i (sequence r a b) h =
+        here-rows (eqb i r) (sequence r a b) _ h
+        (sequence-rows p i r a b (reach-rows p 0 i a (first r a b h)) (reach-rows p 0 i b (second r a b h)))
+    reach-rows p k i (parallel r a b) h =
+        here-rows (eqb i r) (parallel r a b) _ h
+        (either-rows (reach p 0 i a) (reach p 0 i b) (reach-rows p 0 i a (first r a b h)) (reach-rows p 0 i b (second r a b h)))
+    reach-rows p k i (assign r x e) h = here-rows (eqb i r) (assign r x e) unreached h tt
+    reach-rows p k i (choice r m) h =
+        here-rows (eqb i r) (choice r m) _ h
+        (taken-rows (p r) (orElse (offer r 0 i m) (served p i m)) (λ j. reach p j i m)
+        (either-rows (offer r 0 i m) (served p i m) (offer-rows r 0 i m (h r (or-left (eqb r r) (hasRow r m) (eqb-refl r))) (only r m h))
+        (served-rows p i m (only r m h)))
+        (λ j. reach-rows p j i m (only r m h)))
+    reach-rows p k i (branch r a b m) h =
+        branch-rows k (orElse (reach p 0 i a) (onlyIf (isDone p 0 a) (reach p 0 i b))) (λ j. reach p j i m)
+        (sequence-rows p i r a b (reach-rows p 0 i a (input-of r a b m h)) (reach-rows p 0 i b (then-of r a b m h)))
+        (λ j. reach-rows p j i m (others-of r a b m h))
+    reach-rows p k i (lastBranch r a b) h =
+        sequence-rows p i r a b (reach-rows p 0 i a (first r a b h)) (reach-rows p 0 i b (second r a b h))
+    reach-rows p k i (waiting r o x) h = tt
+    reach-rows p k i (answering r o c d) h = tt
+
+    served-rows : (p : Progresses) (i : ℕ) (B : Behaviour) → Each P B → RowsIn P (served p i B)
+    served-rows p i (nil r) h = tt
+    served-rows p i (oneWay r o x) h = tt
+    served-rows p i (requestResponse r o x c d) h = received-rows (p r) unreached (reach p 0 i d) tt (reach-rows p 0 i d (only r d h))
+    served-rows p i (notification r o e) h = tt
+    served-rows p i (solicitResponse r o e x) h = tt
+    served-rows p i (ifThenElse r e a b) h = tt
+    served-rows p i (whileDo r e b) h = tt
+    served-rows p i (sequence r a b) h = tt
+    served-rows p i (parallel r a b) h = tt
+    served-rows p i (assign r x e) h = tt
+    served-rows p i (choice r m) h = tt
+    served-rows p i (branch r a b m) h = either-rows (served p i a) (served p i m) (served-rows p i a (input-of r a b m h)) (served-rows p i m (others-of r a b m h))
+    served-rows p i (lastBranch r a b) h = served-rows p i a (first r a b h)
+    served-rows p i (waiting r o x) h = tt
+    served-rows p i (answering r o c d) h = tt
 
 -- ---- in a file
 

@@ -8,8 +8,8 @@ ghost use Rattle.rows.specs.declared.BehaviourRow.{BehaviourRow};
 ghost use Rattle.state.specs.Bytes.{readSession};
 ghost use Rattle.moves.specs.Readiness.{ifDone, ifReceived, ifTaken, isDone};
 ghost use Rattle.readiness.specs.declared.Part.{Part};
-ghost use Rattle.readiness.specs.Parts.{branchAt, branchDeciders, decidersIn, decidersOf, inOrder, branchWays, waysIn, waysOf};
-ghost use Rattle.readiness.specs.Reaching.{Offers, OffersRun, ReachesRow, Reaches};
+ghost use Rattle.readiness.specs.Parts.{branchAt, branchDeciders, decidersIn, decidersOf, inOrder, branchWays, waysIn, waysOf, bodyOf};
+ghost use Rattle.readiness.specs.Reaching.{Offers, ReachesBody, ReachesServed, ReachesInputs, ReachesRow, Reaches};
 use progress::Progress;
 use rows::BehaviourRow;
 
@@ -32,6 +32,12 @@ pub enum Ways {
     One(u16),
     Two(u16, u16),
     Inputs(u16, u16),
+}
+
+// The body of an input: none, or that of a received request-response.
+pub enum Body {
+    Nothing,
+    Row(u16),
 }
 
 // How a row is reached: not at all; as itself; or as an input of a choice in which no branch is taken (the choice's row, the branch's
@@ -312,14 +318,93 @@ fn offer(file: &[u8], c: u16, k: u8, i: u16, at: usize, n: u8) -> Reached
     offer(file, c, k + 1, i, at + 10, n - 1)
 }
 
-// The same for the branches from row `first` on, of which a choice has 8 at most.
-fn offer_run(file: &[u8], c: u16, i: u16, first: u16, n: u16) -> Reached
-    ensures { λ x. ⌜ OffersRun (now (file .entry)) c i first n x ⌝ }
+// The body that input a has, if it is received.
+fn body_of(file: &[u8], state: &[u8], slot: usize, a: u16) -> Body
+    requires { ⌜ slot < 65536 ⌝ }
+    ensures { λ x. ⌜ x ≡ bodyOf (now (file .entry)) (readSession (now (state .entry)) slot .progress) a ⌝ }
+{
+    match rows::behaviour_row(file, a) {
+        BehaviourRow::RequestResponse(_, _, _, d) => {
+            if marked_received(state, slot, a) {
+                return Body::Row(d);
+            }
+            Body::Nothing
+        }
+        BehaviourRow::Nil => Body::Nothing,
+        BehaviourRow::OneWay(_, _) => Body::Nothing,
+        BehaviourRow::Notification(_, _) => Body::Nothing,
+        BehaviourRow::SolicitResponse(_, _, _) => Body::Nothing,
+        BehaviourRow::If(_, _, _) => Body::Nothing,
+        BehaviourRow::While(_, _) => Body::Nothing,
+        BehaviourRow::Sequence(_, _) => Body::Nothing,
+        BehaviourRow::Parallel(_, _) => Body::Nothing,
+        BehaviourRow::Assign(_, _) => Body::Nothing,
+        BehaviourRow::Choice(_, _) => Body::Nothing,
+        BehaviourRow::Branch(_, _) => Body::Nothing,
+        BehaviourRow::Unknown => Body::Nothing,
+    }
+}
+
+// The row i in the body of input a, if a is received.
+fn reach_body(file: &[u8], state: &[u8], slot: usize, i: u16, a: u16, left: u16) -> Reached
+    requires { ⌜ slot < 65536 ⌝ }
+    ensures { λ x. ⌜ ReachesBody (now (file .entry)) (readSession (now (state .entry)) slot .progress) i a left x ⌝ }
+{
+    if left == 0 {
+        return Reached::Unreached;
+    }
+    match body_of(file, state, slot, a) {
+        Body::Nothing => Reached::Unreached,
+        Body::Row(d) => reach_row(file, state, slot, i, d, left - 1),
+    }
+}
+
+// The row i in the body of a received input among the n branches whose rows stand from `at` on.
+fn reach_served(
+    file: &[u8],
+    state: &[u8],
+    slot: usize,
+    i: u16,
+    at: usize,
+    n: u8,
+    left: u16,
+) -> Reached
+    requires { ⌜ (slot < 65536) × (at + 10 * n < 2000000) ⌝ }
+    ensures { λ x. ⌜ ReachesServed (now (file .entry)) (readSession (now (state .entry)) slot .progress) i at n left x ⌝ }
+{
+    if n == 0 {
+        return Reached::Unreached;
+    }
+    match reach_body(file, state, slot, i, wire::u16_at(file, at + 2), left) {
+        Reached::Unreached => reach_served(file, state, slot, i, at + 10, n - 1, left),
+        Reached::Reached(x) => Reached::Reached(x),
+        Reached::Offered(c, k, x) => Reached::Offered(c, k, x),
+    }
+}
+
+// The row i among the inputs, or in the body of a received one, of the n branches from row `first` on, of the choice r.
+fn reach_inputs(
+    file: &[u8],
+    state: &[u8],
+    slot: usize,
+    i: u16,
+    r: u16,
+    first: u16,
+    n: u16,
+    left: u16,
+) -> Reached
+    requires { ⌜ slot < 65536 ⌝ }
+    ensures { λ x. ⌜ ReachesInputs (now (file .entry)) (readSession (now (state .entry)) slot .progress) i r first n left x ⌝ }
 {
     if 8 < n {
         return Reached::Unreached;
     }
-    offer(file, c, 0, i, layout::behaviour_at(file, first), n as u8)
+    let at = layout::behaviour_at(file, first);
+    match offer(file, r, 0, i, at, n as u8) {
+        Reached::Unreached => reach_served(file, state, slot, i, at, n as u8, left),
+        Reached::Reached(x) => Reached::Reached(x),
+        Reached::Offered(c, k, x) => Reached::Offered(c, k, x),
+    }
 }
 
 // The row i from row r down, with so many rows left.
@@ -341,7 +426,7 @@ fn reach_row(file: &[u8], state: &[u8], slot: usize, i: u16, r: u16, left: u16) 
             Reached::Reached(x) => Reached::Reached(x),
             Reached::Offered(c, k, x) => Reached::Offered(c, k, x),
         },
-        Ways::Inputs(first, n) => offer_run(file, r, i, first, n),
+        Ways::Inputs(first, n) => reach_inputs(file, state, slot, i, r, first, n, left - 1),
     }
 }
 

@@ -30,7 +30,7 @@ use Rattle.soundness.specs.GoodTrees.{GoodTree}
 use Rattle.soundness.specs.Parts.{branchAt, Once, Reaches, atSelf, atFirst, atBranch}
 use Rattle.soundness.specs.RowLaws.{in-own, in-first, branch-rows}
 use Rattle.soundness.specs.CleanLaws.{once-at, suits-at, of-two}
-use Rattle.soundness.specs.ReachLaws.{notTaken, Offered, Found, found-alone, reaches-stay, reaches-trans}
+use Rattle.soundness.specs.ReachLaws.{notTaken, Offered, Found, found-alone, clean-shut, reaches-stay, reaches-trans}
 use Rattle.soundness.specs.Accepted.{OfFile, MadeOf, Accepted}
 use Rattle.soundness.specs.MadeLaws.{made-at, reaches-atRow, row-own, some-inj}
 use Rattle.soundness.specs.Invariant.{Destination, Answers, QueuedSound, AllQueued, SessionSound, Sound}
@@ -198,7 +198,7 @@ module _ (N : Network) (rows : ℕ) (acc : Accepted N rows) where
     local-reached strict i (offered c k b) f = keeps-15 N rows strict
 
     pub local-keeps : (strict : Bool) (r : ℕ) → Keeps N rows strict (localReached G q n S (reach p 0 r (h .what)))
-    local-keeps strict r = local-reached strict r (reach p 0 r (h .what)) (found-alone p r (h .what) (once-of N rows acc q n (h .what) (h .runs)))
+    local-keeps strict r = local-reached strict r (reach p 0 r (h .what)) (found-alone p r (h .what) (once-of N rows acc q n (h .what) (h .runs)) (clean-shut N rows p (h .what) (h .clean) (h .suit)))
 
     -- Receive, in the session with `settled` for its progress.
     module _ (settled : Progresses) (hs : SessionSound N rows q n (withProgress S settled)) where
@@ -307,7 +307,7 @@ module _ (N : Network) (rows : ℕ) (acc : Accepted N rows) where
     receive-reached strict i (offered c k a) f = receive-offered strict i c k a f
 
     pub receive-keeps : (strict : Bool) (r : ℕ) → Keeps N rows strict (receiveReached G q n S (reach p 0 r (h .what)))
-    receive-keeps strict r = receive-reached strict r (reach p 0 r (h .what)) (found-alone p r (h .what) (once-of N rows acc q n (h .what) (h .runs)))
+    receive-keeps strict r = receive-reached strict r (reach p 0 r (h .what)) (found-alone p r (h .what) (once-of N rows acc q n (h .what) (h .runs)) (clean-shut N rows p (h .what) (h .clean) (h .suit)))
 
   -- The moves.
   pub local-move : (strict : Bool) (G : State) → Sound N rows G → (q n r : ℕ) → Keeps N rows strict (localMove N G q n r)

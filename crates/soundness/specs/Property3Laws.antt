@@ -31,7 +31,7 @@ use Rattle.moves.specs.Moves.{localAt, localReached, onBehaviour, onLive, local
 use Rattle.moves.specs.Moves.{move}
 use Rattle.moves.specs.Step.{Step, refuse, finish, onForm, onState, buffersFit, step}
 use Rattle.soundness.specs.Parts.{Reaches}
-use Rattle.soundness.specs.ReachLaws.{Found, found-alone}
+use Rattle.soundness.specs.ReachLaws.{Found, found-alone, clean-shut, clean-shut}
 use Rattle.soundness.specs.Accepted.{Accepted}
 use Rattle.soundness.specs.MadeLaws.{made-sorted, rest-sorted, some-inj}
 use Rattle.soundness.specs.Invariant.{AllQueued, SessionSound, Sound}
@@ -139,7 +139,7 @@ module _ (N : Network) (rows : ℕ) (acc : Accepted N rows) where
       let h = hG q n S (k .alive) in
       let sameB : h .what ≡ k .what = some-inj (sym (h .runs) ∙ k .runs) in
       let there : reach (S .progress) 0 r (h .what) ≡ reached (k .row) = ap (reach (S .progress) 0 r) sameB ∙ k .there in
-      let found = subst (Found (S .progress) r (h .what)) there (found-alone (S .progress) r (h .what) (once-of N rows acc q n (h .what) (h .runs))) in
+      let found = subst (Found (S .progress) r (h .what)) there (found-alone (S .progress) r (h .what) (once-of N rows acc q n (h .what) (h .runs)) (clean-shut N rows (S .progress) (h .what) (h .clean) (h .suit))) in
       let g = ready-at G hG q n S h (k .row) (found .0) (k .ready) in
       let f : Behaviour → Slot → Result = λ B x. onLive x (λ S2. localReached G q n S2 (reach (S2 .progress) 0 r B)) in
       subst (λ (b : Optional Behaviour). Goes N rows (onBehaviour b (λ B. f B (G q n)))) (sym (k .runs))

@@ -1,21 +1,22 @@
 -- Reached rows: what `reach` finds is reached; a row that waits or was received stays reached while other rows move.
 use mathlib.Core.Path.{_≡_, refl, sym, subst, _∙_}
 use Prim.Native.Nat.{ℕ, zero, suc, _+_}
-use mathlib.Core.Bool.{Bool, true, false, _||_}
+use mathlib.Core.Bool.{Bool, true, false, _||_, _&&_}
 use native.Mathlib.Omega.{arith}
 use lib.Dec.{T, eqb, ltb, eqb→eq, eqb-refl, ltb→lt, lt→ltb}
 use Rattle.forest.specs.Compare.{and-l, and-r}
 use Rattle.forest.specs.Path.{Path}
-use Rattle.syntax.specs.Syntax.{Expression, Operation, Behaviour, nil, oneWay, requestResponse, notification, solicitResponse, ifThenElse, whileDo}
+use Rattle.syntax.specs.Syntax.{Network, Expression, Operation, Behaviour, nil, oneWay, requestResponse, notification, solicitResponse, ifThenElse, whileDo}
 use Rattle.syntax.specs.Syntax.{sequence, parallel, assign, choice, branch, lastBranch, waiting, answering}
 use Rattle.syntax.specs.Rows.{rowOf, hasRow}
+use Rattle.network.specs.OnceLaws.{or-left, or-right}
 use Rattle.network.specs.Shapes.{Standing, alone, inChoice}
 use Rattle.typing.specs.TypedLaws.{by-bool}
 use Rattle.state.specs.Session.{Progress, Progresses, ReplyTo, undone, done, waits, received, taken}
-use Rattle.state.specs.Shape.{branches}
+use Rattle.state.specs.Shape.{branches, isUndone, undoneDoneOrReceived, undoneOrTaken, undoneDoneOrBody, suits}
 use Rattle.moves.specs.Readiness.{ifDone, ifReceived, ifTaken, thenOrElse, isDone, Reached, unreached, reached, offered, here, orElse, onlyIf}
-use Rattle.moves.specs.Readiness.{offeredIf, offer, reach}
-use Rattle.soundness.specs.Parts.{branchAt, Once, Reaches, atSelf, atFirst, atSecond, atLeft, atRight, atThen, atElse, atLoop, atServed}
+use Rattle.moves.specs.Readiness.{offeredIf, offer, reach, served}
+use Rattle.soundness.specs.Parts.{branchAt, Once, Fresh, Clean, Reaches, atSelf, atFirst, atSecond, atLeft, atRight, atThen, atElse, atLoop, atServed}
 use Rattle.soundness.specs.Parts.{atBranch}
 use Rattle.soundness.specs.RowLaws.{in-own, in-first, in-second, in-only, taken-at, branch-done, branch-rows, branch-once, branch-alone}
 use Rattle.soundness.specs.RowLaws.{get-alone, get-choice, reaches-rows, done-same, Off}
@@ -418,77 +419,171 @@ offers p c i m t (offered d k a) g =
     same : (j : ℕ) → k ≡ 0 + j → j ≡ k
     same j e = omega arith
 
-pub reach-found : (p : Progresses) (i : ℕ) (B : Behaviour) (s : Standing) (k : ℕ) → Once s B → Found p i (branchAt k B) (reach p k i B)
-unfolding reach branchAt Once rowOf
-reach-found p i (nil r) s k o = here-found (Found p i (nil r)) (eqb i r) (nil r) unreached (self-found p i (nil r)) tt
-reach-found p i (oneWay r w x) s k o = here-found (Found p i (oneWay r w x)) (eqb i r) (oneWay r w x) unreached (self-found p i (oneWay r w x)) tt
-reach-found p i (requestResponse r w x c d) s k o =
-    let ih = subst (λ (z : Behaviour). Found p i z (reach p 0 i d)) (branch-alone d 0 (get-alone s o .1)) (reach-found p i d alone 0 (get-alone s o .1)) in
+-- In a choice in which no branch is taken nothing is begun.
+unfoldable pub Shut : Progresses → Behaviour → Type 0
+Shut p (nil r) = Unit {0}
+Shut p (oneWay r o x) = Unit {0}
+Shut p (requestResponse r o x c d) = Shut p d
+Shut p (notification r o e) = Unit {0}
+Shut p (solicitResponse r o e x) = Unit {0}
+Shut p (ifThenElse r e a b) = Shut p a × Shut p b
+Shut p (whileDo r e b) = Shut p b
+Shut p (sequence r a b) = Shut p a × Shut p b
+Shut p (parallel r a b) = Shut p a × Shut p b
+Shut p (assign r x e) = Unit {0}
+Shut p (choice r m) = (T (notTaken (p r)) → Fresh p m) × Shut p m
+Shut p (branch r a b m) = Shut p a × Shut p b × Shut p m
+Shut p (lastBranch r a b) = Shut p a × Shut p b
+Shut p (waiting r o x) = Unit {0}
+Shut p (answering r o c d) = Unit {0}
+
+untaken-undone : (n : ℕ) (s : Progress) → T (undoneOrTaken n s) → T (notTaken s) → s ≡ undone
+untaken-undone n undone t u = refl
+untaken-undone n done t u = absurd t
+untaken-undone n waits t u = absurd t
+untaken-undone n (received to) t u = absurd t
+untaken-undone n (taken k) t u = absurd u
+
+pub clean-shut : (N : Network) (rows : ℕ) (p : Progresses) (B : Behaviour) → Clean p B → T (suits N rows p B) → Shut p B
+unfolding Clean suits Shut
+clean-shut N rows p (nil r) c t = tt
+clean-shut N rows p (oneWay r o x) c t = tt
+clean-shut N rows p (requestResponse r o x y d) c t = clean-shut N rows p d (c .1) (and-r (undoneDoneOrReceived N rows (p r)) (suits N rows p d) t)
+clean-shut N rows p (notification r o e) c t = tt
+clean-shut N rows p (solicitResponse r o e x) c t = tt
+clean-shut N rows p (ifThenElse r e a b) c t =
+    let u = and-r (undoneOrTaken 2 (p r)) (suits N rows p a && suits N rows p b) t in (
+      clean-shut N rows p a (c .2) (and-l (suits N rows p a) (suits N rows p b) u),
+      clean-shut N rows p b (c .3) (and-r (suits N rows p a) (suits N rows p b) u),
+    )
+clean-shut N rows p (whileDo r e b) c t = clean-shut N rows p b c (and-r (undoneDoneOrBody (p r)) (suits N rows p b) t)
+clean-shut N rows p (sequence r a b) c t =
+    let u = and-r (isUndone (p r)) (suits N rows p a && suits N rows p b) t in (
+      clean-shut N rows p a (c .0) (and-l (suits N rows p a) (suits N rows p b) u),
+      clean-shut N rows p b (c .1) (and-r (suits N rows p a) (suits N rows p b) u),
+    )
+clean-shut N rows p (parallel r a b) c t =
+    let u = and-r (isUndone (p r)) (suits N rows p a && suits N rows p b) t in (
+      clean-shut N rows p a (c .0) (and-l (suits N rows p a) (suits N rows p b) u),
+      clean-shut N rows p b (c .1) (and-r (suits N rows p a) (suits N rows p b) u),
+    )
+clean-shut N rows p (assign r x e) c t = tt
+clean-shut N rows p (choice r m) c t = (
+  λ u. c .0 (untaken-undone (branches m) (p r) (and-l (undoneOrTaken (branches m) (p r)) (suits N rows p m) t) u),
+  clean-shut N rows p m (c .1) (and-r (undoneOrTaken (branches m) (p r)) (suits N rows p m) t),
+)
+clean-shut N rows p (branch r a b m) c t =
+    let u = and-r (isUndone (p r)) ((suits N rows p a && suits N rows p b) && suits N rows p m) t in
+    let v = and-l (suits N rows p a && suits N rows p b) (suits N rows p m) u in (
+      clean-shut N rows p a (c .0) (and-l (suits N rows p a) (suits N rows p b) v),
+      clean-shut N rows p b (c .1) (and-r (suits N rows p a) (suits N rows p b) v),
+      clean-shut N rows p m (c .2) (and-r (suits N rows p a && suits N rows p b) (suits N rows p m) u),
+    )
+clean-shut N rows p (lastBranch r a b) c t =
+    let u = and-r (isUndone (p r)) (suits N rows p a && suits N rows p b) t in (
+      clean-shut N rows p a (c .0) (and-l (suits N rows p a) (suits N rows p b) u),
+      clean-shut N rows p b (c .1) (and-r (suits N rows p a) (suits N rows p b) u),
+    )
+clean-shut N rows p (waiting r o x) c t = tt
+clean-shut N rows p (answering r o x d) c t = tt
+
+-- So no input of such a choice is received.
+served-none : (p : Progresses) (i : ℕ) (m : Behaviour) → Fresh p m → served p i m ≡ unreached
+unfolding served hasRow
+served-none p i (nil r) f = refl
+served-none p i (oneWay r o x) f = refl
+served-none p i (requestResponse r o x c d) f = rw (f r (or-left (eqb r r) (hasRow r d) (eqb-refl r))) refl
+served-none p i (notification r o e) f = refl
+served-none p i (solicitResponse r o e x) f = refl
+served-none p i (ifThenElse r e a b) f = refl
+served-none p i (whileDo r e b) f = refl
+served-none p i (sequence r a b) f = refl
+served-none p i (parallel r a b) f = refl
+served-none p i (assign r x e) f = refl
+served-none p i (choice r m) f = refl
+served-none p i (branch r a b m) f =
+    rw (served-none p i a
+    (λ j t. f j (or-right (eqb j r) ((hasRow j a || hasRow j b) || hasRow j m)
+    (or-left (hasRow j a || hasRow j b) (hasRow j m) (or-left (hasRow j a) (hasRow j b) t)))))
+    (served-none p i m (λ j t. f j (or-right (eqb j r) ((hasRow j a || hasRow j b) || hasRow j m) (or-right (hasRow j a || hasRow j b) (hasRow j m) t))))
+served-none p i (lastBranch r a b) f =
+    served-none p i a (λ j t. f j (or-right (eqb j r) (hasRow j a || hasRow j b) (or-left (hasRow j a) (hasRow j b) t)))
+served-none p i (waiting r o x) f = refl
+served-none p i (answering r o c d) f = refl
+
+pub reach-found : (p : Progresses) (i : ℕ) (B : Behaviour) (s : Standing) (k : ℕ) → Once s B → Shut p B → Found p i (branchAt k B) (reach p k i B)
+unfolding reach branchAt Once rowOf Shut
+reach-found p i (nil r) s k o h = here-found (Found p i (nil r)) (eqb i r) (nil r) unreached (self-found p i (nil r)) tt
+reach-found p i (oneWay r w x) s k o h = here-found (Found p i (oneWay r w x)) (eqb i r) (oneWay r w x) unreached (self-found p i (oneWay r w x)) tt
+reach-found p i (requestResponse r w x c d) s k o h =
+    let ih = subst (λ (z : Behaviour). Found p i z (reach p 0 i d)) (branch-alone d 0 (get-alone s o .1)) (reach-found p i d alone 0 (get-alone s o .1) h) in
     let B = requestResponse r w x c d in
     here-found (Found p i B) (eqb i r) B (ifReceived (p r) unreached (reach p 0 i d)) (self-found p i B)
-    (received-found (Found p i B) (p r) unreached (reach p 0 i d) tt (λ to e. lift p i d B (λ X h. atServed to e h) (reach p 0 i d) ih))
-reach-found p i (notification r w e) s k o =
+    (received-found (Found p i B) (p r) unreached (reach p 0 i d) tt (λ to e. lift p i d B (λ X y. atServed to e y) (reach p 0 i d) ih))
+reach-found p i (notification r w e) s k o h =
     here-found (Found p i (notification r w e)) (eqb i r) (notification r w e) unreached (self-found p i (notification r w e)) tt
-reach-found p i (solicitResponse r w e x) s k o =
+reach-found p i (solicitResponse r w e x) s k o h =
     here-found (Found p i (solicitResponse r w e x)) (eqb i r) (solicitResponse r w e x) unreached (self-found p i (solicitResponse r w e x)) tt
-reach-found p i (ifThenElse r e a b) s k o =
+reach-found p i (ifThenElse r e a b) s k o h =
     let oa = get-alone s o .3 in let ob = get-alone s o .4 in
-    let iha = subst (λ (z : Behaviour). Found p i z (reach p 0 i a)) (branch-alone a 0 oa) (reach-found p i a alone 0 oa) in
-    let ihb = subst (λ (z : Behaviour). Found p i z (reach p 0 i b)) (branch-alone b 0 ob) (reach-found p i b alone 0 ob) in
+    let iha = subst (λ (z : Behaviour). Found p i z (reach p 0 i a)) (branch-alone a 0 oa) (reach-found p i a alone 0 oa (h .0)) in
+    let ihb = subst (λ (z : Behaviour). Found p i z (reach p 0 i b)) (branch-alone b 0 ob) (reach-found p i b alone 0 ob (h .1)) in
     let B = ifThenElse r e a b in
     here-found (Found p i B) (eqb i r) B (ifTaken (p r) unreached (λ j. thenOrElse j (reach p 0 i a) (reach p 0 i b))) (self-found p i B)
     (taken-found (Found p i B) (p r) unreached (λ j. thenOrElse j (reach p 0 i a) (reach p 0 i b)) (λ t. tt) (λ j g. go j g iha ihb))
   where
     go : (j : ℕ) → p r ≡ taken j → Found p i a (reach p 0 i a) → Found p i b (reach p 0 i b)
         → Found p i (ifThenElse r e a b) (thenOrElse j (reach p 0 i a) (reach p 0 i b))
-    go zero g x y = lift p i a (ifThenElse r e a b) (λ X h. atThen g h) (reach p 0 i a) x
-    go (suc j) g x y = lift p i b (ifThenElse r e a b) (λ X h. atElse j g h) (reach p 0 i b) y
-reach-found p i (whileDo r e b) s k o =
+    go zero g x y = lift p i a (ifThenElse r e a b) (λ X y. atThen g y) (reach p 0 i a) x
+    go (suc j) g x y = lift p i b (ifThenElse r e a b) (λ X y. atElse j g y) (reach p 0 i b) y
+reach-found p i (whileDo r e b) s k o h =
     let ob = get-alone s o .1 in
-    let ih = subst (λ (z : Behaviour). Found p i z (reach p 0 i b)) (branch-alone b 0 ob) (reach-found p i b alone 0 ob) in
+    let ih = subst (λ (z : Behaviour). Found p i z (reach p 0 i b)) (branch-alone b 0 ob) (reach-found p i b alone 0 ob h) in
     let B = whileDo r e b in
     here-found (Found p i B) (eqb i r) B (ifTaken (p r) unreached (λ j. reach p 0 i b)) (self-found p i B)
-    (taken-found (Found p i B) (p r) unreached (λ j. reach p 0 i b) (λ t. tt) (λ j g. lift p i b B (λ X h. atLoop j g h) (reach p 0 i b) ih))
-reach-found p i (sequence r a b) s k o =
+    (taken-found (Found p i B) (p r) unreached (λ j. reach p 0 i b) (λ t. tt) (λ j g. lift p i b B (λ X y. atLoop j g y) (reach p 0 i b) ih))
+reach-found p i (sequence r a b) s k o h =
     let oa = get-alone s o .3 in let ob = get-alone s o .4 in
-    let iha = subst (λ (z : Behaviour). Found p i z (reach p 0 i a)) (branch-alone a 0 oa) (reach-found p i a alone 0 oa) in
-    let ihb = subst (λ (z : Behaviour). Found p i z (reach p 0 i b)) (branch-alone b 0 ob) (reach-found p i b alone 0 ob) in
+    let iha = subst (λ (z : Behaviour). Found p i z (reach p 0 i a)) (branch-alone a 0 oa) (reach-found p i a alone 0 oa (h .0)) in
+    let ihb = subst (λ (z : Behaviour). Found p i z (reach p 0 i b)) (branch-alone b 0 ob) (reach-found p i b alone 0 ob (h .1)) in
     let B = sequence r a b in
     here-found (Found p i B) (eqb i r) B (orElse (reach p 0 i a) (onlyIf (isDone p 0 a) (reach p 0 i b))) (self-found p i B)
-    (or-found (Found p i B) (reach p 0 i a) (onlyIf (isDone p 0 a) (reach p 0 i b)) (lift p i a B (λ X h. atFirst h) (reach p 0 i a) iha)
-    (only-found (Found p i B) (isDone p 0 a) (reach p 0 i b) tt (λ t. lift p i b B (λ X h. atSecond t h) (reach p 0 i b) ihb)))
-reach-found p i (parallel r a b) s k o =
+    (or-found (Found p i B) (reach p 0 i a) (onlyIf (isDone p 0 a) (reach p 0 i b)) (lift p i a B (λ X y. atFirst y) (reach p 0 i a) iha)
+    (only-found (Found p i B) (isDone p 0 a) (reach p 0 i b) tt (λ t. lift p i b B (λ X y. atSecond t y) (reach p 0 i b) ihb)))
+reach-found p i (parallel r a b) s k o h =
     let oa = get-alone s o .3 in let ob = get-alone s o .4 in
-    let iha = subst (λ (z : Behaviour). Found p i z (reach p 0 i a)) (branch-alone a 0 oa) (reach-found p i a alone 0 oa) in
-    let ihb = subst (λ (z : Behaviour). Found p i z (reach p 0 i b)) (branch-alone b 0 ob) (reach-found p i b alone 0 ob) in
+    let iha = subst (λ (z : Behaviour). Found p i z (reach p 0 i a)) (branch-alone a 0 oa) (reach-found p i a alone 0 oa (h .0)) in
+    let ihb = subst (λ (z : Behaviour). Found p i z (reach p 0 i b)) (branch-alone b 0 ob) (reach-found p i b alone 0 ob (h .1)) in
     let B = parallel r a b in
     here-found (Found p i B) (eqb i r) B (orElse (reach p 0 i a) (reach p 0 i b)) (self-found p i B)
-    (or-found (Found p i B) (reach p 0 i a) (reach p 0 i b) (lift p i a B (λ X h. atLeft h) (reach p 0 i a) iha)
-    (lift p i b B (λ X h. atRight h) (reach p 0 i b) ihb))
-reach-found p i (assign r x e) s k o = here-found (Found p i (assign r x e)) (eqb i r) (assign r x e) unreached (self-found p i (assign r x e)) tt
-reach-found p i (choice r m) s k o =
+    (or-found (Found p i B) (reach p 0 i a) (reach p 0 i b) (lift p i a B (λ X y. atLeft y) (reach p 0 i a) iha)
+    (lift p i b B (λ X y. atRight y) (reach p 0 i b) ihb))
+reach-found p i (assign r x e) s k o h = here-found (Found p i (assign r x e)) (eqb i r) (assign r x e) unreached (self-found p i (assign r x e)) tt
+reach-found p i (choice r m) s k o h =
     let om = get-alone s o .1 in
     let B = choice r m in
-    here-found (Found p i B) (eqb i r) B (ifTaken (p r) (offer r 0 i m) (λ j. reach p j i m)) (self-found p i B)
-    (taken-found (Found p i B) (p r) (offer r 0 i m) (λ j. reach p j i m) (λ t. offers p r i m t (offer r 0 i m) (offer-found r i m 0))
-    (λ j g. lift p i (branchAt j m) B (λ X h. atBranch j g h) (reach p j i m) (reach-found p i m inChoice j om)))
-reach-found p i (branch r a b m) s zero o =
+    here-found (Found p i B) (eqb i r) B (ifTaken (p r) (orElse (offer r 0 i m) (served p i m)) (λ j. reach p j i m)) (self-found p i B)
+    (taken-found (Found p i B) (p r) (orElse (offer r 0 i m) (served p i m)) (λ j. reach p j i m)
+    (λ t. or-found (Found p i B) (offer r 0 i m) (served p i m) (offers p r i m t (offer r 0 i m) (offer-found r i m 0))
+    (subst (Found p i B) (sym (served-none p i m (h .0 t))) tt))
+    (λ j g. lift p i (branchAt j m) B (λ X y. atBranch j g y) (reach p j i m) (reach-found p i m inChoice j om (h .1))))
+reach-found p i (branch r a b m) s zero o h =
     let oa = get-choice s o .3 in let ob = get-choice s o .4 in
-    let iha = subst (λ (z : Behaviour). Found p i z (reach p 0 i a)) (branch-alone a 0 oa) (reach-found p i a alone 0 oa) in
-    let ihb = subst (λ (z : Behaviour). Found p i z (reach p 0 i b)) (branch-alone b 0 ob) (reach-found p i b alone 0 ob) in
+    let iha = subst (λ (z : Behaviour). Found p i z (reach p 0 i a)) (branch-alone a 0 oa) (reach-found p i a alone 0 oa (h .0)) in
+    let ihb = subst (λ (z : Behaviour). Found p i z (reach p 0 i b)) (branch-alone b 0 ob) (reach-found p i b alone 0 ob (h .1)) in
     let B = sequence r a b in
-    or-found (Found p i B) (reach p 0 i a) (onlyIf (isDone p 0 a) (reach p 0 i b)) (lift p i a B (λ X h. atFirst h) (reach p 0 i a) iha)
-    (only-found (Found p i B) (isDone p 0 a) (reach p 0 i b) tt (λ t. lift p i b B (λ X h. atSecond t h) (reach p 0 i b) ihb))
-reach-found p i (branch r a b m) s (suc k) o = reach-found p i m inChoice k (get-choice s o .8)
-reach-found p i (lastBranch r a b) s k o =
+    or-found (Found p i B) (reach p 0 i a) (onlyIf (isDone p 0 a) (reach p 0 i b)) (lift p i a B (λ X y. atFirst y) (reach p 0 i a) iha)
+    (only-found (Found p i B) (isDone p 0 a) (reach p 0 i b) tt (λ t. lift p i b B (λ X y. atSecond t y) (reach p 0 i b) ihb))
+reach-found p i (branch r a b m) s (suc k) o h = reach-found p i m inChoice k (get-choice s o .8) (h .2)
+reach-found p i (lastBranch r a b) s k o h =
     let oa = get-choice s o .3 in let ob = get-choice s o .4 in
-    let iha = subst (λ (z : Behaviour). Found p i z (reach p 0 i a)) (branch-alone a 0 oa) (reach-found p i a alone 0 oa) in
-    let ihb = subst (λ (z : Behaviour). Found p i z (reach p 0 i b)) (branch-alone b 0 ob) (reach-found p i b alone 0 ob) in
+    let iha = subst (λ (z : Behaviour). Found p i z (reach p 0 i a)) (branch-alone a 0 oa) (reach-found p i a alone 0 oa (h .0)) in
+    let ihb = subst (λ (z : Behaviour). Found p i z (reach p 0 i b)) (branch-alone b 0 ob) (reach-found p i b alone 0 ob (h .1)) in
     let B = sequence r a b in
-    or-found (Found p i B) (reach p 0 i a) (onlyIf (isDone p 0 a) (reach p 0 i b)) (lift p i a B (λ X h. atFirst h) (reach p 0 i a) iha)
-    (only-found (Found p i B) (isDone p 0 a) (reach p 0 i b) tt (λ t. lift p i b B (λ X h. atSecond t h) (reach p 0 i b) ihb))
-reach-found p i (waiting r w x) s k o = tt
-reach-found p i (answering r w c d) s k o = tt
+    or-found (Found p i B) (reach p 0 i a) (onlyIf (isDone p 0 a) (reach p 0 i b)) (lift p i a B (λ X y. atFirst y) (reach p 0 i a) iha)
+    (only-found (Found p i B) (isDone p 0 a) (reach p 0 i b) tt (λ t. lift p i b B (λ X y. atSecond t y) (reach p 0 i b) ihb))
+reach-found p i (waiting r w x) s k o h = tt
+reach-found p i (answering r w c d) s k o h = tt
 
-pub found-alone : (p : Progresses) (i : ℕ) (B : Behaviour) → Once alone B → Found p i B (reach p 0 i B)
-found-alone p i B o = subst (λ (z : Behaviour). Found p i z (reach p 0 i B)) (branch-alone B 0 o) (reach-found p i B alone 0 o)
+pub found-alone : (p : Progresses) (i : ℕ) (B : Behaviour) → Once alone B → Shut p B → Found p i B (reach p 0 i B)
+found-alone p i B o h = subst (λ (z : Behaviour). Found p i z (reach p 0 i B)) (branch-alone B 0 o) (reach-found p i B alone 0 o h)

@@ -33,7 +33,7 @@ use Rattle.moves.specs.Moves.{Result, moved, require, onTree, onOperation, onMe
 use Rattle.moves.specs.Moves.{sendOutside, sendBy, sendAt, sendReached, sendMove, isInputNamed, inputNamed, outerMessage}
 use Rattle.soundness.specs.GoodTrees.{GoodTree}
 use Rattle.soundness.specs.Parts.{Reaches}
-use Rattle.soundness.specs.ReachLaws.{Found, found-alone}
+use Rattle.soundness.specs.ReachLaws.{Found, found-alone, clean-shut, clean-shut}
 use Rattle.soundness.specs.Accepted.{OfFile, MadeOf, Accepted, Agree}
 use Rattle.soundness.specs.MadeLaws.{made-at, reaches-atRow, some-inj}
 use Rattle.soundness.specs.Invariant.{Destination, SessionSound, Sound}
@@ -200,7 +200,7 @@ module _ (N : Network) (rows : ℕ) (acc : Accepted N rows) where
       let h = hG q n S eS in
       let on = once-of N rows acc q n (h .what) (h .runs) in
       subst (λ (z : Behaviour). Keeps N rows true (sendReached N G q n S to (reach (S .progress) 0 r z))) (some-inj (sym (h .runs) ∙ e))
-      (send-reached G hG q n S eS h to r (reach (S .progress) 0 r (h .what)) (found-alone (S .progress) r (h .what) on)))
+      (send-reached G hG q n S eS h to r (reach (S .progress) 0 r (h .what)) (found-alone (S .progress) r (h .what) on (clean-shut N rows (S .progress) (h .what) (h .clean) (h .suit)))))
 
   -- A message from outside, of bytes, with a u32 reply number.
   pub decoded-good : (bytes : List ℕ) (m : Tree Value) → Octets bytes → decodeMessage bytes ≡ present m → GoodTree m
