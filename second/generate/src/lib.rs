@@ -1,5 +1,5 @@
-//! Seeded networks and messages: right ones that use every kind of row, and damaged ones that
-//! reach every refusal of the checker.
+//! Seeded networks, messages and walks: right ones that use every kind of row and move, and damaged
+//! ones that reach every refusal.
 
 pub mod damage;
 pub mod hits;
@@ -7,6 +7,7 @@ pub mod maximal;
 pub mod messages;
 pub mod networks;
 pub mod random;
+pub mod walks;
 
 pub use hits::Hits;
 pub use random::Random;

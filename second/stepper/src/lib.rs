@@ -21,7 +21,7 @@ pub mod state;
 pub mod tree;
 
 pub use moves::{Event, Move};
-pub use refused::{Misshape, NotAllowed, Reason, Refused};
+pub use refused::{Bound, Misshape, NotAllowed, Reason, Refused};
 pub use state::State;
 pub use tree::Tree;
 

@@ -3,7 +3,7 @@
 use second::network::{Direction, Operation};
 use second::Network;
 
-use crate::refused::{NotAllowed, Reason, Refused};
+use crate::refused::{Bound, NotAllowed, Reason, Refused};
 use crate::rows::{Ready, Rows};
 use crate::state::{Session, State};
 use crate::tree::Tree;
@@ -165,11 +165,11 @@ impl<'a> Stepping<'a> {
 }
 
 /// 19: the tree is no message, or it does not fit the type.
-pub fn fit(network: &Network, message: &Tree, type_row: usize) -> Result<(), Refused> {
+pub fn fit(network: &Network, message: &Tree, type_row: usize, bound: Bound) -> Result<(), Refused> {
     if !message.is_message() {
-        Err(Reason::LargeMessage.into())
+        Err(Reason::LargeMessage(bound).into())
     } else if !message.fits(network, type_row) {
-        Err(Reason::Unfit.into())
+        Err(Reason::Unfit(bound).into())
     } else {
         Ok(())
     }

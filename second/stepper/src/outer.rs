@@ -1,7 +1,7 @@
 //! Outer message and outer reply: what comes from outside the file's services.
 
 use crate::moves::{fit, At, Event, Stepping};
-use crate::refused::{NotAllowed, Reason, Refused};
+use crate::refused::{Bound, NotAllowed, Reason, Refused};
 use crate::state::Destination;
 use crate::tree::Tree;
 
@@ -13,7 +13,7 @@ impl Stepping<'_> {
             return Err(NotAllowed::NotWaiting.into());
         }
         let message = Tree::read_message(outside).ok_or(Reason::NoMessage)?;
-        fit(self.network, &message, waiting.reply_type)?;
+        fit(self.network, &message, waiting.reply_type, Bound::Inside)?;
         self.place_reply(at, waiting, &message)?;
         Ok(Event::OuterReplied)
     }
@@ -32,7 +32,7 @@ impl Stepping<'_> {
         let operation = self.network.operations[input];
         let target = self.target(service, target, input)?;
         let message = Tree::read_message(outside).ok_or(Reason::NoMessage)?;
-        fit(self.network, &message, operation.request)?;
+        fit(self.network, &message, operation.request, Bound::Inside)?;
         let destination = operation.reply.map(|_| Destination::Outsider(number));
         self.deliver(target, message, destination)
     }

@@ -98,6 +98,15 @@ impl NotAllowed {
     };
 }
 
+/// Which type a message is compared with (19).
+#[derive(Clone, Copy, PartialEq, Eq, Debug, PartialOrd, Ord, Hash)]
+pub enum Bound {
+    /// The input's request type or the waiting row's reply type.
+    Inside,
+    /// The sender's own type.
+    Outside,
+}
+
 #[derive(Clone, Copy, PartialEq, Eq, Debug, PartialOrd, Ord, Hash)]
 pub enum Reason {
     /// 1
@@ -119,9 +128,9 @@ pub enum Reason {
     /// 18
     TreeSize,
     /// 19: a tree that fits no type, since it is no message.
-    LargeMessage,
+    LargeMessage(Bound),
     /// 19
-    Unfit,
+    Unfit(Bound),
 }
 
 /// A refusal of fresh or of a move.
@@ -142,7 +151,7 @@ impl From<Reason> for Refused {
             Reason::QueueFull => 16,
             Reason::NoMessage => 17,
             Reason::Missing | Reason::WrongKind | Reason::TreeSize => 18,
-            Reason::LargeMessage | Reason::Unfit => 19,
+            Reason::LargeMessage(_) | Reason::Unfit(_) => 19,
         };
         Refused { number, place: 0, reason }
     }

@@ -3,7 +3,7 @@
 use second::network::Behaviour;
 
 use crate::moves::{fit, within, At, Event, Stepping};
-use crate::refused::{NotAllowed, Reason, Refused};
+use crate::refused::{Bound, NotAllowed, Reason, Refused};
 use crate::state::{Destination, Progress};
 use crate::tree::Tree;
 
@@ -44,7 +44,7 @@ impl Stepping<'_> {
     fn answer_outsider(&mut self, at: At, operation: usize, path: usize, number: u32) -> Result<Event, Refused> {
         let reply_type = self.network.operations[operation].reply.ok_or(NotAllowed::Operation)?;
         let message = self.reply_message(at, path)?;
-        fit(self.network, &message, reply_type)?;
+        fit(self.network, &message, reply_type, Bound::Outside)?;
         self.out = number.to_le_bytes().to_vec();
         self.out.extend(message.bytes());
         Ok(Event::OutsiderAnswered)
@@ -57,7 +57,7 @@ impl Stepping<'_> {
             _ => NotAllowed::NobodyWaits,
         })?;
         let message = self.reply_message(at, path)?;
-        fit(self.network, &message, waiting.reply_type)?;
+        fit(self.network, &message, waiting.reply_type, Bound::Inside)?;
         self.place_reply(to, waiting, &message)?;
         Ok(Event::Replied)
     }

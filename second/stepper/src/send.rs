@@ -4,7 +4,7 @@ use second::network::Behaviour;
 
 use crate::evaluate;
 use crate::moves::{fit, At, Event, Stepping};
-use crate::refused::{NotAllowed, Refused};
+use crate::refused::{Bound, NotAllowed, Refused};
 use crate::state::{Destination, Progress};
 
 /// A row that sends.
@@ -42,7 +42,7 @@ impl Stepping<'_> {
         }
         let target = self.target(service, target, input)?;
         let message = evaluate::message(self.network, &self.session(at).tree, output.expression)?;
-        fit(self.network, &message, input_operation.request)?;
+        fit(self.network, &message, input_operation.request, Bound::Inside)?;
         let destination = Destination::Row { service: at.service, session: at.session, row: at.row };
         self.deliver(target, message, output.two_way.then_some(destination))
     }
@@ -53,7 +53,7 @@ impl Stepping<'_> {
             return Err(NotAllowed::Target.into());
         }
         let message = evaluate::message(self.network, &self.session(at).tree, output.expression)?;
-        fit(self.network, &message, self.network.operations[output.operation].request)?;
+        fit(self.network, &message, self.network.operations[output.operation].request, Bound::Outside)?;
         self.out = message.bytes();
         Ok(Event::SentOutside)
     }

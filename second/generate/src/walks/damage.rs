@@ -1,0 +1,300 @@
+//! States that no move would leave: of the shape but ill typed, or bytes that stand for no state.
+
+use second::network::{Behaviour, Direction, Network};
+use stepper::encode::{encode, slot, ENTRIES, ENTRY, MESSAGE, ROW, ROWS, ROWS_END, SLOT, STATE, TREE};
+use stepper::rows::Rows;
+use stepper::state::{Destination, Progress, Queued, Session, State, QUEUE, SESSIONS};
+use stepper::Tree;
+
+use super::outside::{fitting, set_basic, some_node};
+use crate::networks::value;
+use crate::random::Random;
+
+/// Changes a state of the shape into another one.
+pub fn state(random: &mut Random, network: &Network, state: &mut State) {
+    let live = live_sessions(state);
+    if random.one_in(12) || live.is_empty() {
+        return wake(random, network, state);
+    }
+    let Some(&(service, number)) = random.pick(&live) else { return };
+    if random.one_in(25) {
+        state.services[service][number] = None;
+        return;
+    }
+    let rows = Rows::of(network);
+    let Some(root) = rows.root(service, number) else { return };
+    let Some(session) = state.live_mut(service, number) else { return };
+    match random.below(9) {
+        0 | 1 => {
+            if let Some(node) = some_node(random, &mut session.tree, false) {
+                set_basic(random, node);
+            }
+        }
+        2 => {
+            let whole = random.one_in(2);
+            match some_node(random, &mut session.tree, false) {
+                Some(node) if !whole => node.children.truncate(random.below(2)),
+                _ => session.tree.children.truncate(random.below(2)),
+            }
+        }
+        3 => crowd(random, &mut session.tree),
+        4 => grow(random, network, &mut session.tree),
+        5 | 6 => fill(random, network, service, session),
+        7 => mark(random, &rows, root, session),
+        _ => redirect(random, network, session),
+    }
+}
+
+fn live_sessions(state: &State) -> Vec<(usize, usize)> {
+    let numbers = (0..state.services.len()).flat_map(|service| (0..SESSIONS).map(move |number| (service, number)));
+    numbers.filter(|&(service, number)| state.live(service, number).is_some()).collect()
+}
+
+/// A session that is live with nothing done, a starter's too.
+fn wake(random: &mut Random, network: &Network, state: &mut State) {
+    let (service, number) = (random.below(network.services.len()), random.below(SESSIONS));
+    let rows = Rows::of(network);
+    if rows.root(service, number).is_some() && state.live(service, number).is_none() {
+        state.services[service][number] = Some(Session::new(network));
+    }
+}
+
+/// Roots that nobody reads, up to 48 nodes or a few less.
+fn crowd(random: &mut Random, tree: &mut Tree) {
+    let wanted = random.between(45, 48);
+    let mut id = 50_000;
+    while tree.nodes() - 1 < wanted {
+        let basic = second::Basic::ALL[random.below(7)];
+        let bytes = value(random, basic);
+        if let Some(value) = second::Value::read(basic, &bytes) {
+            tree.assign(&[id], &value);
+        }
+        id += 1;
+    }
+}
+
+/// More nodes below one: along a path of the file, or so that it is no message any more.
+fn grow(random: &mut Random, network: &Network, tree: &mut Tree) {
+    let room = 48 - (tree.nodes() - 1).min(48);
+    let Some(path) = random.pick(&network.paths) else { return };
+    let basic = second::Basic::ALL[random.below(7)];
+    let bytes = value(random, basic);
+    let Some(value) = second::Value::read(basic, &bytes) else { return };
+    if room < 8 {
+        return;
+    }
+    tree.assign(path.ids(), &value);
+    if random.one_in(2) {
+        let count = random.between(1, (room - 4).min(17)) as u16;
+        let below = |id: u16| [path.ids(), &[id]].concat();
+        (1..=count).for_each(|id| tree.assign(&below(100 + id), &second::Value::Void));
+    } else if path.ids().len() < 3 {
+        tree.assign(&[path.ids(), &[7, 7, 7, 7][..6 - path.ids().len().max(2)]].concat(), &value);
+    }
+}
+
+fn some_destination(random: &mut Random, network: &Network) -> Destination {
+    if random.one_in(2) {
+        return Destination::Outsider(random.draw() as u32);
+    }
+    let asks: Vec<usize> = (0..network.behaviours.len())
+        .filter(|&row| matches!(network.behaviours[row], Behaviour::SolicitResponse { .. }))
+        .collect();
+    let any = random.below(network.behaviours.len().max(1));
+    let row = if random.one_in(3) { any } else { random.pick(&asks).copied().unwrap_or(any) };
+    Destination::Row { service: random.below(network.services.len()), session: random.below(SESSIONS), row }
+}
+
+/// Messages in the queue, fitting or not.
+fn fill(random: &mut Random, network: &Network, service: usize, session: &mut Session) {
+    let inputs: Vec<usize> = (0..network.operations.len())
+        .filter(|&row| (network.operations[row].service, network.operations[row].direction) == (service, Direction::In))
+        .collect();
+    let wanted = if random.one_in(2) { QUEUE } else { random.between(1, QUEUE) };
+    while session.queue.len() < wanted {
+        let Some(&operation) = random.pick(&inputs) else { return };
+        let row = &network.operations[operation];
+        let mut message = fitting(random, network, row.request);
+        if random.one_in(4) {
+            message = Tree::read_message(&crate::messages::message(random).0).unwrap_or(message);
+        }
+        let destination = row.reply.map(|_| some_destination(random, network));
+        session.queue.push(Queued { operation, message, destination });
+    }
+}
+
+/// Progress of some rows that suits their kinds.
+fn mark(random: &mut Random, rows: &Rows, root: usize, session: &mut Session) {
+    let mut own = rows.below(root);
+    own.push(root);
+    for _ in 0..random.between(1, 4) {
+        let Some(&row) = random.pick(&own) else { return };
+        let network = rows.network;
+        let choices = match &network.behaviours[row] {
+            Behaviour::OneWay { .. } | Behaviour::Notification { .. } | Behaviour::Assign { .. } => {
+                vec![Progress::Done]
+            }
+            Behaviour::RequestResponse { .. } if network.behaviours.is_empty() => Vec::new(),
+            Behaviour::RequestResponse { .. } => {
+                let received = Progress::Received(some_destination(random, network));
+                vec![Progress::Done, received, received]
+            }
+            Behaviour::SolicitResponse { .. } => vec![Progress::Done, Progress::Waiting, Progress::Waiting],
+            Behaviour::If { .. } => vec![Progress::Taken(0), Progress::Taken(1)],
+            Behaviour::While { .. } => vec![Progress::Taken(0), Progress::Done],
+            Behaviour::Choice { branches } => (0..branches.len()).map(Progress::Taken).collect(),
+            _ => Vec::new(),
+        };
+        session.progress[row] = match random.pick(&choices) {
+            Some(&progress) if !random.one_in(4) => progress,
+            _ => Progress::Undone,
+        };
+    }
+}
+
+/// Other destinations of what is queued or received.
+fn redirect(random: &mut Random, network: &Network, session: &mut Session) {
+    for queued in &mut session.queue {
+        if queued.destination.is_some() {
+            queued.destination = Some(some_destination(random, network));
+        }
+    }
+    for progress in &mut session.progress {
+        if matches!(progress, Progress::Received(_)) {
+            *progress = Progress::Received(some_destination(random, network));
+        }
+    }
+}
+
+/// Changes bytes so that they stand for no state most of the time.
+pub fn bytes(random: &mut Random, network: &Network, state: &State, bytes: &mut [u8]) {
+    if bytes.len() != STATE {
+        return;
+    }
+    let live = live_sessions(state);
+    let Some(&(service, number)) = random.pick(&live) else { return any_byte(random, bytes) };
+    let start = slot(service, number);
+    match random.below(11) {
+        0 => any_byte(random, bytes),
+        1 => bytes[start] = *random.pick(&[0, 2, 255]).expect("three"),
+        2 => {
+            let kept = [1, random.between(4, TREE - 1), random.between(ROWS_END, SLOT - 1)];
+            bytes[start + random.pick(&kept).expect("three")] = random.between(1, 255) as u8;
+        }
+        3 => sleeper(random, bytes),
+        4 => tree(random, &mut bytes[start..start + SLOT]),
+        5 => entry(random, &mut bytes[start + ENTRIES..start + ROWS]),
+        6 | 7 => queued(random, network, service, state, (service, number), bytes),
+        8 => row(random, network, &mut bytes[start + ROWS..start + ROWS_END]),
+        9 => part(random, network, &mut bytes[start + ROWS..start + ROWS_END]),
+        _ => destination(random, network, &mut bytes[start + ROWS..start + ROWS_END]),
+    }
+}
+
+fn any_byte(random: &mut Random, bytes: &mut [u8]) {
+    let at = random.below(bytes.len());
+    bytes[at] = random.byte();
+}
+
+/// A live session in some slot, also where nobody runs.
+fn sleeper(random: &mut Random, bytes: &mut [u8]) {
+    let start = SLOT * random.below(16);
+    let slot = &mut bytes[start..start + SLOT];
+    slot.fill(0);
+    (slot[0], slot[2], slot[18]) = (1, 5, 6);
+}
+
+fn tree(random: &mut Random, slot: &mut [u8]) {
+    let length = usize::from(u16::from_le_bytes([slot[2], slot[3]])).clamp(5, 1_013);
+    match random.below(5) {
+        0 => slot[2] = slot[2].wrapping_add(*random.pick(&[1, 255]).expect("two")),
+        1 => slot[TREE + random.below(length)] ^= 1 << random.below(8),
+        2 => slot[3] = random.byte(),
+        3 => slot[TREE + random.between(length, 1_023)] = 1,
+        _ => {
+            // 49 nodes, or 7 levels, below the root.
+            let mut tree = Tree::void(0);
+            if random.one_in(2) {
+                (1..=49).for_each(|id| tree.assign(&[id], &second::Value::Void));
+            } else {
+                tree.assign(&[3; 7], &second::Value::Void);
+            }
+            let bytes = tree.bytes();
+            slot[TREE..ENTRIES].fill(0);
+            slot[TREE..TREE + bytes.len()].copy_from_slice(&bytes);
+            slot[2..4].copy_from_slice(&(bytes.len() as u16).to_le_bytes());
+        }
+    }
+}
+
+/// A byte in some entry, or an entry after an unused one.
+fn entry(random: &mut Random, queue: &mut [u8]) {
+    let entry = random.below(QUEUE);
+    let reach = if random.one_in(2) { 24 } else { ENTRY };
+    let at = ENTRY * entry + random.below(reach);
+    queue[at] = random.between(0, 65) as u8;
+    if random.one_in(3) {
+        queue.copy_within(0..ENTRY, 2 * ENTRY);
+        queue[ENTRY..2 * ENTRY].fill(0);
+    }
+}
+
+/// A right queue with one field of an entry wrong.
+fn queued(
+    random: &mut Random,
+    network: &Network,
+    service: usize,
+    state: &State,
+    (_, number): (usize, usize),
+    bytes: &mut [u8],
+) {
+    let mut state = state.clone();
+    let Some(session) = state.live_mut(service, number) else { return };
+    fill(random, network, service, session);
+    encode(&state, bytes);
+    let start = slot(service, number) + ENTRIES;
+    let (at, byte) = match random.below(6) {
+        0 => (0, random.between(1, 66) as u8),
+        1 => (1, random.between(0, 3) as u8),
+        2 => (2, random.byte()),
+        3 => (4 + random.below(4), random.byte()),
+        4 => (MESSAGE + random.below(12), random.byte()),
+        _ => (random.between(300, ENTRY - 1), 1),
+    };
+    bytes[start + at] = byte;
+}
+
+/// Any progress of any row, of no row too.
+fn row(random: &mut Random, network: &Network, rows: &mut [u8]) {
+    let count = network.behaviours.len();
+    let row = if random.one_in(8) { random.below(256) } else { random.below(count.max(1)) };
+    let part = if random.one_in(2) { 0 } else { random.below(9) as u8 };
+    rows[ROW * row..ROW * row + 2].copy_from_slice(&[random.below(7) as u8, part]);
+    if random.one_in(4) {
+        rows[ROW * row + random.between(2, 5)] = random.below(4) as u8;
+    }
+}
+
+/// A part that the row may not have.
+fn part(random: &mut Random, network: &Network, rows: &mut [u8]) {
+    let compound = |row: &usize| {
+        let behaviour = &network.behaviours[*row];
+        matches!(behaviour, Behaviour::If { .. } | Behaviour::While { .. } | Behaviour::Choice { .. })
+    };
+    let compounds: Vec<usize> = (0..network.behaviours.len()).filter(compound).collect();
+    if let Some(&row) = random.pick(&compounds) {
+        rows[ROW * row..ROW * row + 2].copy_from_slice(&[3, random.below(10) as u8]);
+    }
+}
+
+/// A received row whose destination is out of range.
+fn destination(random: &mut Random, network: &Network, rows: &mut [u8]) {
+    let received = |row: &usize| matches!(network.behaviours[*row], Behaviour::RequestResponse { .. });
+    let answers: Vec<usize> = (0..network.behaviours.len()).filter(received).collect();
+    if let Some(&row) = random.pick(&answers) {
+        let past = network.behaviours.len() as u16 + random.below(2) as u16;
+        let [low, high] = past.saturating_sub(1).to_le_bytes();
+        let bytes = [5, 0, random.below(5) as u8, random.below(6) as u8, low, high];
+        rows[ROW * row..ROW * row + ROW].copy_from_slice(&bytes);
+    }
+}

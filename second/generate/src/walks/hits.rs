@@ -1,0 +1,275 @@
+//! What walks have hit, so that a run that misses something can fail.
+
+use std::collections::BTreeMap;
+use std::fmt;
+
+use second::network::Behaviour;
+use second::Network;
+use stepper::decode::decode;
+use stepper::{Bound, Event, Made, Misshape, Move, NotAllowed, Reason, Refused, State};
+
+use super::Call;
+
+/// Each name was to be hit often enough.
+pub struct WalkHits {
+    counts: BTreeMap<String, usize>,
+}
+
+/// The numbers that each kind of move can give.
+const NUMBERS: [(&str, &[u8]); 7] = [
+    ("local", &[0, 1, 2, 3, 4, 5, 14, 15, 18]),
+    ("receive", &[0, 1, 2, 3, 4, 5, 14, 15, 18]),
+    ("send", &[0, 1, 2, 3, 4, 5, 14, 15, 16, 18, 19]),
+    ("reply", &[0, 1, 2, 3, 4, 5, 14, 15, 18, 19]),
+    ("outer message", &[0, 1, 2, 3, 4, 5, 14, 15, 16, 17, 18, 19]),
+    ("outer reply", &[0, 1, 2, 3, 4, 5, 14, 15, 17, 18, 19]),
+    ("close", &[0, 1, 2, 3, 4, 5, 14, 15]),
+];
+
+const EVENTS: [(&str, &[Event]); 7] = [
+    (
+        "local",
+        &[
+            Event::Assigned,
+            Event::ThenTaken,
+            Event::ElseTaken,
+            Event::BodyTaken,
+            Event::BodyTakenAgain,
+            Event::WhileDone,
+        ],
+    ),
+    ("receive", &[Event::Received, Event::Settled]),
+    ("send", &[Event::Queued, Event::Started, Event::SentOutside]),
+    ("reply", &[Event::Replied, Event::OutsiderAnswered]),
+    ("outer message", &[Event::Queued, Event::Started]),
+    ("outer reply", &[Event::OuterReplied]),
+    ("close", &[Event::Closed]),
+];
+
+/// Why a kind of move is not allowed (15).
+const NOT_ALLOWED: [(&str, &[NotAllowed]); 7] = {
+    use NotAllowed::*;
+    [
+        ("local", &[NoSession, OtherRow, NotReady]),
+        ("receive", &[NoSession, OtherRow, NotReady, Operation, NothingQueued]),
+        ("send", &[NoSession, OtherRow, NotReady, Operation, NoInput, Target]),
+        ("reply", &[NoSession, OtherRow, NothingToAnswer, Operation, NobodyWaits]),
+        ("outer message", &[NoInput, Target, Operation]),
+        ("outer reply", &[NoSession, OtherRow, NotWaiting, Operation]),
+        ("close", &[NoSession, NotDone]),
+    ]
+};
+
+const VALUES: [(&str, &[Reason]); 7] = {
+    use Reason::*;
+    [
+        ("assign", &[Missing, WrongKind, TreeSize]),
+        ("condition", &[Missing, WrongKind]),
+        ("receive", &[TreeSize]),
+        ("send", &[Missing, WrongKind, TreeSize]),
+        ("reply", &[Missing, TreeSize]),
+        ("outer message", &[TreeSize]),
+        ("outer reply", &[TreeSize]),
+    ]
+};
+
+const FITS: [(&str, &[Reason]); 4] = {
+    use Bound::*;
+    use Reason::*;
+    [
+        ("send", &[Unfit(Inside), Unfit(Outside), LargeMessage(Inside), LargeMessage(Outside)]),
+        ("reply", &[Unfit(Inside), Unfit(Outside), LargeMessage(Inside), LargeMessage(Outside)]),
+        ("outer message", &[Unfit(Inside)]),
+        ("outer reply", &[Unfit(Inside)]),
+    ]
+};
+
+const FEATURES: [&str; 12] = [
+    "a walk from fresh",
+    "a move from fresh",
+    "a move on a file that 6 to 13 refuse",
+    "a session closed with messages in its queue",
+    "a message that is not the oldest taken",
+    "a session that sends to itself",
+    "a session that answers itself",
+    "a session started by a one-way of a service",
+    "a session started by a request of a service",
+    "a session started by a request from outside",
+    "a solicit-response sent outside",
+    "a choice or if settled inside a while",
+];
+
+impl Default for WalkHits {
+    fn default() -> WalkHits {
+        let mut names: Vec<String> = (0..=13).map(|number| format!("fresh {number:2}")).collect();
+        for (kind, numbers) in NUMBERS {
+            names.extend(numbers.iter().map(|number| format!("{kind} {number:2}")));
+        }
+        for (kind, events) in EVENTS {
+            names.extend(events.iter().map(|event| format!("{kind}  0 {event:?}")));
+        }
+        names.extend(Misshape::ALL.map(|misshape| format!("any move 14 {misshape:?}")));
+        for (kind, reasons) in NOT_ALLOWED {
+            names.extend(reasons.iter().map(|why| format!("{kind} 15 {why:?}")));
+        }
+        for (kind, reasons) in VALUES {
+            names.extend(reasons.iter().map(|reason| format!("{kind} 18 {reason:?}")));
+        }
+        for (kind, reasons) in FITS {
+            names.extend(reasons.iter().map(|reason| format!("{kind} 19 {reason:?}")));
+        }
+        names.extend(FEATURES.map(String::from));
+        WalkHits { counts: names.into_iter().map(|name| (name, 0)).collect() }
+    }
+}
+
+impl fmt::Display for WalkHits {
+    fn fmt(&self, f: &mut fmt::Formatter) -> fmt::Result {
+        for (name, count) in &self.counts {
+            writeln!(f, "{count:8}  {name}")?;
+        }
+        Ok(())
+    }
+}
+
+fn kind(named: &Move) -> &'static str {
+    match named {
+        Move::Local { .. } => "local",
+        Move::Receive { .. } => "receive",
+        Move::Send { .. } => "send",
+        Move::Reply { .. } => "reply",
+        Move::OuterMessage { .. } => "outer message",
+        Move::OuterReply { .. } => "outer reply",
+        Move::Close { .. } => "close",
+    }
+}
+
+impl WalkHits {
+    fn hit(&mut self, name: String) {
+        *self.counts.get_mut(&name).unwrap_or_else(|| panic!("{name} is not among the names that are counted")) += 1;
+    }
+
+    pub fn feature(&mut self, holds: bool, feature: &str) {
+        if holds {
+            self.hit(feature.into());
+        }
+    }
+
+    /// Names that were hit less often.
+    pub fn below(&self, least: usize) -> Vec<&str> {
+        self.counts.iter().filter(|(_, &count)| count < least).map(|(name, _)| name.as_str()).collect()
+    }
+
+    pub fn fresh(&mut self, number: u32) {
+        self.hit(format!("fresh {number:2}"));
+    }
+
+    /// A call by the second implementation and its result.
+    pub fn call(&mut self, call: &Call, result: &Result<Made, Refused>) {
+        let kind = kind(&call.named);
+        match result {
+            Ok(made) => {
+                self.hit(format!("{kind}  0"));
+                self.hit(format!("{kind}  0 {:?}", made.event));
+                let network = Network::read(&call.file).expect("a file of a move that was made");
+                let state = decode(&network, &call.state).expect("the state of a move that was made");
+                self.made(&network, &state, &call.named, made.event);
+            }
+            Err(refused) => {
+                self.hit(format!("{kind} {:2}", refused.number));
+                self.refused(call, kind, refused);
+            }
+        }
+    }
+
+    fn refused(&mut self, call: &Call, kind: &str, refused: &Refused) {
+        let number = refused.number;
+        match refused.reason {
+            Reason::State(misshape) => self.hit(format!("any move 14 {misshape:?}")),
+            Reason::NotAllowed(why) => self.hit(format!("{kind} 15 {why:?}")),
+            reason @ (Reason::Missing | Reason::WrongKind | Reason::TreeSize) => {
+                let what = match call.named {
+                    Move::Local { row, .. } if is_assign(&call.file, row) => "assign",
+                    Move::Local { .. } => "condition",
+                    _ => kind,
+                };
+                self.hit(format!("{what} {number} {reason:?}"));
+            }
+            reason @ (Reason::LargeMessage(_) | Reason::Unfit(_)) => self.hit(format!("{kind} {number} {reason:?}")),
+            _ => {}
+        }
+    }
+
+    fn made(&mut self, network: &Network, before: &State, named: &Move, event: Event) {
+        let two_way = |row: u16| matches!(network.behaviours[usize::from(row)], Behaviour::SolicitResponse { .. });
+        match *named {
+            Move::Close { service, session } => {
+                let queue = before.live(service.into(), session.into()).map_or(0, |session| session.queue.len());
+                self.feature(queue > 0, "a session closed with messages in its queue");
+            }
+            Move::Receive { service, session, row } => {
+                let oldest = before.live(service.into(), session.into()).and_then(|session| session.queue.first());
+                let operation = match network.behaviours[usize::from(row)] {
+                    Behaviour::OneWay { operation, .. } | Behaviour::RequestResponse { operation, .. } => operation,
+                    _ => return,
+                };
+                let later = oldest.is_some_and(|queued| queued.operation != operation);
+                self.feature(later, "a message that is not the oldest taken");
+            }
+            Move::Send { service, session, row, target } => {
+                let started = event == Event::Started;
+                self.feature(started && two_way(row), "a session started by a request of a service");
+                self.feature(started && !two_way(row), "a session started by a one-way of a service");
+                self.feature(event == Event::SentOutside && two_way(row), "a solicit-response sent outside");
+                let own = sends_to(network, row) == Some(usize::from(service)) && target == session;
+                self.feature(event == Event::Queued && own, "a session that sends to itself");
+            }
+            Move::Reply { service, session, row } => {
+                let own = before.live(service.into(), session.into()).is_some_and(|live| {
+                    use stepper::state::{Destination::Row, Progress::Received};
+                    let here = (usize::from(service), usize::from(session));
+                    matches!(live.progress[usize::from(row)], Received(Row { service, session, .. })
+                        if (service, session) == here)
+                });
+                self.feature(own, "a session that answers itself");
+            }
+            Move::OuterMessage { service, id, .. } => {
+                let input = network.operations.iter().find(|row| {
+                    (row.service, row.id, row.direction) == (usize::from(service), id, second::network::Direction::In)
+                });
+                let two_way = input.is_some_and(|row| row.reply.is_some());
+                self.feature(event == Event::Started && two_way, "a session started by a request from outside");
+            }
+            Move::Local { .. } | Move::OuterReply { .. } => {}
+        }
+        let inside = match *named {
+            Move::Local { row, .. } if matches!(event, Event::ThenTaken | Event::ElseTaken) => in_a_while(network, row),
+            Move::Receive { row, .. } if event == Event::Settled => in_a_while(network, row),
+            _ => false,
+        };
+        self.feature(inside, "a choice or if settled inside a while");
+    }
+}
+
+fn is_assign(file: &[u8], row: u16) -> bool {
+    let network = Network::read(file).expect("a file that passes 2 to 5");
+    matches!(network.behaviours[usize::from(row)], Behaviour::Assign { .. })
+}
+
+/// The service that an output row sends to.
+fn sends_to(network: &Network, row: u16) -> Option<usize> {
+    let (Behaviour::Notification { operation, .. } | Behaviour::SolicitResponse { operation, .. }) =
+        network.behaviours[usize::from(row)]
+    else {
+        return None;
+    };
+    let location = network.operations[operation].location;
+    network.services.iter().position(|service| service.location == location)
+}
+
+fn in_a_while(network: &Network, row: u16) -> bool {
+    let rows = stepper::rows::Rows::of(network);
+    (0..network.behaviours.len()).any(|above| {
+        matches!(network.behaviours[above], Behaviour::While { .. }) && rows.below(above).contains(&row.into())
+    })
+}
