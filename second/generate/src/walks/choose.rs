@@ -2,7 +2,7 @@
 
 use second::network::{Behaviour, Network};
 use stepper::rows::Rows;
-use stepper::state::{Progress, Session, State, SESSIONS};
+use stepper::state::{Destination, Progress, Session, State, SESSIONS};
 use stepper::Move;
 
 use crate::random::Random;
@@ -21,6 +21,8 @@ pub struct Candidates<'a> {
     state: &'a State,
     /// Moves of sessions, and messages that a session waits for.
     pub inner: Vec<Candidate>,
+    /// Those of sessions that are to answer a row of the file.
+    asked: Vec<Candidate>,
     /// Messages that start a session.
     pub starts: Vec<Candidate>,
 }
@@ -37,12 +39,18 @@ struct Running<'a> {
 impl<'a> Candidates<'a> {
     pub fn of(network: &'a Network, state: &'a State) -> Candidates<'a> {
         let rows = Rows::of(network);
-        let mut candidates = Candidates { network, rows, state, inner: Vec::new(), starts: Vec::new() };
+        let mut candidates =
+            Candidates { network, rows, state, inner: Vec::new(), asked: Vec::new(), starts: Vec::new() };
         for (service, sessions) in state.services.iter().enumerate() {
             for (number, session) in sessions.iter().enumerate() {
                 match (session, candidates.rows.root(service, number)) {
                     (Some(session), Some(root)) => {
+                        let before = candidates.inner.len();
                         candidates.session(Running { service, number, session, root });
+                        if session.progress.iter().any(|row| matches!(row, Progress::Received(Destination::Row { .. })))
+                        {
+                            candidates.asked.extend_from_slice(&candidates.inner[before..]);
+                        }
                     }
                     (None, Some(root)) if number > 0 => candidates.free(number, root),
                     _ => {}
@@ -89,11 +97,10 @@ impl<'a> Candidates<'a> {
         let number = row as u16;
         match self.network.behaviours[row] {
             Behaviour::OneWay { operation, .. } | Behaviour::RequestResponse { operation, .. } => {
-                if running.session.queue.iter().any(|queued| queued.operation == operation) {
-                    self.push(Move::Receive { service, session, row: number });
-                } else {
+                self.push(Move::Receive { service, session, row: number });
+                if !running.session.queue.iter().any(|queued| queued.operation == operation) {
                     let candidate = self.outer(operation, session);
-                    self.inner.push(candidate);
+                    self.inner.extend([candidate; 4]);
                 }
             }
             Behaviour::Notification { operation, .. } | Behaviour::SolicitResponse { operation, .. } => {
@@ -109,15 +116,33 @@ impl<'a> Candidates<'a> {
         self.network.services.iter().position(|service| service.location == location)
     }
 
-    /// Sessions that a message of an output may go to.
+    /// Sessions that a message of an output may go to; those that will take it soon more often.
     fn targets(&self, operation: usize) -> Vec<u16> {
-        let Some(service) = self.service_at(self.network.operations[operation].location) else { return vec![0] };
+        let output = &self.network.operations[operation];
+        let Some(service) = self.service_at(output.location) else { return vec![0] };
         let startable = self.network.services[service].starter.is_some();
-        let goes = |number: &u16| {
-            let number = usize::from(*number);
-            self.state.live(service, number).is_some() || (number > 0 && startable)
-        };
-        (0..SESSIONS as u16).filter(goes).collect()
+        let mut targets = Vec::new();
+        for number in 0..SESSIONS {
+            let copies = match self.state.live(service, number) {
+                Some(session) if self.expects(session, self.rows.root(service, number), output.id) => 6,
+                Some(_) => 1,
+                None if number > 0 && startable => 2,
+                None => 0,
+            };
+            targets.extend((0..copies).map(|_| number as u16));
+        }
+        targets
+    }
+
+    /// A session with a ready input of an id.
+    fn expects(&self, session: &Session, root: Option<usize>, id: u16) -> bool {
+        let Some(root) = root else { return false };
+        self.rows.ready(session, root).iter().any(|ready| match self.network.behaviours[ready.row] {
+            Behaviour::OneWay { operation, .. } | Behaviour::RequestResponse { operation, .. } => {
+                self.network.operations[operation].id == id
+            }
+            _ => false,
+        })
     }
 
     fn outer(&self, operation: usize, target: u16) -> Candidate {
@@ -142,11 +167,18 @@ impl<'a> Candidates<'a> {
 
     /// One of them, or a message for some live session.
     pub fn pick(&self, random: &mut Random) -> Option<Candidate> {
-        if random.one_in(12) {
+        if random.one_in(20) {
             return self.any_message(random);
         }
-        let starts = self.inner.is_empty() || random.one_in(5);
-        let list = if starts && !self.starts.is_empty() { &self.starts } else { &self.inner };
+        let is_reply = |candidate: &&Candidate| matches!(candidate.named, Move::Reply { .. });
+        let replies: Vec<Candidate> = self.inner.iter().filter(is_reply).copied().collect();
+        let starts = self.inner.is_empty() || random.one_in(9);
+        let list = match random.below(6) {
+            0 if !replies.is_empty() => &replies,
+            1 | 2 if !self.asked.is_empty() => &self.asked,
+            _ if starts && !self.starts.is_empty() => &self.starts,
+            _ => &self.inner,
+        };
         let mut candidate = *random.pick(list)?;
         if let Move::OuterMessage { number, .. } = &mut candidate.named {
             *number = random.draw() as u32;

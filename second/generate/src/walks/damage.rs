@@ -1,8 +1,8 @@
 //! States that no move would leave: of the shape but ill typed, or bytes that stand for no state.
 
-use second::network::{Behaviour, Direction, Network};
+use second::network::{Behaviour, Direction, Expression, Network, Path};
 use stepper::encode::{encode, slot, ENTRIES, ENTRY, MESSAGE, ROW, ROWS, ROWS_END, SLOT, STATE, TREE};
-use stepper::rows::Rows;
+use stepper::rows::{parts, Rows};
 use stepper::state::{Destination, Progress, Queued, Session, State, QUEUE, SESSIONS};
 use stepper::Tree;
 
@@ -15,6 +15,9 @@ pub fn state(random: &mut Random, network: &Network, state: &mut State) {
     let live = live_sessions(state);
     if random.one_in(12) || live.is_empty() {
         return wake(random, network, state);
+    }
+    if random.one_in(4) {
+        return converse(random, network, state);
     }
     let Some(&(service, number)) = random.pick(&live) else { return };
     if random.one_in(25) {
@@ -76,7 +79,11 @@ fn crowd(random: &mut Random, tree: &mut Tree) {
 /// More nodes below one: along a path of the file, or so that it is no message any more.
 fn grow(random: &mut Random, network: &Network, tree: &mut Tree) {
     let room = 48 - (tree.nodes() - 1).min(48);
-    let Some(path) = random.pick(&network.paths) else { return };
+    let mut paths: Vec<_> = network.paths.iter().collect();
+    if random.one_in(2) {
+        paths = sent_paths(network);
+    }
+    let Some(path) = random.pick(&paths) else { return };
     let basic = second::Basic::ALL[random.below(7)];
     let bytes = value(random, basic);
     let Some(value) = second::Value::read(basic, &bytes) else { return };
@@ -85,12 +92,26 @@ fn grow(random: &mut Random, network: &Network, tree: &mut Tree) {
     }
     tree.assign(path.ids(), &value);
     if random.one_in(2) {
-        let count = random.between(1, (room - 4).min(17)) as u16;
+        let count = random.between(1, (room - 4).min(20)) as u16;
         let below = |id: u16| [path.ids(), &[id]].concat();
         (1..=count).for_each(|id| tree.assign(&below(100 + id), &second::Value::Void));
     } else if path.ids().len() < 3 {
         tree.assign(&[path.ids(), &[7, 7, 7, 7][..6 - path.ids().len().max(2)]].concat(), &value);
     }
+}
+
+/// Paths whose whole trees are sent.
+fn sent_paths(network: &Network) -> Vec<&Path> {
+    let sent = |row: &Behaviour| match *row {
+        Behaviour::Notification { expression, .. } | Behaviour::SolicitResponse { expression, .. } => {
+            match network.expressions[expression] {
+                Expression::Path(path) => Some(&network.paths[path]),
+                _ => None,
+            }
+        }
+        _ => None,
+    };
+    network.behaviours.iter().filter_map(sent).collect()
 }
 
 fn some_destination(random: &mut Random, network: &Network) -> Destination {
@@ -149,6 +170,60 @@ fn mark(random: &mut Random, rows: &Rows, root: usize, session: &mut Session) {
             Some(&progress) if !random.one_in(4) => progress,
             _ => Progress::Undone,
         };
+    }
+}
+
+/// A request-response that has nothing left to do but reply, and somebody waiting for it.
+fn converse(random: &mut Random, network: &Network, state: &mut State) {
+    let rows = Rows::of(network);
+    let live = live_sessions(state);
+    let mut asks = Vec::new();
+    let mut answers = Vec::new();
+    for (service, session) in live {
+        for row in (0..network.behaviours.len()).filter(|&row| rows.belongs(service, session, row)) {
+            match network.behaviours[row] {
+                Behaviour::SolicitResponse { .. } => asks.push((service, session, row)),
+                Behaviour::RequestResponse { body, reply, .. } => answers.push((service, session, row, body, reply)),
+                _ => {}
+            }
+        }
+    }
+    let mut destination = Destination::Outsider(random.draw() as u32);
+    if let Some(&(service, session, row)) = random.pick(&asks) {
+        if let Some(live) = state.live_mut(service, session).filter(|_| !random.one_in(4)) {
+            live.progress[row] = Progress::Waiting;
+            if random.one_in(4) {
+                crowd(random, &mut live.tree);
+            }
+            destination = Destination::Row { service, session, row };
+            if random.one_in(3) {
+                answers.retain(|answer| (answer.0, answer.1) == (service, session));
+            }
+        }
+    }
+    let Some(&(service, session, row, body, reply)) = random.pick(&answers) else { return };
+    let Some(live) = state.live_mut(service, session) else { return };
+    live.progress[row] = Progress::Received(destination);
+    complete(&rows, body, live);
+    if live.tree.nodes() < 26 && random.one_in(2) {
+        let nodes = random.between(0, 17) as u16;
+        let path = network.paths[reply].ids();
+        (1..=nodes).for_each(|id| live.tree.assign(&[path, &[200 + id]].concat(), &second::Value::Void));
+    }
+}
+
+/// Marks what it takes for a row to be done.
+fn complete(rows: &Rows, row: usize, session: &mut Session) {
+    let behaviour = &rows.network.behaviours[row];
+    session.progress[row] = match behaviour {
+        Behaviour::Nil | Behaviour::Sequence(..) | Behaviour::Parallel(..) | Behaviour::Branch { .. } => {
+            Progress::Undone
+        }
+        Behaviour::If { .. } | Behaviour::Choice { .. } => Progress::Taken(0),
+        _ => Progress::Done,
+    };
+    for part in parts(behaviour) {
+        complete(rows, part, session);
     }
 }
 

@@ -6,6 +6,7 @@ pub mod hits;
 pub mod networks;
 pub mod outside;
 pub mod property;
+pub mod texts;
 
 use second::Network;
 use stepper::decode::decode;

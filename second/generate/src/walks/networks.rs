@@ -1,27 +1,57 @@
 //! Networks to walk over: mostly accepted ones, in which something can happen.
 
 use second::network::Behaviour;
-use second::Network;
+use second::{Network, Tables};
 use stepper::rows::Rows;
 
-use crate::networks::{tables, Blunder};
+use super::texts;
+use crate::networks::{tables, talkative, Blunder};
 use crate::random::Random;
 
 /// A file that passes 2 to 5; most are accepted.
 pub fn file(random: &mut Random) -> Vec<u8> {
+    if random.one_in(10) {
+        return texts::file(random.pick(&texts::ALL).expect("a text"));
+    }
     loop {
-        let (careless, blunder) = match random.below(12) {
-            0 => (100, None),
-            1 => (30, Some(*random.pick(&Blunder::ALL).expect("a blunder"))),
-            _ => (0, None),
-        };
-        let mut tables = tables(random, careless, blunder);
-        if random.one_in(12) {
-            deepen(random, &mut tables.paths);
-        }
+        let (tables, accepted) = some_tables(random);
         let file = tables.write();
-        if Network::read(&file).is_ok_and(|network| is_lively(random, &network)) {
+        let Ok(network) = Network::read(&file) else { continue };
+        if is_lively(random, &network) && (!accepted || second::check(&file).is_ok()) {
             return file;
+        }
+    }
+}
+
+/// Tables, and whether they are meant to be accepted.
+fn some_tables(random: &mut Random) -> (Tables, bool) {
+    let mut rows = if random.one_in(2) { talkative(random) } else { tables(random, 0, None) };
+    match random.below(20) {
+        0 => rows = tables(random, 100, None),
+        1 => {
+            let blunder = random.pick(&Blunder::ALL).copied();
+            rows = tables(random, 30, blunder);
+        }
+        2 => deepen(random, &mut rows.paths),
+        3 | 4 => misname(random, &mut rows),
+        _ => return (rows, true),
+    }
+    (rows, false)
+}
+
+/// Other operations and expressions in some rows, whatever their types.
+fn misname(random: &mut Random, tables: &mut Tables) {
+    let (operations, expressions) = (tables.operations.len(), tables.expressions.len());
+    let operation_fields = random.one_in(2);
+    for row in &mut tables.behaviours {
+        let field = match row.kind {
+            1..=4 if operation_fields => Some((0, operations)),
+            3 | 4 | 9 => Some((1, expressions)),
+            5 | 6 => Some((0, expressions)),
+            _ => None,
+        };
+        if let Some((field, count)) = field.filter(|_| random.one_in(3)) {
+            row.fields[field] = random.below(count) as u16;
         }
     }
 }
