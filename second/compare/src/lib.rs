@@ -1,5 +1,6 @@
 //! Answers of the checker, the reader and the stepper, from either side, in one form.
 
+pub mod cases;
 pub mod interface;
 pub mod itself;
 pub mod moves;

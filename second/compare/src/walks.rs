@@ -99,8 +99,7 @@ fn second_step(call: &Call) -> Result<(Result<Made, Refused>, Vec<u8>), String> 
 
 /// One walk. An error is the report of a difference, or of a result that breaks property 3.
 pub fn walk(random: &mut Random, hits: &mut WalkHits, other: &dyn Side) -> Result<usize, String> {
-    for _ in 0..3 {
-        let file = generate::file(random);
+    for file in [generate::file(random), generate::file(random), generate::blunder(random)] {
         fresh(&file, if random.one_in(20) { random.below(70_000) } else { 65_536 }, hits, other)?;
     }
     let mut walk = Walk::begin(random);

@@ -12,6 +12,12 @@ pub mod walks;
 pub use hits::Hits;
 pub use random::Random;
 
+/// A file with one mistake, made where it can be made.
+pub fn blunder(random: &mut Random) -> Vec<u8> {
+    let blunder = random.pick(&networks::Blunder::ALL).copied();
+    networks::tables(random, 0, blunder).write()
+}
+
 /// One network file: most are right or nearly so, the others are damaged on purpose.
 pub fn file(random: &mut Random) -> Vec<u8> {
     if random.one_in(100) {

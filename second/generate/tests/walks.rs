@@ -9,8 +9,7 @@ fn everything_is_hit() {
     let mut random = Random::new(5);
     let mut hits = WalkHits::default();
     for _ in 0..1500 {
-        for _ in 0..3 {
-            let file = generate::file(&mut random);
+        for file in [generate::file(&mut random), generate::blunder(&mut random)] {
             let mut state = vec![0; if random.one_in(20) { random.below(70_000) } else { 65_536 }];
             hits.fresh(stepper::fresh(&file, &mut state).map_or_else(|refused| refused.number.into(), |()| 0));
         }

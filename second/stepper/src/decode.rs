@@ -28,7 +28,7 @@ pub fn decode(network: &Network, bytes: &[u8]) -> Result<State, Misshape> {
 }
 
 fn all_zero(bytes: &[u8]) -> bool {
-    bytes.iter().all(|&byte| byte == 0)
+    bytes.iter().fold(0, |bits, byte| bits | byte) == 0
 }
 
 fn length_at(bytes: &[u8], at: usize) -> usize {

@@ -170,7 +170,7 @@ impl<'a> Candidates<'a> {
         if random.one_in(20) {
             return self.any_message(random);
         }
-        let is_reply = |candidate: &&Candidate| matches!(candidate.named, Move::Reply { .. });
+        let is_reply = |candidate: &&Candidate| matches!(candidate.named, Move::Reply { .. } | Move::OuterReply { .. });
         let replies: Vec<Candidate> = self.inner.iter().filter(is_reply).copied().collect();
         let starts = self.inner.is_empty() || random.one_in(9);
         let list = match random.below(6) {
@@ -218,6 +218,26 @@ pub fn any_move(random: &mut Random, network: &Network) -> Move {
         5 => Move::OuterReply { service, session, row },
         _ => Move::Close { service, session },
     }
+}
+
+/// A move for some row of a live session, ready or not.
+pub fn own_row(random: &mut Random, network: &Network, state: &State) -> Option<Move> {
+    let rows = Rows::of(network);
+    let (service, session) = (random.below(network.services.len()), random.below(SESSIONS));
+    state.live(service, session)?;
+    let below: Vec<usize> = (0..network.behaviours.len()).filter(|&row| rows.belongs(service, session, row)).collect();
+    let &row = random.pick(&below)?;
+    let (service, session, number) = (service as u16, session as u16, row as u16);
+    let other = random.one_in(2);
+    Some(match network.behaviours[row] {
+        Behaviour::RequestResponse { .. } if other => Move::Reply { service, session, row: number },
+        Behaviour::OneWay { .. } | Behaviour::RequestResponse { .. } => Move::Receive { service, session, row: number },
+        Behaviour::SolicitResponse { .. } if other => Move::OuterReply { service, session, row: number },
+        Behaviour::Notification { .. } | Behaviour::SolicitResponse { .. } => {
+            Move::Send { service, session, row: number, target: random.below(4) as u16 }
+        }
+        _ => Move::Local { service, session, row: number },
+    })
 }
 
 /// A move with one of its numbers changed.

@@ -27,7 +27,7 @@ pub fn state(random: &mut Random, network: &Network, state: &mut State) {
     let rows = Rows::of(network);
     let Some(root) = rows.root(service, number) else { return };
     let Some(session) = state.live_mut(service, number) else { return };
-    match random.below(9) {
+    match random.below(10) {
         0 | 1 => {
             if let Some(node) = some_node(random, &mut session.tree, false) {
                 set_basic(random, node);
@@ -41,7 +41,12 @@ pub fn state(random: &mut Random, network: &Network, state: &mut State) {
             }
         }
         3 => crowd(random, &mut session.tree),
-        4 => grow(random, network, &mut session.tree),
+        4 | 9 => {
+            let sent = sent_paths(&rows, root, session);
+            let any = network.paths.iter().collect();
+            let paths = if sent.is_empty() || random.one_in(3) { any } else { sent };
+            grow(random, &paths, &mut session.tree);
+        }
         5 | 6 => fill(random, network, service, session),
         7 => mark(random, &rows, root, session),
         _ => redirect(random, network, session),
@@ -76,14 +81,10 @@ fn crowd(random: &mut Random, tree: &mut Tree) {
     }
 }
 
-/// More nodes below one: along a path of the file, or so that it is no message any more.
-fn grow(random: &mut Random, network: &Network, tree: &mut Tree) {
+/// More nodes along a path and below it, so that the tree there may be no message any more.
+fn grow(random: &mut Random, paths: &[&Path], tree: &mut Tree) {
     let room = 48 - (tree.nodes() - 1).min(48);
-    let mut paths: Vec<_> = network.paths.iter().collect();
-    if random.one_in(2) {
-        paths = sent_paths(network);
-    }
-    let Some(path) = random.pick(&paths) else { return };
+    let Some(path) = random.pick(paths) else { return };
     let basic = second::Basic::ALL[random.below(7)];
     let bytes = value(random, basic);
     let Some(value) = second::Value::read(basic, &bytes) else { return };
@@ -92,7 +93,8 @@ fn grow(random: &mut Random, network: &Network, tree: &mut Tree) {
     }
     tree.assign(path.ids(), &value);
     if random.one_in(2) {
-        let count = random.between(1, (room - 4).min(20)) as u16;
+        let most = (room - 4).min(20);
+        let count = random.between(most / 2, most) as u16;
         let below = |id: u16| [path.ids(), &[id]].concat();
         (1..=count).for_each(|id| tree.assign(&below(100 + id), &second::Value::Void));
     } else if path.ids().len() < 3 {
@@ -100,9 +102,10 @@ fn grow(random: &mut Random, network: &Network, tree: &mut Tree) {
     }
 }
 
-/// Paths whose whole trees are sent.
-fn sent_paths(network: &Network) -> Vec<&Path> {
-    let sent = |row: &Behaviour| match *row {
+/// Paths whose whole trees the session may send now.
+fn sent_paths<'a>(rows: &Rows<'a>, root: usize, session: &Session) -> Vec<&'a Path> {
+    let network = rows.network;
+    let sent = |row: usize| match network.behaviours[row] {
         Behaviour::Notification { expression, .. } | Behaviour::SolicitResponse { expression, .. } => {
             match network.expressions[expression] {
                 Expression::Path(path) => Some(&network.paths[path]),
@@ -111,7 +114,7 @@ fn sent_paths(network: &Network) -> Vec<&Path> {
         }
         _ => None,
     };
-    network.behaviours.iter().filter_map(sent).collect()
+    rows.ready(session, root).iter().filter_map(|ready| sent(ready.row)).collect()
 }
 
 fn some_destination(random: &mut Random, network: &Network) -> Destination {

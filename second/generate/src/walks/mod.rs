@@ -69,6 +69,7 @@ impl Walk {
             0 => named = choose::any_move(random, &self.network),
             1 | 2 => named = choose::astray(random, &self.network, named),
             3 => named = choose::of_other_kind(random, named),
+            4 => named = choose::own_row(random, &self.network, &state).unwrap_or(named),
             _ => {}
         }
         let mut call = Call {

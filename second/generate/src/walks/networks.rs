@@ -1,6 +1,7 @@
 //! Networks to walk over: mostly accepted ones, in which something can happen.
 
 use second::network::Behaviour;
+use second::tables::OperationRow;
 use second::{Network, Tables};
 use stepper::rows::Rows;
 
@@ -10,7 +11,7 @@ use crate::random::Random;
 
 /// A file that passes 2 to 5; most are accepted.
 pub fn file(random: &mut Random) -> Vec<u8> {
-    if random.one_in(10) {
+    if random.one_in(8) {
         return texts::file(random.pick(&texts::ALL).expect("a text"));
     }
     loop {
@@ -41,19 +42,31 @@ fn some_tables(random: &mut Random) -> (Tables, bool) {
 
 /// Other operations and expressions in some rows, whatever their types.
 fn misname(random: &mut Random, tables: &mut Tables) {
-    let (operations, expressions) = (tables.operations.len(), tables.expressions.len());
-    let operation_fields = random.one_in(2);
+    let expressions = tables.expressions.len();
+    let renames = random.one_in(2);
     for row in &mut tables.behaviours {
-        let field = match row.kind {
-            1..=4 if operation_fields => Some((0, operations)),
-            3 | 4 | 9 => Some((1, expressions)),
-            5 | 6 => Some((0, expressions)),
-            _ => None,
-        };
-        if let Some((field, count)) = field.filter(|_| random.one_in(3)) {
-            row.fields[field] = random.below(count) as u16;
+        if !random.one_in(3) {
+            continue;
+        }
+        match row.kind {
+            1..=4 if renames => row.fields[0] = other_operation(random, &tables.operations, row.fields[0]),
+            3 | 4 | 9 => row.fields[1] = random.below(expressions) as u16,
+            5 | 6 => row.fields[0] = random.below(expressions) as u16,
+            _ => {}
         }
     }
+}
+
+/// Any operation, or one of the same service and direction.
+fn other_operation(random: &mut Random, operations: &[OperationRow], row: u16) -> u16 {
+    let now = &operations[usize::from(row)];
+    let any = random.one_in(3);
+    let alike = |row: &usize| {
+        let other = &operations[*row];
+        any || (other.service, other.direction) == (now.service, now.direction)
+    };
+    let rows: Vec<usize> = (0..operations.len()).filter(alike).collect();
+    random.pick(&rows).map_or(row, |&row| row as u16)
 }
 
 /// Paths of four steps, at which a message of four levels is too deep.
