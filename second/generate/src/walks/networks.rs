@@ -11,7 +11,7 @@ use crate::random::Random;
 
 /// A file that passes 2 to 5; most are accepted.
 pub fn file(random: &mut Random) -> Vec<u8> {
-    if random.one_in(8) {
+    if random.one_in(7) {
         return texts::file(random.pick(&texts::ALL).expect("a text"));
     }
     loop {

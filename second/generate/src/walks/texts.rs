@@ -78,7 +78,27 @@ pub const DEEP: &str = "
         client { receive 3 into 7; answer 4 into 8.8.8 do nil reply 7 }
     }";
 
-pub const ALL: [&str; 3] = [TALK, ITSELF, DEEP];
+/// Values that are worked out and sent, inside and outside, for ever.
+pub const SUMS: &str = "
+    location a = 1 location out = 100
+    type Long = long
+    type Flag = bool
+    service a {
+        input 3: Long
+        output 3 to a: Long
+        output 4 to out: Flag
+        output 5 to out: Flag -> Long
+        client {
+            set 5 = long 1; set 6 = true; set 7 = long 0;
+            while 6 do {
+                send 3 to a with 5 + 7;
+                parallel { send 4 to out with not 6 } { receive 3 into 7 };
+                ask 5 to out with 5 < 7 and 6 into 5
+            }
+        }
+    }";
+
+pub const ALL: [&str; 4] = [TALK, ITSELF, DEEP, SUMS];
 
 /// The file of one of the texts.
 pub fn file(text: &str) -> Vec<u8> {
@@ -90,8 +110,8 @@ mod tests {
     use super::*;
 
     #[test]
-    fn two_are_accepted() {
+    fn all_but_one_are_accepted() {
         let number = |text: &str| second::check(&file(text)).map_or_else(|refusal| refusal.number, |_| 0);
-        assert_eq!(ALL.map(number), [0, 0, 12]);
+        assert_eq!(ALL.map(number), [0, 0, 12, 0]);
     }
 }
