@@ -143,7 +143,12 @@ fn progress() {
             }
         }
     }
-    let past = ROWS + 6 * tables.behaviours.len();
+}
+
+#[test]
+fn progress_of_no_row_and_of_no_part() {
+    let mut run = run();
+    let past = ROWS + 6 * run.network().behaviours.len();
     assert_eq!(broken(&mut run, &[(past, 1)]), Some(Misshape::OtherRow));
     assert_eq!(broken(&mut run, &[(3951, 1)]), Some(Misshape::OtherRow));
     let undone = ROWS + 6 * usize::from(run.row(ANSWER, 0));

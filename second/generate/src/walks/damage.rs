@@ -33,13 +33,7 @@ pub fn state(random: &mut Random, network: &Network, state: &mut State) {
                 set_basic(random, node);
             }
         }
-        2 => {
-            let whole = random.one_in(2);
-            match some_node(random, &mut session.tree, false) {
-                Some(node) if !whole => node.children.truncate(random.below(2)),
-                _ => session.tree.children.truncate(random.below(2)),
-            }
-        }
+        2 => prune(random, &mut session.tree),
         3 => crowd(random, &mut session.tree),
         4 | 9 => {
             let sent = sent_paths(&rows, root, session);
@@ -50,6 +44,15 @@ pub fn state(random: &mut Random, network: &Network, state: &mut State) {
         5 | 6 => fill(random, network, service, session),
         7 => mark(random, &rows, root, session),
         _ => redirect(random, network, session),
+    }
+}
+
+/// Drops children of some node, or most roots.
+fn prune(random: &mut Random, tree: &mut Tree) {
+    let (whole, kept) = (random.one_in(2), random.below(2));
+    match some_node(random, tree, false) {
+        Some(node) if !whole => node.children.truncate(kept),
+        _ => tree.children.truncate(kept),
     }
 }
 

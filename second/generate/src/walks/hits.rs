@@ -3,9 +3,10 @@
 use std::collections::BTreeMap;
 use std::fmt;
 
-use second::network::Behaviour;
+use second::network::{Behaviour, Direction, Operation};
 use second::Network;
 use stepper::decode::decode;
+use stepper::state::{Destination, Progress};
 use stepper::{Bound, Event, Made, Misshape, Move, NotAllowed, Reason, Refused, State};
 
 use super::Call;
@@ -201,7 +202,6 @@ impl WalkHits {
     }
 
     fn made(&mut self, network: &Network, before: &State, named: &Move, event: Event) {
-        let two_way = |row: u16| matches!(network.behaviours[usize::from(row)], Behaviour::SolicitResponse { .. });
         match *named {
             Move::Close { service, session } => {
                 let queue = before.live(service.into(), session.into()).map_or(0, |session| session.queue.len());
@@ -209,35 +209,22 @@ impl WalkHits {
             }
             Move::Receive { service, session, row } => {
                 let oldest = before.live(service.into(), session.into()).and_then(|session| session.queue.first());
-                let operation = match network.behaviours[usize::from(row)] {
-                    Behaviour::OneWay { operation, .. } | Behaviour::RequestResponse { operation, .. } => operation,
-                    _ => return,
-                };
-                let later = oldest.is_some_and(|queued| queued.operation != operation);
+                let later = oldest.is_some_and(|queued| Some(queued.operation) != operation_of(network, row));
                 self.feature(later, "a message that is not the oldest taken");
             }
-            Move::Send { service, session, row, target } => {
-                let started = event == Event::Started;
-                self.feature(started && two_way(row), "a session started by a request of a service");
-                self.feature(started && !two_way(row), "a session started by a one-way of a service");
-                self.feature(event == Event::SentOutside && two_way(row), "a solicit-response sent outside");
-                let own = sends_to(network, row) == Some(usize::from(service)) && target == session;
-                self.feature(event == Event::Queued && own, "a session that sends to itself");
-            }
+            Move::Send { .. } => self.sent(network, named, event),
             Move::Reply { service, session, row } => {
-                let own = before.live(service.into(), session.into()).is_some_and(|live| {
-                    use stepper::state::{Destination::Row, Progress::Received};
-                    let here = (usize::from(service), usize::from(session));
-                    matches!(live.progress[usize::from(row)], Received(Row { service, session, .. })
-                        if (service, session) == here)
-                });
+                let here = (usize::from(service), usize::from(session));
+                let progress = before.live(here.0, here.1).map(|live| live.progress[usize::from(row)]);
+                let own = matches!(progress, Some(Progress::Received(Destination::Row { service, session, .. }))
+                    if (service, session) == here);
                 self.feature(own, "a session that answers itself");
             }
             Move::OuterMessage { service, id, .. } => {
-                let input = network.operations.iter().find(|row| {
-                    (row.service, row.id, row.direction) == (usize::from(service), id, second::network::Direction::In)
-                });
-                let two_way = input.is_some_and(|row| row.reply.is_some());
+                let named = |row: &&Operation| {
+                    (row.service, row.id, row.direction) == (usize::from(service), id, Direction::In)
+                };
+                let two_way = network.operations.iter().find(named).is_some_and(|row| row.reply.is_some());
                 self.feature(event == Event::Started && two_way, "a session started by a request from outside");
             }
             Move::Local { .. } | Move::OuterReply { .. } => {}
@@ -249,6 +236,18 @@ impl WalkHits {
         };
         self.feature(inside, "a choice or if settled inside a while");
     }
+
+    fn sent(&mut self, network: &Network, named: &Move, event: Event) {
+        let Move::Send { service, session, row, target } = *named else { return };
+        let two_way = matches!(network.behaviours[usize::from(row)], Behaviour::SolicitResponse { .. });
+        let started = event == Event::Started;
+        self.feature(started && two_way, "a session started by a request of a service");
+        self.feature(started && !two_way, "a session started by a one-way of a service");
+        self.feature(event == Event::SentOutside && two_way, "a solicit-response sent outside");
+        let location = operation_of(network, row).map(|operation| network.operations[operation].location);
+        let own = location == Some(network.services[usize::from(service)].location) && target == session;
+        self.feature(event == Event::Queued && own, "a session that sends to itself");
+    }
 }
 
 fn is_assign(file: &[u8], row: u16) -> bool {
@@ -256,15 +255,15 @@ fn is_assign(file: &[u8], row: u16) -> bool {
     matches!(network.behaviours[usize::from(row)], Behaviour::Assign { .. })
 }
 
-/// The service that an output row sends to.
-fn sends_to(network: &Network, row: u16) -> Option<usize> {
-    let (Behaviour::Notification { operation, .. } | Behaviour::SolicitResponse { operation, .. }) =
-        network.behaviours[usize::from(row)]
-    else {
-        return None;
-    };
-    let location = network.operations[operation].location;
-    network.services.iter().position(|service| service.location == location)
+/// The operation of a row that has one.
+fn operation_of(network: &Network, row: u16) -> Option<usize> {
+    match network.behaviours[usize::from(row)] {
+        Behaviour::OneWay { operation, .. }
+        | Behaviour::RequestResponse { operation, .. }
+        | Behaviour::Notification { operation, .. }
+        | Behaviour::SolicitResponse { operation, .. } => Some(operation),
+        _ => None,
+    }
 }
 
 fn in_a_while(network: &Network, row: u16) -> bool {
