@@ -123,12 +123,12 @@ pub fn walk(random: &mut Random, hits: &mut WalkHits, other: &dyn Side) -> Resul
         }
         walk.made(&call, state);
         if walk.from_fresh && random.one_in(16) {
-            sweep(&walk)?;
+            sweep(random, &walk)?;
         }
     }
     if walk.from_fresh {
         hits.feature(true, "a walk from fresh");
-        sweep(&walk)?;
+        sweep(random, &walk)?;
     }
     Ok(walk.moves)
 }
@@ -142,13 +142,14 @@ fn fresh(file: &[u8], size: usize, hits: &mut WalkHits, other: &dyn Side) -> Res
 }
 
 /// Every move that the state seems to allow, by the library.
-fn sweep(walk: &Walk) -> Result<(), String> {
-    match property::sweep(&walk.file, &walk.network, &walk.state) {
+fn sweep(random: &mut Random, walk: &Walk) -> Result<(), String> {
+    match property::sweep(random, &walk.file, &walk.network, &walk.state) {
         None => Ok(()),
-        Some((named, what)) => Err(format!(
-            "file {}\nstate {}\nmove {named:?}\nproperty 3: {what}\n",
+        Some((named, outside, what)) => Err(format!(
+            "file {}\nstate {}\nmove {named:?}\noutside {}\nproperty 3: {what}\n",
             hex(&walk.file),
-            hex_without_end(&walk.state)
+            hex_without_end(&walk.state),
+            hex(&outside)
         )),
     }
 }

@@ -1,5 +1,7 @@
 //! Walks reach everything that they count, and none from fresh breaks property 3.
 
+use generate::damage;
+use generate::walks::choose::any_move;
 use generate::walks::{property, Walk, WalkHits};
 use generate::Random;
 use stepper::decode::decode;
@@ -38,6 +40,37 @@ fn walk(random: &mut Random, hits: &mut WalkHits) {
     }
     if walk.from_fresh {
         hits.feature(true, "a walk from fresh");
-        assert_eq!(property::sweep(&walk.file, &walk.network, &walk.state), None);
+        assert_eq!(property::sweep(random, &walk.file, &walk.network, &walk.state), None);
     }
+}
+
+/// Whatever the bytes and numbers are, there is an answer, and a refused call changes nothing.
+#[test]
+fn any_bytes_are_answered() {
+    let mut random = Random::new(6);
+    let mut numbers = [0; 20];
+    for _ in 0..4000 {
+        let file = if random.one_in(3) { damage::odd_bytes(&mut random) } else { generate::file(&mut random) };
+        let size = if random.one_in(10) { random.below(70_000) } else { 65_536 };
+        let mut state = vec![0; size];
+        for _ in 0..random.below(6) {
+            let at = random.below(size.max(1));
+            state.iter_mut().skip(at).take(3).for_each(|byte| *byte = random.below(7) as u8);
+        }
+        let mut out = vec![9; random.between(500, 530)];
+        let named = match second::Network::read(&file) {
+            Ok(network) => any_move(&mut random, &network),
+            Err(_) => stepper::Move::Close { service: random.number(), session: random.number() },
+        };
+        let outside = generate::messages::message(&mut random).0;
+        let before = (state.clone(), out.clone());
+        match stepper::step(&file, &mut state, &mut out, &named, &outside) {
+            Ok(_) => numbers[0] += 1,
+            Err(refused) => {
+                numbers[usize::from(refused.number)] += 1;
+                assert!((state, out) == before, "{refused} changed a buffer");
+            }
+        }
+    }
+    assert!([1, 2, 4, 5, 14, 15].iter().all(|&number| numbers[number] > 5), "{numbers:?}");
 }

@@ -7,6 +7,8 @@ use stepper::rows::Rows;
 use stepper::{Move, State};
 
 use super::choose::Candidates;
+use super::outside::fitting;
+use crate::random::Random;
 
 /// Whether a result breaks property 3, for a call on a state from fresh.
 pub fn broken(network: &Network, state: &State, named: &Move, number: u32) -> Option<&'static str> {
@@ -34,16 +36,27 @@ fn ready_local(network: &Network, state: &State, named: &Move) -> bool {
     local && rows.ready(live, root).iter().any(|ready| ready.row == row)
 }
 
-/// Tries every move that a state from fresh seems to allow; the first that breaks property 3.
-pub fn sweep(file: &[u8], network: &Network, state: &[u8]) -> Option<(Move, &'static str)> {
+/// Tries every move that a state from fresh seems to allow, with messages that fit; the first that
+/// breaks property 3, with its message.
+pub fn sweep(
+    random: &mut Random,
+    file: &[u8],
+    network: &Network,
+    state: &[u8],
+) -> Option<(Move, Vec<u8>, &'static str)> {
     let decoded = decode(network, state).expect("a state of the file's shape");
-    for candidate in Candidates::of(network, &decoded).inner {
-        let mut after = state.to_vec();
-        let mut out = [0; 512];
-        let result = stepper::step(file, &mut after, &mut out, &candidate.named, &[]);
+    let candidates = Candidates::of(network, &decoded);
+    let mut tried: Vec<Move> = Vec::new();
+    for candidate in candidates.inner.iter().chain(&candidates.starts) {
+        if tried.contains(&candidate.named) {
+            continue;
+        }
+        tried.push(candidate.named);
+        let outside = candidate.type_row.map_or(Vec::new(), |row| fitting(random, network, row).bytes());
+        let result = stepper::step(file, &mut state.to_vec(), &mut [0; 512], &candidate.named, &outside);
         let number = result.map_or_else(|refused| refused.number.into(), |_| 0);
         if let Some(what) = broken(network, &decoded, &candidate.named, number) {
-            return Some((candidate.named, what));
+            return Some((candidate.named, outside, what));
         }
     }
     None
