@@ -278,7 +278,7 @@ fn a_row_with_a_wrong_operation_is_15() {
     let mut run = wrong(
         "service a { input 3: Int output 4 to b: Int client { send 4 to b with int 1 } } \
                          service b { input 4: Int -> Int input 5: Int starter choice { on receive 4 into 7 then nil \
-                         on receive 5 into 7 then nil } client { receive 4 into 6 } }",
+                         on receive 5 into 7 then nil on answer 4 into 7 do nil reply 7 then nil } client { receive 4 into 6 } }",
     );
     let send = Move::Send { service: 0, session: 0, row: run.row(SEND, 0), target: 0 };
     assert_eq!(run.refused(send, &[]), 15, "the input is two-way");
@@ -286,8 +286,44 @@ fn a_row_with_a_wrong_operation_is_15() {
     let receive = Move::Receive { service: 1, session: 0, row: run.row(RECEIVE, 2) };
     assert_eq!(run.refused(receive, &[]), 15);
     let start = |id| Move::OuterMessage { service: 1, id, target: 1, number: 0 };
-    assert_eq!(run.refused(start(4), &leaf(int(1))), 15, "the branch receives what is to be answered");
+    assert_eq!(run.refused(start(4), &leaf(int(1))), 15, "the first branch of 4 receives what is to be answered");
     assert_eq!(run.make(start(5), &leaf(int(1))), []);
+}
+
+/// The same for rows that send, answer and wait: the operation's service, direction or kind is wrong.
+#[test]
+fn every_row_of_a_move_has_its_own_operation() {
+    let mut run = run("service a { input 3: Int -> Int output 3 to b: Int -> Int output 4 to b: Int \
+                       output 5 to out: Int -> Int client { ask 3 to b with int 1 into 5; send 4 to b with int 2; \
+                       ask 5 to out with int 3 into 6 } } \
+                       service b { input 3: Int -> Int input 4: Int output 4 to out: Int \
+                       client answer 3 into 7 do nil reply 7 }");
+    // Operations: 0 to 3 are those of a, 4 to 6 those of b.
+    let (asks, send, answer) = (run.rows(ASK), run.row(SEND, 0), run.row(ANSWER, 0));
+    let right = run.file.clone();
+    let all_wrong = |run: &mut Run, row: u16, operations: &[u16], named: Move, outside: &[u8]| {
+        for &operation in operations {
+            run.rename(row, operation);
+            assert_eq!(run.refused(named, outside), 15, "{named:?} with operation {operation}");
+            run.file = right.clone();
+        }
+    };
+    let first = Move::Send { service: 0, session: 0, row: asks[0], target: 0 };
+    all_wrong(&mut run, asks[0], &[0, 2, 4, 5, 6], first, &[]);
+    run.make(first, &[]);
+    run.receive(1, 0, answer);
+    let reply = Move::Reply { service: 1, session: 0, row: answer };
+    all_wrong(&mut run, answer, &[0, 1, 5, 6], reply, &[]);
+    all_wrong(&mut run, asks[0], &[0, 2, 4, 5, 6], reply, &[]);
+    run.make(reply, &[]);
+    let second = Move::Send { service: 0, session: 0, row: send, target: 0 };
+    all_wrong(&mut run, send, &[0, 1, 3, 4, 5, 6], second, &[]);
+    run.make(second, &[]);
+    run.send(0, 0, asks[1], 0);
+    let outer = Move::OuterReply { service: 0, session: 0, row: asks[1] };
+    all_wrong(&mut run, asks[1], &[0, 1, 2, 4, 5, 6], outer, &leaf(int(1)));
+    run.make(outer, &leaf(int(1)));
+    run.close(0, 0);
 }
 
 #[test]

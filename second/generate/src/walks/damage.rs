@@ -27,7 +27,7 @@ pub fn state(random: &mut Random, network: &Network, state: &mut State) {
     let rows = Rows::of(network);
     let Some(root) = rows.root(service, number) else { return };
     let Some(session) = state.live_mut(service, number) else { return };
-    match random.below(10) {
+    match random.below(13) {
         0 | 1 => {
             if let Some(node) = some_node(random, &mut session.tree, false) {
                 set_basic(random, node);
@@ -42,7 +42,8 @@ pub fn state(random: &mut Random, network: &Network, state: &mut State) {
             grow(random, &paths, &mut session.tree);
         }
         5 | 6 => fill(random, network, service, session),
-        7 => mark(random, &rows, root, session),
+        7 => mark(random, &rows, &own_rows(&rows, root), session),
+        10..=12 => early(random, &rows, root, session),
         _ => redirect(random, network, session),
     }
 }
@@ -150,18 +151,39 @@ fn fill(random: &mut Random, network: &Network, service: usize, session: &mut Se
     }
 }
 
-/// Progress of some rows that suits their kinds.
-fn mark(random: &mut Random, rows: &Rows, root: usize, session: &mut Session) {
-    let mut own = rows.below(root);
-    own.push(root);
+fn own_rows(rows: &Rows, root: usize) -> Vec<usize> {
+    [&[root][..], &rows.below(root)].concat()
+}
+
+/// Marks before their time: a choice taken without its input, an input received without its choice,
+/// rows below a while that is not entered.
+fn early(random: &mut Random, rows: &Rows, root: usize, session: &mut Session) {
+    let ready = rows.ready(session, root);
+    let settling: Vec<_> = ready.iter().filter_map(|ready| Some((ready.row, ready.settles?))).collect();
+    let is_while = |row: &usize| matches!(rows.network.behaviours[*row], Behaviour::While { .. });
+    let whiles: Vec<usize> = ready.iter().map(|ready| ready.row).filter(is_while).collect();
+    if let Some(&row) = random.pick(&whiles) {
+        mark(random, rows, &rows.below(row), session);
+    }
+    let Some(&(input, (choice, branch))) = random.pick(&settling) else { return };
+    match rows.network.behaviours[input] {
+        _ if random.one_in(3) => session.progress[choice] = Progress::Taken(branch),
+        Behaviour::RequestResponse { .. } => {
+            session.progress[input] = Progress::Received(some_destination(random, rows.network));
+        }
+        _ => session.progress[choice] = Progress::Taken(branch),
+    }
+}
+
+/// Progress of some of the rows that suits their kinds.
+fn mark(random: &mut Random, rows: &Rows, own: &[usize], session: &mut Session) {
     for _ in 0..random.between(1, 4) {
-        let Some(&row) = random.pick(&own) else { return };
+        let Some(&row) = random.pick(own) else { return };
         let network = rows.network;
         let choices = match &network.behaviours[row] {
             Behaviour::OneWay { .. } | Behaviour::Notification { .. } | Behaviour::Assign { .. } => {
                 vec![Progress::Done]
             }
-            Behaviour::RequestResponse { .. } if network.behaviours.is_empty() => Vec::new(),
             Behaviour::RequestResponse { .. } => {
                 let received = Progress::Received(some_destination(random, network));
                 vec![Progress::Done, received, received]

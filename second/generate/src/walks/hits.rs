@@ -6,6 +6,7 @@ use std::fmt;
 use second::network::{Behaviour, Direction, Operation};
 use second::Network;
 use stepper::decode::decode;
+use stepper::rows::{parts, Rows};
 use stepper::state::{Destination, Progress};
 use stepper::{Bound, Event, Made, Misshape, Move, NotAllowed, Reason, Refused, State};
 
@@ -85,7 +86,7 @@ const FITS: [(&str, &[Reason]); 4] = {
     ]
 };
 
-const FEATURES: [&str; 12] = [
+const FEATURES: [&str; 16] = [
     "a walk from fresh",
     "a move from fresh",
     "a move on a file that 6 to 13 refuse",
@@ -98,6 +99,10 @@ const FEATURES: [&str; 12] = [
     "a session started by a request from outside",
     "a solicit-response sent outside",
     "a choice or if settled inside a while",
+    "an input received in a branch that was taken before",
+    "a move in the body of an input whose choice is not taken",
+    "a reply of a row below one that is not taken",
+    "a while's body taken over rows with marks",
 ];
 
 impl Default for WalkHits {
@@ -235,6 +240,43 @@ impl WalkHits {
             _ => false,
         };
         self.feature(inside, "a choice or if settled inside a while");
+        self.oddities(network, before, named, event);
+    }
+
+    /// Moves that only damaged states allow.
+    fn oddities(&mut self, network: &Network, before: &State, named: &Move, event: Event) {
+        let (Move::Local { service, session, row }
+        | Move::Receive { service, session, row }
+        | Move::Send { service, session, row, .. }
+        | Move::Reply { service, session, row }
+        | Move::OuterReply { service, session, row }) = *named
+        else {
+            return;
+        };
+        let Some(live) = before.live(service.into(), session.into()) else { return };
+        let rows = Rows::of(network);
+        let row = usize::from(row);
+        let inputs = |choice: &Behaviour| -> Vec<usize> {
+            parts(choice).into_iter().filter_map(|branch| parts(&network.behaviours[branch]).first().copied()).collect()
+        };
+        let choices = || (0..network.behaviours.len()).filter(|&row| is_choice(&network.behaviours[row]));
+        let is_input = choices().any(|choice| inputs(&network.behaviours[choice]).contains(&row));
+        self.feature(event == Event::Received && is_input, "an input received in a branch that was taken before");
+        let early = choices().any(|choice| {
+            live.progress[choice] == Progress::Undone
+                && inputs(&network.behaviours[choice]).iter().any(|&input| rows.below(input).contains(&row))
+        });
+        let is_reply = matches!(named, Move::Reply { .. });
+        let ready = !matches!(named, Move::Reply { .. } | Move::OuterReply { .. });
+        self.feature(early && ready, "a move in the body of an input whose choice is not taken");
+        let untaken = (0..network.behaviours.len()).any(|above| {
+            takes_a_part(&network.behaviours[above])
+                && !matches!(live.progress[above], Progress::Taken(_))
+                && rows.below(above).contains(&row)
+        });
+        self.feature(is_reply && untaken, "a reply of a row below one that is not taken");
+        let marked = rows.below(row).iter().any(|&below| live.progress[below] != Progress::Undone);
+        self.feature(event == Event::BodyTaken && marked, "a while's body taken over rows with marks");
     }
 
     fn sent(&mut self, network: &Network, named: &Move, event: Event) {
@@ -248,6 +290,14 @@ impl WalkHits {
         let own = location == Some(network.services[usize::from(service)].location) && target == session;
         self.feature(event == Event::Queued && own, "a session that sends to itself");
     }
+}
+
+fn is_choice(behaviour: &Behaviour) -> bool {
+    matches!(behaviour, Behaviour::Choice { .. })
+}
+
+fn takes_a_part(behaviour: &Behaviour) -> bool {
+    matches!(behaviour, Behaviour::If { .. } | Behaviour::While { .. } | Behaviour::Choice { .. })
 }
 
 fn is_assign(file: &[u8], row: u16) -> bool {
@@ -267,7 +317,7 @@ fn operation_of(network: &Network, row: u16) -> Option<usize> {
 }
 
 fn in_a_while(network: &Network, row: u16) -> bool {
-    let rows = stepper::rows::Rows::of(network);
+    let rows = Rows::of(network);
     (0..network.behaviours.len()).any(|above| {
         matches!(network.behaviours[above], Behaviour::While { .. }) && rows.below(above).contains(&row.into())
     })

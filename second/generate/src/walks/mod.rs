@@ -50,7 +50,7 @@ impl Walk {
         let mut state = vec![0; STATE];
         encode(&State::fresh(&network), &mut state);
         let from_fresh = second::check(&file).is_ok();
-        let damage = if random.one_in(2) { 0 } else { random.between(20, 200) };
+        let damage = if random.one_in(2) { 0 } else { random.between(50, 300) };
         Walk { file, network, state, from_fresh, damage, moves: random.between(30, 100) }
     }
 
@@ -69,7 +69,7 @@ impl Walk {
             0 => named = choose::any_move(random, &self.network),
             1 | 2 => named = choose::astray(random, &self.network, named),
             3 => named = choose::of_other_kind(random, named),
-            4 => named = choose::own_row(random, &self.network, &state).unwrap_or(named),
+            4 | 5 => named = choose::own_row(random, &self.network, &state).unwrap_or(named),
             _ => {}
         }
         let mut call = Call {

@@ -59,6 +59,13 @@ impl Run {
         self.rows(kind)[number]
     }
 
+    /// Gives a row another operation.
+    pub fn rename(&mut self, row: u16, operation: u16) {
+        let (mut tables, _) = Tables::read(&self.file).expect("a file");
+        tables.behaviours[usize::from(row)].fields[0] = operation;
+        self.file = tables.write();
+    }
+
     pub fn try_move(&mut self, named: Move, outside: &[u8]) -> Result<Made, Refused> {
         let before = (self.state.clone(), self.out.clone());
         let result = stepper::step(&self.file, &mut self.state, &mut self.out, &named, outside);
