@@ -287,7 +287,7 @@ pub fn bytes(random: &mut Random, network: &Network, state: &State, bytes: &mut 
         3 => sleeper(random, bytes),
         4 => tree(random, &mut bytes[start..start + SLOT]),
         5 => entry(random, &mut bytes[start + ENTRIES..start + ROWS]),
-        6 | 7 => queued(random, network, service, state, (service, number), bytes),
+        6 | 7 => queued(random, network, state, (service, number), bytes),
         8 => row(random, network, &mut bytes[start + ROWS..start + ROWS_END]),
         9 => part(random, network, &mut bytes[start + ROWS..start + ROWS_END]),
         _ => destination(random, network, &mut bytes[start + ROWS..start + ROWS_END]),
@@ -343,14 +343,7 @@ fn entry(random: &mut Random, queue: &mut [u8]) {
 }
 
 /// A right queue with one field of an entry wrong.
-fn queued(
-    random: &mut Random,
-    network: &Network,
-    service: usize,
-    state: &State,
-    (_, number): (usize, usize),
-    bytes: &mut [u8],
-) {
+fn queued(random: &mut Random, network: &Network, state: &State, (service, number): (usize, usize), bytes: &mut [u8]) {
     let mut state = state.clone();
     let Some(session) = state.live_mut(service, number) else { return };
     fill(random, network, service, session);
