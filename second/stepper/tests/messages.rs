@@ -246,6 +246,20 @@ fn what_does_not_fit_is_19() {
     assert_eq!(run.reply(1, 0, answer).len(), 4 + 9);
 }
 
+/// 18 comes before 19: the value sent is worked out first.
+#[test]
+fn what_can_not_be_worked_out_is_18() {
+    for expression in ["int 1 + long 1", "not 9", "9.1 + int 1", "- true"] {
+        let mut run = wrong(&format!(
+            "service a {{ output 3 to b: Int output 4 to out: Int client {{ parallel {{ send 3 to b with {expression} }} \
+             {{ send 4 to out with {expression} }} }} }} service b {{ input 3: Int client nil }}"
+        ));
+        for row in run.rows(SEND) {
+            assert_eq!(run.refused(Move::Send { service: 0, session: 0, row, target: 0 }, &[]), 18, "{expression}");
+        }
+    }
+}
+
 /// 18 for trees that would pass 48 nodes or 6 levels: by a receive, a start, a reply.
 #[test]
 fn what_would_be_too_large_is_18() {

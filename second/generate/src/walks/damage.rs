@@ -277,6 +277,8 @@ pub fn bytes(random: &mut Random, network: &Network, state: &State, bytes: &mut 
     let live = live_sessions(state);
     let Some(&(service, number)) = random.pick(&live) else { return any_byte(random, bytes) };
     let start = slot(service, number);
+    let rows = Rows::of(network);
+    let own = rows.root(service, number).map_or(Vec::new(), |root| own_rows(&rows, root));
     match random.below(11) {
         0 => any_byte(random, bytes),
         1 => bytes[start] = *random.pick(&[0, 2, 255]).expect("three"),
@@ -289,8 +291,8 @@ pub fn bytes(random: &mut Random, network: &Network, state: &State, bytes: &mut 
         5 => entry(random, &mut bytes[start + ENTRIES..start + ROWS]),
         6 | 7 => queued(random, network, state, (service, number), bytes),
         8 => row(random, network, &mut bytes[start + ROWS..start + ROWS_END]),
-        9 => part(random, network, &mut bytes[start + ROWS..start + ROWS_END]),
-        _ => destination(random, network, &mut bytes[start + ROWS..start + ROWS_END]),
+        9 => part(random, network, &own, &mut bytes[start + ROWS..start + ROWS_END]),
+        _ => destination(random, network, &own, &mut bytes[start + ROWS..start + ROWS_END]),
     }
 }
 
@@ -347,10 +349,11 @@ fn queued(random: &mut Random, network: &Network, state: &State, (service, numbe
     let mut state = state.clone();
     let Some(session) = state.live_mut(service, number) else { return };
     fill(random, network, service, session);
+    let Some(first) = session.queue.first().map(|queued| queued.operation) else { return };
     encode(&state, bytes);
     let start = slot(service, number) + ENTRIES;
     let (at, byte) = match random.below(6) {
-        0 => (0, random.between(1, 66) as u8),
+        0 => (0, other_operation(random, network, first) as u8 + 1),
         1 => (1, random.between(0, 3) as u8),
         2 => (2, random.byte()),
         3 => (4 + random.below(4), random.byte()),
@@ -358,6 +361,17 @@ fn queued(random: &mut Random, network: &Network, state: &State, (service, numbe
         _ => (random.between(300, ENTRY - 1), 1),
     };
     bytes[start + at] = byte;
+}
+
+/// Another operation of the same kind, of any service and direction; or one past the last.
+fn other_operation(random: &mut Random, network: &Network, operation: usize) -> usize {
+    let two_way = |row: usize| network.operations[row].reply.is_some();
+    let rows = 0..network.operations.len();
+    let alike: Vec<usize> = rows.filter(|&row| row != operation && two_way(row) == two_way(operation)).collect();
+    match random.pick(&alike) {
+        Some(&row) if !random.one_in(4) => row,
+        _ => network.operations.len() + random.below(2),
+    }
 }
 
 /// Any progress of any row, of no row too.
@@ -372,25 +386,30 @@ fn row(random: &mut Random, network: &Network, rows: &mut [u8]) {
 }
 
 /// A part that the row may not have.
-fn part(random: &mut Random, network: &Network, rows: &mut [u8]) {
-    let compound = |row: &usize| {
-        let behaviour = &network.behaviours[*row];
-        matches!(behaviour, Behaviour::If { .. } | Behaviour::While { .. } | Behaviour::Choice { .. })
+fn part(random: &mut Random, network: &Network, own: &[usize], rows: &mut [u8]) {
+    let parts_of = |row: usize| match &network.behaviours[row] {
+        Behaviour::If { .. } => 2,
+        Behaviour::While { .. } => 1,
+        Behaviour::Choice { branches } => branches.len(),
+        _ => 0,
     };
-    let compounds: Vec<usize> = (0..network.behaviours.len()).filter(compound).collect();
+    let compounds: Vec<usize> = own.iter().copied().filter(|&row| parts_of(row) > 0).collect();
     if let Some(&row) = random.pick(&compounds) {
-        rows[ROW * row..ROW * row + 2].copy_from_slice(&[3, random.below(10) as u8]);
+        let past = parts_of(row) + random.below(2);
+        rows[ROW * row..ROW * row + 2].copy_from_slice(&[3, past as u8]);
     }
 }
 
-/// A received row whose destination is out of range.
-fn destination(random: &mut Random, network: &Network, rows: &mut [u8]) {
+/// A received row whose destination is at the end of a range or just past it.
+fn destination(random: &mut Random, network: &Network, own: &[usize], rows: &mut [u8]) {
     let received = |row: &usize| matches!(network.behaviours[*row], Behaviour::RequestResponse { .. });
-    let answers: Vec<usize> = (0..network.behaviours.len()).filter(received).collect();
-    if let Some(&row) = random.pick(&answers) {
-        let past = network.behaviours.len() as u16 + random.below(2) as u16;
-        let [low, high] = past.saturating_sub(1).to_le_bytes();
-        let bytes = [5, 0, random.below(5) as u8, random.below(6) as u8, low, high];
-        rows[ROW * row..ROW * row + ROW].copy_from_slice(&bytes);
+    let answers: Vec<usize> = own.iter().copied().filter(received).collect();
+    let Some(&row) = random.pick(&answers) else { return };
+    let mut numbers = [network.services.len() - 1, SESSIONS - 1, network.behaviours.len() - 1];
+    if !random.one_in(4) {
+        numbers[random.below(3)] += 1;
     }
+    let [low, high] = (numbers[2] as u16).to_le_bytes();
+    let bytes = [5, 0, numbers[0] as u8, numbers[1] as u8, low, high];
+    rows[ROW * row..ROW * row + ROW].copy_from_slice(&bytes);
 }
