@@ -100,3 +100,27 @@ fn moves_try_1_to_5_and_not_6_to_13() {
     run.local(0, 0, second);
     assert_eq!(run.value(0, 0, &[5]), Some(second::Value::Bool(true)));
 }
+
+/// The bytes of a queue entry and of a received row, by the tables of docs/STATE.md.
+#[test]
+fn bytes_of_a_queue_entry_and_of_a_destination() {
+    let mut run = Run::new(
+        "location a = 1 location b = 2 type Int = int \
+         service a { input 8: Int input 9: Int -> Int client answer 9 into 5 do nil reply 5 } \
+         service b { output 9 to a: Int -> Int client ask 9 to a with int 7 into 6 }",
+    );
+    let (ask, answer) = (run.row(ASK, 0), run.row(ANSWER, 0));
+    run.send(1, 0, ask, 0);
+    let mut entry = vec![2, 2, 9, 0, 1, 0, ask as u8, 0];
+    entry.extend([0, 0, 1, 0, 4, 7, 0, 0, 0]);
+    assert_eq!(run.state[1_040..1_040 + 17], entry);
+    assert_eq!(run.state[16_384 + 2_416 + 6 * usize::from(ask)..][..6], [2, 0, 0, 0, 0, 0]);
+    run.make(Move::OuterMessage { service: 0, id: 9, target: 0, number: 0x0403_0201 }, &entry[8..]);
+    assert_eq!(run.state[1_384..1_384 + 8], [2, 1, 9, 0, 1, 2, 3, 4]);
+    run.receive(0, 0, answer);
+    assert_eq!(run.state[2_416 + 6 * usize::from(answer)..][..6], [5, 0, 1, 0, ask as u8, 0]);
+    assert_eq!(run.state[1_040..1_040 + 8], [2, 1, 9, 0, 1, 2, 3, 4]);
+    assert!(run.state[1_384..2_416].iter().all(|&byte| byte == 0));
+    run.reply(0, 0, answer);
+    assert_eq!(run.state[2_416 + 6 * usize::from(answer)..][..6], [1, 0, 0, 0, 0, 0]);
+}
