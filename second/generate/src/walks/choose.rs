@@ -65,8 +65,9 @@ impl<'a> Candidates<'a> {
     }
 
     fn session(&mut self, running: Running) {
-        for ready in self.rows.ready(running.session, running.root) {
-            self.ready(running, ready.row);
+        let ready: Vec<usize> = self.rows.ready(running.session, running.root).iter().map(|ready| ready.row).collect();
+        for &row in &ready {
+            self.ready(running, row);
         }
         let (service, session) = (running.service as u16, running.number as u16);
         for row in 0..running.session.progress.len() {
@@ -75,6 +76,12 @@ impl<'a> Candidates<'a> {
                 (Progress::Received(_), Behaviour::RequestResponse { body, .. }) => {
                     if self.rows.done(running.session, *body) {
                         self.push(Move::Reply { service, session, row: number });
+                    }
+                    // Rows that would be ready if this one were reached.
+                    for inner in self.rows.ready(running.session, *body) {
+                        if !ready.contains(&inner.row) {
+                            self.ready(running, inner.row);
+                        }
                     }
                 }
                 (Progress::Waiting, Behaviour::SolicitResponse { operation, .. }) => {

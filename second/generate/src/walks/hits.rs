@@ -7,7 +7,7 @@ use second::network::{Behaviour, Direction, Operation};
 use second::Network;
 use stepper::decode::decode;
 use stepper::rows::{parts, Rows};
-use stepper::state::{Destination, Progress};
+use stepper::state::{Destination, Progress, Session};
 use stepper::{Bound, Event, Made, Misshape, Move, NotAllowed, Reason, Refused, State};
 
 use super::Call;
@@ -100,7 +100,7 @@ const FEATURES: [&str; 16] = [
     "a solicit-response sent outside",
     "a choice or if settled inside a while",
     "an input received in a branch that was taken before",
-    "a move in the body of an input whose choice is not taken",
+    "a row named in the body of an input whose choice is not taken",
     "a reply of a row below one that is not taken",
     "a while's body taken over rows with marks",
 ];
@@ -173,19 +173,39 @@ impl WalkHits {
     /// A call by the second implementation and its result.
     pub fn call(&mut self, call: &Call, result: &Result<Made, Refused>) {
         let kind = kind(&call.named);
+        let read = || {
+            let network = Network::read(&call.file).expect("a file that passes 2 to 5");
+            let state = decode(&network, &call.state).expect("a state of the file's shape");
+            (network, state)
+        };
         match result {
             Ok(made) => {
                 self.hit(format!("{kind}  0"));
                 self.hit(format!("{kind}  0 {:?}", made.event));
-                let network = Network::read(&call.file).expect("a file of a move that was made");
-                let state = decode(&network, &call.state).expect("the state of a move that was made");
+                let (network, state) = read();
                 self.made(&network, &state, &call.named, made.event);
+                self.early(&network, &state, &call.named);
             }
             Err(refused) => {
                 self.hit(format!("{kind} {:2}", refused.number));
                 self.refused(call, kind, refused);
+                if refused.reason == Reason::NotAllowed(NotAllowed::NotReady) {
+                    let (network, state) = read();
+                    self.early(&network, &state, &call.named);
+                }
             }
         }
+    }
+
+    /// A row that nothing keeps from being ready but that the choice above it is not taken.
+    fn early(&mut self, network: &Network, before: &State, named: &Move) {
+        let Some((live, row)) = session_and_row(before, named) else { return };
+        let rows = Rows::of(network);
+        let early = network.behaviours.iter().enumerate().any(|(choice, behaviour)| {
+            let untaken = is_choice(behaviour) && live.progress[choice] == Progress::Undone;
+            untaken && inputs(network, behaviour).iter().any(|&input| in_received_body(&rows, live, input, row))
+        });
+        self.feature(early, "a row named in the body of an input whose choice is not taken");
     }
 
     fn refused(&mut self, call: &Call, kind: &str, refused: &Refused) {
@@ -245,30 +265,12 @@ impl WalkHits {
 
     /// Moves that only damaged states allow.
     fn oddities(&mut self, network: &Network, before: &State, named: &Move, event: Event) {
-        let (Move::Local { service, session, row }
-        | Move::Receive { service, session, row }
-        | Move::Send { service, session, row, .. }
-        | Move::Reply { service, session, row }
-        | Move::OuterReply { service, session, row }) = *named
-        else {
-            return;
-        };
-        let Some(live) = before.live(service.into(), session.into()) else { return };
+        let Some((live, row)) = session_and_row(before, named) else { return };
         let rows = Rows::of(network);
-        let row = usize::from(row);
-        let inputs = |choice: &Behaviour| -> Vec<usize> {
-            parts(choice).into_iter().filter_map(|branch| parts(&network.behaviours[branch]).first().copied()).collect()
-        };
         let choices = || (0..network.behaviours.len()).filter(|&row| is_choice(&network.behaviours[row]));
-        let is_input = choices().any(|choice| inputs(&network.behaviours[choice]).contains(&row));
+        let is_input = choices().any(|choice| inputs(network, &network.behaviours[choice]).contains(&row));
         self.feature(event == Event::Received && is_input, "an input received in a branch that was taken before");
-        let early = choices().any(|choice| {
-            live.progress[choice] == Progress::Undone
-                && inputs(&network.behaviours[choice]).iter().any(|&input| rows.below(input).contains(&row))
-        });
         let is_reply = matches!(named, Move::Reply { .. });
-        let ready = !matches!(named, Move::Reply { .. } | Move::OuterReply { .. });
-        self.feature(early && ready, "a move in the body of an input whose choice is not taken");
         let untaken = (0..network.behaviours.len()).any(|above| {
             takes_a_part(&network.behaviours[above])
                 && !matches!(live.progress[above], Progress::Taken(_))
@@ -290,6 +292,30 @@ impl WalkHits {
         let own = location == Some(network.services[usize::from(service)].location) && target == session;
         self.feature(event == Event::Queued && own, "a session that sends to itself");
     }
+}
+
+/// The live session and the row that a move names.
+fn session_and_row<'a>(state: &'a State, named: &Move) -> Option<(&'a Session, usize)> {
+    let (Move::Local { service, session, row }
+    | Move::Receive { service, session, row }
+    | Move::Send { service, session, row, .. }
+    | Move::Reply { service, session, row }
+    | Move::OuterReply { service, session, row }) = *named
+    else {
+        return None;
+    };
+    Some((state.live(service.into(), session.into())?, row.into()))
+}
+
+/// The input rows of a choice.
+fn inputs(network: &Network, choice: &Behaviour) -> Vec<usize> {
+    parts(choice).into_iter().filter_map(|branch| parts(&network.behaviours[branch]).first().copied()).collect()
+}
+
+/// Whether a row would be ready in the body of an input that is marked as received.
+fn in_received_body(rows: &Rows, live: &Session, input: usize, row: usize) -> bool {
+    let Behaviour::RequestResponse { body, .. } = rows.network.behaviours[input] else { return false };
+    matches!(live.progress[input], Progress::Received(_)) && rows.ready(live, body).iter().any(|ready| ready.row == row)
 }
 
 fn is_choice(behaviour: &Behaviour) -> bool {
