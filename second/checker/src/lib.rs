@@ -2,7 +2,7 @@
 //!
 //! `check` gives the environments of an accepted network file or its refusal, `part` the encoding
 //! of a message's child. A file goes through `tables` (refusals 2 and 3), `network` (4 and 5) and
-//! `typing` (6 to 13); a stepper would start from `Network` as `typing` does.
+//! `typing` (6 to 13); the stepper starts from `Network` as `typing` does.
 
 pub mod environment;
 pub mod message;

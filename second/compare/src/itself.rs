@@ -3,7 +3,10 @@
 use std::ops::Range;
 use std::slice;
 
+use stepper::Move;
+
 use crate::interface::{record, Interface, RECORD};
+use crate::moves::{Moves, StepAnswer};
 use crate::{Answer, Second, Side};
 
 unsafe extern "C" fn check(file: *const u8, length: usize, place: *mut usize) -> u32 {
@@ -40,6 +43,170 @@ unsafe extern "C" fn part(
 
 const INTERFACE: Interface = Interface { check, environments, part };
 
+/// What every move is given.
+struct Given {
+    file: (*const u8, usize),
+    state: (*mut u8, usize),
+    out: (*mut u8, usize),
+    bytes: *mut usize,
+    place: *mut usize,
+}
+
+/// Makes a move by the library.
+unsafe fn make(given: Given, outside: &[u8], named: Move) -> u32 {
+    let file = unsafe { slice::from_raw_parts(given.file.0, given.file.1) };
+    let state = unsafe { slice::from_raw_parts_mut(given.state.0, given.state.1) };
+    let out = unsafe { slice::from_raw_parts_mut(given.out.0, given.out.1) };
+    let answer = Second.step(file, state, out, &named, outside);
+    unsafe {
+        *given.bytes = answer.bytes;
+        *given.place = answer.place;
+    }
+    answer.number
+}
+
+unsafe extern "C" fn fresh(
+    file: *const u8,
+    length: usize,
+    state: *mut u8,
+    state_size: usize,
+    place: *mut usize,
+) -> u32 {
+    let file = unsafe { slice::from_raw_parts(file, length) };
+    let state = unsafe { slice::from_raw_parts_mut(state, state_size) };
+    let answer = Second.fresh(file, state);
+    unsafe { *place = answer.place };
+    answer.number
+}
+
+unsafe extern "C" fn local(
+    file: *const u8,
+    length: usize,
+    state: *mut u8,
+    state_size: usize,
+    out: *mut u8,
+    out_size: usize,
+    service: u16,
+    session: u16,
+    row: u16,
+    bytes: *mut usize,
+    place: *mut usize,
+) -> u32 {
+    let given = Given { file: (file, length), state: (state, state_size), out: (out, out_size), bytes, place };
+    unsafe { make(given, &[], Move::Local { service, session, row }) }
+}
+
+unsafe extern "C" fn receive(
+    file: *const u8,
+    length: usize,
+    state: *mut u8,
+    state_size: usize,
+    out: *mut u8,
+    out_size: usize,
+    service: u16,
+    session: u16,
+    row: u16,
+    bytes: *mut usize,
+    place: *mut usize,
+) -> u32 {
+    let given = Given { file: (file, length), state: (state, state_size), out: (out, out_size), bytes, place };
+    unsafe { make(given, &[], Move::Receive { service, session, row }) }
+}
+
+unsafe extern "C" fn send(
+    file: *const u8,
+    length: usize,
+    state: *mut u8,
+    state_size: usize,
+    out: *mut u8,
+    out_size: usize,
+    service: u16,
+    session: u16,
+    row: u16,
+    target: u16,
+    bytes: *mut usize,
+    place: *mut usize,
+) -> u32 {
+    let given = Given { file: (file, length), state: (state, state_size), out: (out, out_size), bytes, place };
+    unsafe { make(given, &[], Move::Send { service, session, row, target }) }
+}
+
+unsafe extern "C" fn reply(
+    file: *const u8,
+    length: usize,
+    state: *mut u8,
+    state_size: usize,
+    out: *mut u8,
+    out_size: usize,
+    service: u16,
+    session: u16,
+    row: u16,
+    bytes: *mut usize,
+    place: *mut usize,
+) -> u32 {
+    let given = Given { file: (file, length), state: (state, state_size), out: (out, out_size), bytes, place };
+    unsafe { make(given, &[], Move::Reply { service, session, row }) }
+}
+
+unsafe extern "C" fn outer_message(
+    file: *const u8,
+    length: usize,
+    state: *mut u8,
+    state_size: usize,
+    out: *mut u8,
+    out_size: usize,
+    outside: *const u8,
+    outside_length: usize,
+    service: u16,
+    id: u16,
+    target: u16,
+    number: u32,
+    bytes: *mut usize,
+    place: *mut usize,
+) -> u32 {
+    let given = Given { file: (file, length), state: (state, state_size), out: (out, out_size), bytes, place };
+    let outside = unsafe { slice::from_raw_parts(outside, outside_length) };
+    unsafe { make(given, outside, Move::OuterMessage { service, id, target, number }) }
+}
+
+unsafe extern "C" fn outer_reply(
+    file: *const u8,
+    length: usize,
+    state: *mut u8,
+    state_size: usize,
+    out: *mut u8,
+    out_size: usize,
+    outside: *const u8,
+    outside_length: usize,
+    service: u16,
+    session: u16,
+    row: u16,
+    bytes: *mut usize,
+    place: *mut usize,
+) -> u32 {
+    let given = Given { file: (file, length), state: (state, state_size), out: (out, out_size), bytes, place };
+    let outside = unsafe { slice::from_raw_parts(outside, outside_length) };
+    unsafe { make(given, outside, Move::OuterReply { service, session, row }) }
+}
+
+unsafe extern "C" fn close(
+    file: *const u8,
+    length: usize,
+    state: *mut u8,
+    state_size: usize,
+    out: *mut u8,
+    out_size: usize,
+    service: u16,
+    session: u16,
+    bytes: *mut usize,
+    place: *mut usize,
+) -> u32 {
+    let given = Given { file: (file, length), state: (state, state_size), out: (out, out_size), bytes, place };
+    unsafe { make(given, &[], Move::Close { service, session }) }
+}
+
+const MOVES: Moves = Moves { fresh, local, receive, send, reply, outer_message, outer_reply, close };
+
 pub struct Itself;
 
 impl Side for Itself {
@@ -57,5 +224,12 @@ impl Side for Itself {
 
     fn part(&self, message: &[u8], ids: [u16; 4]) -> Range<usize> {
         INTERFACE.part(message, ids)
+    }
+    fn fresh(&self, file: &[u8], state: &mut [u8]) -> StepAnswer {
+        MOVES.fresh(file, state)
+    }
+
+    fn step(&self, file: &[u8], state: &mut [u8], out: &mut [u8], named: &Move, outside: &[u8]) -> StepAnswer {
+        MOVES.step(file, state, out, named, outside)
     }
 }

@@ -1,14 +1,20 @@
-//! Answers of the checker and the reader, from either side, in one form.
+//! Answers of the checker, the reader and the stepper, from either side, in one form.
 
+pub mod cases;
 pub mod interface;
 pub mod itself;
+pub mod moves;
 #[cfg(feature = "proved")]
 pub mod proved;
+pub mod walks;
 
 use std::fmt;
 use std::ops::Range;
 
 use second::ServiceEnvironments;
+use stepper::{Move, Refused};
+
+use moves::StepAnswer;
 
 /// An environment node as the interface gives it.
 #[derive(Clone, Copy, PartialEq, Eq, Debug)]
@@ -53,6 +59,8 @@ pub trait Side {
     fn verdict(&self, file: &[u8]) -> (u32, usize);
     fn check(&self, file: &[u8]) -> Answer;
     fn part(&self, message: &[u8], ids: [u16; 4]) -> Range<usize>;
+    fn fresh(&self, file: &[u8], state: &mut [u8]) -> StepAnswer;
+    fn step(&self, file: &[u8], state: &mut [u8], out: &mut [u8], named: &Move, outside: &[u8]) -> StepAnswer;
 }
 
 /// The library, called directly.
@@ -79,6 +87,22 @@ impl Side for Second {
 
     fn part(&self, message: &[u8], ids: [u16; 4]) -> Range<usize> {
         second::part_range(message, ids)
+    }
+
+    fn fresh(&self, file: &[u8], state: &mut [u8]) -> StepAnswer {
+        answer(stepper::fresh(file, state).map(|()| 0))
+    }
+
+    fn step(&self, file: &[u8], state: &mut [u8], out: &mut [u8], named: &Move, outside: &[u8]) -> StepAnswer {
+        answer(stepper::step(file, state, out, named, outside).map(|made| made.bytes))
+    }
+}
+
+/// Number, place and byte count of a result.
+pub fn answer(result: Result<usize, Refused>) -> StepAnswer {
+    match result {
+        Ok(bytes) => StepAnswer { number: 0, place: 0, bytes },
+        Err(refused) => StepAnswer { number: refused.number.into(), place: refused.place, bytes: 0 },
     }
 }
 
@@ -144,6 +168,14 @@ mod tests {
         fn part(&self, message: &[u8], ids: [u16; 4]) -> Range<usize> {
             let part = Second.part(message, ids);
             part.start..part.end.saturating_sub(1)
+        }
+
+        fn fresh(&self, file: &[u8], state: &mut [u8]) -> StepAnswer {
+            Second.fresh(file, state)
+        }
+
+        fn step(&self, file: &[u8], state: &mut [u8], out: &mut [u8], named: &Move, outside: &[u8]) -> StepAnswer {
+            Second.step(file, state, out, named, outside)
         }
     }
 

@@ -1,13 +1,14 @@
-//! `compare [--seed N] [--files N] [--messages N] [--file FILE]...`
+//! `compare [--seed N] [--files N] [--messages N] [--walks N] [--file FILE]...`
 //!
-//! Generates files and messages and compares the library's answers with those of the proved code
+//! Generates files, messages and walks and compares the library's answers with those of the proved code
 //! (feature `proved`), or with the library's own behind the same interface. Exits with 1 at the
 //! first difference, with 2 if the run missed something that it should have hit.
 
 use std::process::ExitCode;
 use std::time::Instant;
 
-use compare::{differing_check, differing_part, Second, Side};
+use compare::{differing_check, differing_part, walks, Second, Side};
+use generate::walks::WalkHits;
 use generate::{file, messages, Hits, Random};
 
 /// Each refusal, place and kind of row is to be hit this often.
@@ -27,11 +28,12 @@ struct Options {
     seed: u64,
     files: usize,
     messages: usize,
+    walks: usize,
     named: Vec<String>,
 }
 
 fn options() -> Result<Options, String> {
-    let mut options = Options { seed: 1, files: 50_000, messages: 200_000, named: Vec::new() };
+    let mut options = Options { seed: 1, files: 50_000, messages: 200_000, walks: 4_000, named: Vec::new() };
     let mut arguments = std::env::args().skip(1);
     while let Some(name) = arguments.next() {
         let value = arguments.next().ok_or(format!("{name} needs a value"))?;
@@ -40,8 +42,9 @@ fn options() -> Result<Options, String> {
             "--seed" => options.seed = number()?,
             "--files" => options.files = number()? as usize,
             "--messages" => options.messages = number()? as usize,
+            "--walks" => options.walks = number()? as usize,
             "--file" => options.named.push(value),
-            _ => return Err(format!("{name} is not known; --seed, --files, --messages or --file")),
+            _ => return Err(format!("{name} is not known; --seed, --files, --messages, --walks or --file")),
         }
     }
     Ok(options)
@@ -57,6 +60,10 @@ fn main() -> ExitCode {
     }
 }
 
+/// Exit codes.
+const DIFFERENCE: u8 = 1;
+const MISSED: u8 = 2;
+
 fn run(options: &Options) -> Result<ExitCode, String> {
     let other = other();
     println!("{} and {}, seed {}", Second.name(), other.name(), options.seed);
@@ -64,31 +71,50 @@ fn run(options: &Options) -> Result<ExitCode, String> {
         let file = std::fs::read(name).map_err(|error| format!("{name}: {error}"))?;
         if let Some(difference) = differing_check(&file, &Second, &other) {
             println!("{name}\n{difference}");
-            return Ok(ExitCode::from(1));
+            return Ok(ExitCode::from(DIFFERENCE));
         }
     }
     let start = Instant::now();
+    let mut missed = match files_and_messages(options, &other) {
+        Ok(missed) => missed,
+        Err(difference) => {
+            println!("{difference}");
+            return Ok(ExitCode::from(DIFFERENCE));
+        }
+    };
+    match all_walks(options, &other) {
+        Ok(names) => missed.extend(names),
+        Err(difference) => {
+            println!("{difference}");
+            return Ok(ExitCode::from(DIFFERENCE));
+        }
+    }
+    println!("{:.1} seconds", start.elapsed().as_secs_f64());
+    if !missed.is_empty() {
+        println!("hit fewer than {LEAST} times:\n  {}", missed.join("\n  "));
+        return Ok(ExitCode::from(MISSED));
+    }
+    Ok(ExitCode::SUCCESS)
+}
+
+/// What was hit too seldom, or the report of a difference.
+fn files_and_messages(options: &Options, other: &dyn Side) -> Result<Vec<String>, String> {
     let mut random = Random::new(options.seed);
     let mut hits = Hits::default();
     for index in 0..options.files {
         let file = file(&mut random);
-        if let Some(difference) = differing_check(&file, &Second, &other) {
-            println!("file number {index} of seed {}\n{difference}", options.seed);
-            return Ok(ExitCode::from(1));
+        if let Some(difference) = differing_check(&file, &Second, other) {
+            return Err(format!("file number {index} of seed {}\n{difference}", options.seed));
         }
         hits.file(&file, &second::check(&file));
     }
     for index in 0..options.messages {
         let (message, ids, damage) = messages::message(&mut random);
-        if let Some(difference) = differing_part(&message, ids, &Second, &other) {
-            println!("message number {index} of seed {}\n{difference}", options.seed);
-            return Ok(ExitCode::from(1));
+        if let Some(difference) = differing_part(&message, ids, &Second, other) {
+            return Err(format!("message number {index} of seed {}\n{difference}", options.seed));
         }
         hits.message(&message, ids, damage);
     }
-    print!("{hits}");
-    let seconds = start.elapsed().as_secs_f64();
-    println!("{} files and {} messages agree, {seconds:.1} seconds", options.files, options.messages);
     let mut missed = Vec::new();
     if options.files > 0 {
         missed.extend(hits.below_of(false, LEAST));
@@ -96,9 +122,26 @@ fn run(options: &Options) -> Result<ExitCode, String> {
     if options.messages > 0 {
         missed.extend(hits.below_of(true, LEAST));
     }
-    if !missed.is_empty() {
-        println!("hit fewer than {LEAST} times:\n  {}", missed.join("\n  "));
-        return Ok(ExitCode::from(2));
+    if options.files + options.messages > 0 {
+        print!("{hits}");
     }
-    Ok(ExitCode::SUCCESS)
+    println!("{} files and {} messages agree", options.files, options.messages);
+    Ok(missed.into_iter().map(String::from).collect())
+}
+
+/// The same for walks, each of which has a seed of its own.
+fn all_walks(options: &Options, other: &dyn Side) -> Result<Vec<String>, String> {
+    if options.walks == 0 {
+        return Ok(Vec::new());
+    }
+    let mut hits = WalkHits::default();
+    let mut moves = 0;
+    for index in 0..options.walks {
+        let mut random = Random::new(options.seed.wrapping_mul(1 << 32).wrapping_add(index as u64));
+        let walk = walks::walk(&mut random, &mut hits, other);
+        moves += walk.map_err(|report| format!("walk number {index} of seed {}\n{report}", options.seed))?;
+    }
+    print!("{hits}");
+    println!("{} walks of {moves} moves agree and keep property 3", options.walks);
+    Ok(hits.below(LEAST).into_iter().map(String::from).collect())
 }

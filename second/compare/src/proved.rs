@@ -2,7 +2,10 @@
 
 use std::ops::Range;
 
+use stepper::Move;
+
 use crate::interface::Interface;
+use crate::moves::{Moves, StepAnswer};
 use crate::{Answer, Side};
 
 extern "C" {
@@ -17,10 +20,118 @@ extern "C" {
         fourth: u16,
         start: *mut usize,
     ) -> usize;
+    fn pokhveti_fresh(file: *const u8, length: usize, state: *mut u8, state_size: usize, place: *mut usize) -> u32;
+    fn pokhveti_local(
+        file: *const u8,
+        length: usize,
+        state: *mut u8,
+        state_size: usize,
+        out: *mut u8,
+        out_size: usize,
+        service: u16,
+        session: u16,
+        row: u16,
+        bytes: *mut usize,
+        place: *mut usize,
+    ) -> u32;
+    fn pokhveti_receive(
+        file: *const u8,
+        length: usize,
+        state: *mut u8,
+        state_size: usize,
+        out: *mut u8,
+        out_size: usize,
+        service: u16,
+        session: u16,
+        row: u16,
+        bytes: *mut usize,
+        place: *mut usize,
+    ) -> u32;
+    fn pokhveti_send(
+        file: *const u8,
+        length: usize,
+        state: *mut u8,
+        state_size: usize,
+        out: *mut u8,
+        out_size: usize,
+        service: u16,
+        session: u16,
+        row: u16,
+        target: u16,
+        bytes: *mut usize,
+        place: *mut usize,
+    ) -> u32;
+    fn pokhveti_reply(
+        file: *const u8,
+        length: usize,
+        state: *mut u8,
+        state_size: usize,
+        out: *mut u8,
+        out_size: usize,
+        service: u16,
+        session: u16,
+        row: u16,
+        bytes: *mut usize,
+        place: *mut usize,
+    ) -> u32;
+    fn pokhveti_outer_message(
+        file: *const u8,
+        length: usize,
+        state: *mut u8,
+        state_size: usize,
+        out: *mut u8,
+        out_size: usize,
+        outside: *const u8,
+        outside_length: usize,
+        service: u16,
+        id: u16,
+        target: u16,
+        number: u32,
+        bytes: *mut usize,
+        place: *mut usize,
+    ) -> u32;
+    fn pokhveti_outer_reply(
+        file: *const u8,
+        length: usize,
+        state: *mut u8,
+        state_size: usize,
+        out: *mut u8,
+        out_size: usize,
+        outside: *const u8,
+        outside_length: usize,
+        service: u16,
+        session: u16,
+        row: u16,
+        bytes: *mut usize,
+        place: *mut usize,
+    ) -> u32;
+    fn pokhveti_close(
+        file: *const u8,
+        length: usize,
+        state: *mut u8,
+        state_size: usize,
+        out: *mut u8,
+        out_size: usize,
+        service: u16,
+        session: u16,
+        bytes: *mut usize,
+        place: *mut usize,
+    ) -> u32;
 }
 
 const INTERFACE: Interface =
     Interface { check: pokhveti_check, environments: pokhveti_environments, part: pokhveti_part };
+
+const MOVES: Moves = Moves {
+    fresh: pokhveti_fresh,
+    local: pokhveti_local,
+    receive: pokhveti_receive,
+    send: pokhveti_send,
+    reply: pokhveti_reply,
+    outer_message: pokhveti_outer_message,
+    outer_reply: pokhveti_outer_reply,
+    close: pokhveti_close,
+};
 
 pub struct Proved;
 
@@ -39,5 +150,12 @@ impl Side for Proved {
 
     fn part(&self, message: &[u8], ids: [u16; 4]) -> Range<usize> {
         INTERFACE.part(message, ids)
+    }
+    fn fresh(&self, file: &[u8], state: &mut [u8]) -> StepAnswer {
+        MOVES.fresh(file, state)
+    }
+
+    fn step(&self, file: &[u8], state: &mut [u8], out: &mut [u8], named: &Move, outside: &[u8]) -> StepAnswer {
+        MOVES.step(file, state, out, named, outside)
     }
 }

@@ -1,5 +1,5 @@
-//! Seeded networks and messages: right ones that use every kind of row, and damaged ones that
-//! reach every refusal of the checker.
+//! Seeded networks, messages and walks: right ones that use every kind of row and move, and damaged
+//! ones that reach every refusal.
 
 pub mod damage;
 pub mod hits;
@@ -7,9 +7,16 @@ pub mod maximal;
 pub mod messages;
 pub mod networks;
 pub mod random;
+pub mod walks;
 
 pub use hits::Hits;
 pub use random::Random;
+
+/// A file with one mistake, made where it can be made.
+pub fn blunder(random: &mut Random) -> Vec<u8> {
+    let blunder = random.pick(&networks::Blunder::ALL).copied();
+    networks::tables(random, 0, blunder).write()
+}
 
 /// One network file: most are right or nearly so, the others are damaged on purpose.
 pub fn file(random: &mut Random) -> Vec<u8> {

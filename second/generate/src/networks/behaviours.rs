@@ -15,12 +15,12 @@ impl Maker<'_> {
                 continue;
             }
             let scope = Scope { service: service as u8, roots: self.some_roots(), quiet: false };
-            if self.random.below(4) > 0 {
+            if self.talkative || self.random.below(4) > 0 {
                 if let Some(plan) = self.starter(&scope, size) {
                     self.tables.services[service].starter = self.lower(plan);
                 }
             }
-            if self.random.below(4) > 0 && self.rows_left > 2 * size {
+            if (self.talkative || self.random.below(4) > 0) && self.rows_left > 2 * size {
                 let mut gamma = Environment::default();
                 let below_optional = self.blunder == Some(Blunder::AddBelowOptional);
                 let plan = if self.random.one_in(if below_optional { 2 } else { 30 }) {
@@ -367,6 +367,7 @@ impl Maker<'_> {
     pub(super) fn simple(&mut self, scope: &Scope, gamma: &mut Environment) -> Plan {
         for _ in 0..4 {
             let plan = match self.random.below(9) {
+                5..=8 if self.talkative => self.talk(scope, gamma),
                 0 => self.receive(scope, gamma),
                 1 | 2 => self.notify(scope, gamma),
                 3 | 4 => self.solicit(scope, gamma),
@@ -378,6 +379,16 @@ impl Maker<'_> {
             }
         }
         Plan::nil()
+    }
+
+    /// Something that a talkative service does instead of working by itself.
+    fn talk(&mut self, scope: &Scope, gamma: &mut Environment) -> Option<Plan> {
+        match self.random.below(5) {
+            0 => self.notify(scope, gamma),
+            1 | 2 => self.solicit(scope, gamma),
+            3 => self.input(scope, gamma, 1),
+            _ => self.assign(scope, gamma),
+        }
     }
 
     pub(super) fn notify(&mut self, scope: &Scope, gamma: &mut Environment) -> Option<Plan> {

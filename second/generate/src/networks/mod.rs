@@ -68,6 +68,18 @@ pub fn tables(random: &mut Random, careless: usize, blunder: Option<Blunder>) ->
     maker.tables
 }
 
+/// An accepted network whose services talk: each has a client and a starter, inputs of both kinds, and
+/// outputs to the inputs of all.
+pub fn talkative(random: &mut Random) -> Tables {
+    let mut maker = Maker::new(random, 0, None);
+    maker.talkative = true;
+    maker.types();
+    maker.services();
+    maker.operations();
+    maker.behaviours();
+    maker.tables
+}
+
 /// A behaviour before its rows have numbers.
 #[derive(Clone)]
 struct Plan {
@@ -124,6 +136,7 @@ struct Maker<'a> {
     random: &'a mut Random,
     careless: usize,
     blunder: Option<Blunder>,
+    talkative: bool,
     tables: Tables,
     /// Root rows of types with their trees written out.
     roots: Vec<(u16, Vec<Node>)>,
@@ -151,6 +164,7 @@ impl<'a> Maker<'a> {
             random,
             careless,
             blunder,
+            talkative: false,
             tables: Tables::default(),
             roots: Vec::new(),
             twins: None,

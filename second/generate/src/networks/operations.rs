@@ -7,7 +7,7 @@ use super::{Blunder, Maker, Scope};
 
 impl Maker<'_> {
     pub(super) fn services(&mut self) {
-        let count = self.random.between(1, 4);
+        let count = if self.talkative { self.random.between(2, 4) } else { self.random.between(1, 4) };
         let first = if self.random.one_in(4) { self.random.between(1, 60_000) as u16 } else { 1 };
         for service in 0..count as u16 {
             self.tables.services.push(ServiceRow {
@@ -42,8 +42,9 @@ impl Maker<'_> {
     pub(super) fn operations(&mut self) {
         let services = self.tables.services.len();
         for service in 0..services {
-            for id in 1..=self.random.below(5) as u16 {
-                let two_way = self.random.below(2) as u8;
+            let count = if self.talkative { self.random.between(2, 4) } else { self.random.below(5) };
+            for id in 1..=count as u16 {
+                let two_way = if self.talkative { (id % 2) as u8 } else { self.random.below(2) as u8 };
                 let request = self.some_root();
                 let reply = if two_way == 1 { self.some_root() } else { 0 };
                 let id = id * self.random.between(1, 2) as u16;
@@ -65,7 +66,8 @@ impl Maker<'_> {
             }
         }
         for service in 0..services as u8 {
-            for _ in 0..self.random.below(5) {
+            let count = if self.talkative { self.random.between(4, 8) } else { self.random.below(5) };
+            for _ in 0..count {
                 let output = if self.random.one_in(3) { self.outside(service) } else { self.inside(service) };
                 self.operation(output);
             }

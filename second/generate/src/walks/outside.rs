@@ -1,0 +1,83 @@
+//! Messages from outside: built from a type, nearly so, or broken.
+
+use second::{Basic, Network};
+use stepper::Tree;
+
+use crate::messages;
+use crate::networks::value;
+use crate::random::Random;
+
+/// A tree of a type: every mandatory child, and some of the optional ones.
+pub fn fitting(random: &mut Random, network: &Network, type_row: usize) -> Tree {
+    let node = &network.types[type_row];
+    let mut children = Vec::new();
+    for child in node.children.clone() {
+        if network.types[child].mandatory || random.one_in(2) {
+            children.push(fitting(random, network, child));
+        }
+    }
+    Tree { id: node.id, basic: node.basic, value: value(random, node.basic), children }
+}
+
+/// Bytes for a move that takes a message of a type.
+pub fn bytes(random: &mut Random, network: &Network, type_row: Option<usize>) -> Vec<u8> {
+    let Some(type_row) = type_row else {
+        return if random.one_in(2) { Vec::new() } else { messages::message(random).0 };
+    };
+    let mut tree = fitting(random, network, type_row);
+    match random.below(14) {
+        0 => retype(random, &mut tree),
+        1 => drop_child(random, &mut tree),
+        2 => add_child(random, &mut tree),
+        3 => return broken(random, tree.bytes()),
+        4 => return messages::message(random).0,
+        _ => {}
+    }
+    tree.bytes()
+}
+
+fn broken(random: &mut Random, mut bytes: Vec<u8>) -> Vec<u8> {
+    let at = random.below(bytes.len());
+    match random.below(4) {
+        0 => bytes.truncate(at),
+        1 => bytes.push(random.byte()),
+        2 => bytes[at] = random.byte(),
+        _ => bytes[at] ^= 1 << random.below(8),
+    }
+    bytes
+}
+
+/// Some node of a tree; the root only if it may be.
+pub fn some_node<'a>(random: &mut Random, tree: &'a mut Tree, root_too: bool) -> Option<&'a mut Tree> {
+    if tree.children.is_empty() || (root_too && random.one_in(4)) {
+        return root_too.then_some(tree);
+    }
+    let child = random.below(tree.children.len());
+    some_node(random, &mut tree.children[child], true)
+}
+
+/// Another basic type and a value of it.
+pub fn set_basic(random: &mut Random, node: &mut Tree) {
+    node.basic = Basic::ALL[random.below(7)];
+    node.value = value(random, node.basic);
+}
+
+fn retype(random: &mut Random, tree: &mut Tree) {
+    if let Some(node) = some_node(random, tree, true) {
+        set_basic(random, node);
+    }
+}
+
+fn drop_child(random: &mut Random, tree: &mut Tree) {
+    if let Some(node) = some_node(random, tree, true) {
+        node.children.pop();
+    }
+    tree.children.pop();
+}
+
+fn add_child(random: &mut Random, tree: &mut Tree) {
+    if let Some(node) = some_node(random, tree, true) {
+        let id = node.children.last().map_or(1, |child| child.id.saturating_add(1));
+        node.children.push(Tree::void(id));
+    }
+}
