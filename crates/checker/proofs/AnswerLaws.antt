@@ -23,6 +23,7 @@ use Rattle.network.specs.Rows.{kindAt, isChoice, isBranch, starterRow, clientRo
 use Rattle.network.specs.RowLaws.{service-kept}
 use Rattle.network.specs.Decode.{behaviourOf, serviceOf, rowsFrom, networkOf}
 use Rattle.network.specs.TestLaws.{one-less, true-false}
+use Rattle.network.specs.UseLaws.{choice-kind}
 use Rattle.environments.specs.declared.Environment.{Environment}
 use Rattle.environments.specs.declared.Step.{Step}
 use Rattle.environments.specs.Environment.{standing, stepOf, ShapeIn, Answers}
@@ -51,21 +52,6 @@ there-shaped (passed Γ) h = h
 none-is : partOf (passed none) ≡ record { environment = standing end; verdict = Done }
 unfolding partOf
 none-is = refl
-
-choice-kind : (k : BehaviourKind) → isChoice k ≡ true → k ≡ BehaviourKind.Choice
-choice-kind BehaviourKind.Nil e = true-false (sym e)
-choice-kind BehaviourKind.OneWay e = true-false (sym e)
-choice-kind BehaviourKind.RequestResponse e = true-false (sym e)
-choice-kind BehaviourKind.Notification e = true-false (sym e)
-choice-kind BehaviourKind.SolicitResponse e = true-false (sym e)
-choice-kind BehaviourKind.If e = true-false (sym e)
-choice-kind BehaviourKind.While e = true-false (sym e)
-choice-kind BehaviourKind.Sequence e = true-false (sym e)
-choice-kind BehaviourKind.Parallel e = true-false (sym e)
-choice-kind BehaviourKind.Assign e = true-false (sym e)
-choice-kind BehaviourKind.Choice e = refl
-choice-kind BehaviourKind.Branch e = true-false (sym e)
-choice-kind BehaviourKind.Unknown e = true-false (sym e)
 
 -- A test that holds, whose first part does not.
 other-part : (a b c : Bool) → a ≡ false → a || (b && c) ≡ true → (b ≡ true) × (c ≡ true)

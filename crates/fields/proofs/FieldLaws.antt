@@ -2,7 +2,7 @@
 use Prim.Native.Nat.{ℕ, zero, suc, _+_, _-_, _<_, _≤_}
 use mathlib.Core.Path.{_≡_, refl, sym, _∙_, ap}
 use mathlib.Core.List.{List, []}
-use mathlib.Core.Bool.{Bool, true, false, not, _&&_, _||_}
+use mathlib.Core.Bool.{Bool, true, false, _&&_}
 use lib.Dec.{eqb, leb, ltb}
 use lib.ListN.{length, take, drop, length-drop}
 use native.Mathlib.Omega.{arith}
@@ -19,9 +19,9 @@ use Rattle.network.specs.declared.Fields.{Fields}
 use Rattle.network.specs.Least.{least, rule, leastOver}
 use Rattle.network.specs.Layout.{pathCount, expressionCount, operationCount, behaviourCount, behaviourAt}
 use Rattle.network.specs.Kinds.{fields, expressionFields, behaviourFields}
-use Rattle.network.specs.Rows.{inRun, laterRun, subFits, inputFits, constantFits, fieldFits, basicFits, isBranch, isChoice, kindAt, branchRule, branchRows, choiceRun, fieldsRule, behaviourHead, behaviourRow}
-use Rattle.layout.specs.LeastFacts.{rule-true}
-use Rattle.layout.specs.Loops.{Swept, swept-more, OnlyRun, clip, run-none, run-done, clip-below, drop-clip, take-clip}
+use Rattle.network.specs.Rows.{laterRun, subFits, inputFits, constantFits, fieldFits, basicFits, isChoice, kindAt, branchRule, branchRows, choiceRun, fieldsRule, behaviourHead, behaviourRow}
+use Rattle.network.specs.FoldLaws.{branch-outside}
+use Rattle.layout.specs.Loops.{Swept, swept-more, clip, run-none, run-done, clip-below, drop-clip, take-clip}
 
 pub expression-Constant : (k : ExpressionKind) (r : Fields) → k ≡ ExpressionKind.Constant → r ≡ fields ConstantPart Free Unused Free → r ≡ expressionFields k
 unfolding expressionFields
@@ -236,26 +236,17 @@ pub ruleset value-laws = (value-part, value-from, value-fits)
 
 -- ---- the rows of a choice
 
-or-true : (a b : Bool) → a ≡ false → not a || b ≡ true
-or-true a b e = rw e refl
-
-only-branches : (s : List ℕ) (at : ℕ) → OnlyRun (branchRule s at) (u16At s (at + 2)) (u16At s (at + 4))
-unfolding branchRule
-only-branches s at j e =
-    rule-true (not (inRun (u16At s (at + 2)) (u16At s (at + 4)) j) || isBranch (kindAt s j)) (at + 2)
-    (or-true (inRun (u16At s (at + 2)) (u16At s (at + 4)) j) (isBranch (kindAt s j)) e)
-
 pub branches-begin : (s : List ℕ) (at first n size from to : ℕ) → first ≡ u16At s (at + 2) → n ≡ u16At s (at + 4) →
     from ≡ clip (first + 0) size → to ≡ clip (first + n) size → Swept (branchRule s at) to from Nowhere
 branches-begin s at first n size from to a b p q =
-    run-none (branchRule s at) (u16At s (at + 2)) (u16At s (at + 4)) size from to (only-branches s at)
+    run-none (branchRule s at) (u16At s (at + 2)) (u16At s (at + 4)) size from to (branch-outside s at)
     (p ∙ ap (λ (x : ℕ). clip (x + 0) size) a) (q ∙ cc)
 
 pub branches-done : (s : List ℕ) (at first n size to i : ℕ) (m : Broken) → first ≡ u16At s (at + 2) → n ≡ u16At s (at + 4) →
     to ≡ clip (first + n) size → size ≡ behaviourCount s → Swept (branchRule s at) to i m → to ≤ i → m ≡ branchRows s at
 unfolding branchRows
 branches-done s at first n size to i m a b q e w h =
-    run-done (branchRule s at) (u16At s (at + 2)) (u16At s (at + 4)) size to i m (behaviourCount s) (only-branches s at) (q ∙ cc) w h e
+    run-done (branchRule s at) (u16At s (at + 2)) (u16At s (at + 4)) size to i m (behaviourCount s) (branch-outside s at) (q ∙ cc) w h e
 
 pub ruleset branches-laws = (branches-begin, swept-more, branches-done)
 

@@ -13,7 +13,8 @@ use Rattle.network.specs.declared.Broken.{Broken}
 use Rattle.network.specs.declared.Broken.the-variants.{Nowhere}
 use Rattle.network.specs.Least.{least, leastOver}
 use Rattle.network.specs.Rows.{inRun}
-use Rattle.layout.specs.LeastFacts.{over-none, over-more, over-nothing, over-upto}
+use Rattle.network.specs.FoldLaws.{over-none as over-nothing}
+use Rattle.layout.specs.LeastFacts.{over-none, over-more, over-upto}
 
 -- m is the lowest over the numbers below i, and i has not passed n.
 pub record Swept (f : ℕ → Broken) (n i : ℕ) (m : Broken) : Type 0 where

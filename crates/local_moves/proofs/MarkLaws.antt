@@ -11,51 +11,27 @@ use Rattle.progress.specs.Meaning.{meaning}
 use Rattle.moves.specs.Moves.{Result, require, ifUndone, ifReadyWhile}
 use Rattle.local_moves.specs.Local.{readyWhile}
 
-module _ (y : coded.Progress) (q : Progress) (e : meaning y ≡ q) where
-  pub undone-undone : y ≡ Undone → true ≡ isUndone q
-  undone-undone h = rw (sym e ∙ ap meaning h) refl
+module _ (y : coded.Progress) (q : Progress) (e : meaning y ≡ q) (d : Bool) where
+  pub ready-undone : y ≡ Undone → true ≡ readyWhile q d
+  ready-undone h = rw (sym e ∙ ap meaning h) refl
 
-  pub undone-done : y ≡ Done → false ≡ isUndone q
-  undone-done h = rw (sym e ∙ ap meaning h) refl
+  pub ready-done : y ≡ Done → false ≡ readyWhile q d
+  ready-done h = rw (sym e ∙ ap meaning h) refl
 
-  pub undone-waits : y ≡ Waits → false ≡ isUndone q
-  undone-waits h = rw (sym e ∙ ap meaning h) refl
+  pub ready-waits : y ≡ Waits → false ≡ readyWhile q d
+  ready-waits h = rw (sym e ∙ ap meaning h) refl
 
-  pub undone-taken : {k : ℕ} → y ≡ Taken k → false ≡ isUndone q
-  undone-taken h = rw (sym e ∙ ap meaning h) refl
+  pub ready-taken : {k : ℕ} {x : Bool} → y ≡ Taken k → x ≡ d → x ≡ readyWhile q d
+  ready-taken h g = rw (sym e ∙ ap meaning h) g
 
-  pub undone-outsider : {v : ℕ} → y ≡ FromOutsider v → false ≡ isUndone q
-  undone-outsider h = rw (sym e ∙ ap meaning h) refl
+  pub ready-outsider : {v : ℕ} → y ≡ FromOutsider v → false ≡ readyWhile q d
+  ready-outsider h = rw (sym e ∙ ap meaning h) refl
 
-  pub undone-row : {a b c : ℕ} → y ≡ FromRow a b c → false ≡ isUndone q
-  undone-row h = rw (sym e ∙ ap meaning h) refl
+  pub ready-row : {a b c : ℕ} → y ≡ FromRow a b c → false ≡ readyWhile q d
+  ready-row h = rw (sym e ∙ ap meaning h) refl
 
-  pub undone-nobody : y ≡ FromNobody → false ≡ isUndone q
-  undone-nobody h = rw (sym e ∙ ap meaning h) refl
-
-  module _ (d : Bool) where
-    pub ready-undone : y ≡ Undone → true ≡ readyWhile q d
-    ready-undone h = rw (sym e ∙ ap meaning h) refl
-
-    pub ready-done : y ≡ Done → false ≡ readyWhile q d
-    ready-done h = rw (sym e ∙ ap meaning h) refl
-
-    pub ready-waits : y ≡ Waits → false ≡ readyWhile q d
-    ready-waits h = rw (sym e ∙ ap meaning h) refl
-
-    pub ready-taken : {k : ℕ} {x : Bool} → y ≡ Taken k → x ≡ d → x ≡ readyWhile q d
-    ready-taken h g = rw (sym e ∙ ap meaning h) g
-
-    pub ready-outsider : {v : ℕ} → y ≡ FromOutsider v → false ≡ readyWhile q d
-    ready-outsider h = rw (sym e ∙ ap meaning h) refl
-
-    pub ready-row : {a b c : ℕ} → y ≡ FromRow a b c → false ≡ readyWhile q d
-    ready-row h = rw (sym e ∙ ap meaning h) refl
-
-    pub ready-nobody : y ≡ FromNobody → false ≡ readyWhile q d
-    ready-nobody h = rw (sym e ∙ ap meaning h) refl
-
-pub ruleset undone-laws = (undone-undone, undone-done, undone-waits, undone-taken, undone-outsider, undone-row, undone-nobody)
+  pub ready-nobody : y ≡ FromNobody → false ≡ readyWhile q d
+  ready-nobody h = rw (sym e ∙ ap meaning h) refl
 
 pub ruleset ready-laws = (ready-undone, ready-done, ready-waits, ready-taken, ready-outsider, ready-row, ready-nobody)
 

@@ -8,6 +8,7 @@ use native.Mathlib.Nat.{max-le}
 use native.Mathlib.Omega.{arith}
 use lib.ListN.{length}
 use lib.Dec.{T, eqb, leb, ltb}
+use native.Mathlib.Numerals.{add-one}
 use Rattle.forest.specs.Compare.{Compare, lt, eq, gt, compare}
 use Rattle.forest.specs.Forest.{Forest, end, node, Tree, tree, nodeOf, Above, Rising, RisingTree, measure, nodes, levels}
 use Rattle.forest.specs.Path.{Path, path}
@@ -29,11 +30,11 @@ use Rattle.network.specs.Rows.{operationTwoWay, operationId, operationLo
 use Rattle.network.specs.Sizes.{rowsSum, rowsAll, levelsWithin, nodesTo, typeLevels, typeNodes, operandsWithin, depthWithin, expressionLevels}
 use Rattle.network.specs.Form.{WellFormed}
 use Rattle.network.specs.Decode.{untilZero, pathOf, markOf, siblings, writtenOut, typeOf, expressionFrom, expressionTo, expressionOf, noReply}
-use Rattle.network.specs.Decode.{operationOf}
+use Rattle.network.specs.Decode.{operationOf, rowsFrom}
 use Rattle.network.specs.Shapes.{AllPositive, PathShape, NodesShape, TreeNodesShape, treeNodes, treeLevels, rootMark, TypeShape}
 use Rattle.network.specs.Shapes.{MessageTypeShape, depth, PartsShape, ExpressionShape, LocationShape, OperationShape}
 use Rattle.network.specs.LeastLaws.{rule-kept}
-use Rattle.network.specs.TestLaws.{lt-of, le-of, eq-of, of-eq, and-of, not-true, clash, ne-of}
+use Rattle.network.specs.TestLaws.{lt-of, le-of, eq-of, of-eq, and-of, not-true, clash, ne-of, one-less}
 use Rattle.network.specs.RowLaws.{Unbroken, unbroken, PathKept, path-kept, TypeKept, type-kept, RootKept, type-size, expression-size}
 use Rattle.network.specs.RowLaws.{OperationKept, operation-kept}
 
@@ -453,3 +454,13 @@ pub reply-row : (s : List ℕ) → WellFormed s → (o : ℕ) → o < operationC
 unfolding operationOf
 reply-row s w o l e =
     (ap (λ (t : Bool). pick t (typeOf s (replyType s o)) noReply) e, operation-kept s w o l .reply (eq-of (operationTwoWay s o) 1 e) .exists)
+
+-- ---- rows one after another
+
+pub rows-more : {A : Type 0} (f : ℕ → A) (i n : ℕ) → (n ≡ 0 → ⊥) → rowsFrom f i n ≡ f i ∷ rowsFrom f (i + 1) (n - 1)
+unfolding rowsFrom
+rows-more f i n z = ap (rowsFrom f i) (one-less n z) ∙ ap (λ (k : ℕ). f i ∷ rowsFrom f k (n - 1)) (sym (add-one i))
+
+pub rows-none : {A : Type 0} (f : ℕ → A) (i n : ℕ) → n ≡ 0 → rowsFrom f i n ≡ []
+unfolding rowsFrom
+rows-none f i n z = ap (rowsFrom f i) z

@@ -14,7 +14,7 @@ use Rattle.network.specs.declared.BehaviourKind.{BehaviourKind}
 use Rattle.network.specs.Layout.{behaviourCount, operationCount, serviceCount, counted, pathCount, typeCount, expressionCount}
 use Rattle.network.specs.Rows.{kindAt, isBranch, isChoice, operationService, operationDirection, operationId, operationLocation, sameService}
 use Rattle.network.specs.Rows.{sameName, serviceLocation, starterRow, clientRow, noRow, starterFits, clientFits}
-use Rattle.network.specs.Uses.{one, serviceUses}
+use Rattle.network.specs.Uses.{serviceUses}
 use Rattle.network.specs.Form.{WellFormed}
 use Rattle.network.specs.Decode.{operationOf, behaviourOf, rowOperation, optionalBehaviour, serviceOf, rowsFrom, networkOf}
 use Rattle.network.specs.Meets.{entry, locationOf, someAt, inFile, isInputOperation, sameKind, meets, firstOf, metInput}
@@ -22,7 +22,7 @@ use Rattle.network.specs.Shapes.{OperationShape, Apart, isChoiceBehaviou
 use Rattle.network.specs.Shapes.{NetworkShape}
 use Rattle.network.specs.TestLaws.{lt-of, eq-of, of-eq, and-of, or-of, not-true, clash, ne-of}
 use Rattle.network.specs.RowLaws.{ServiceKept, service-kept, OperationKept, operation-kept}
-use Rattle.network.specs.UseLaws.{uses-kept, one-service}
+use Rattle.network.specs.UseLaws.{uses-kept, one-service, choice-kind, one-same}
 use Rattle.network.specs.DecodeLaws.{positive, operation-shape}
 use Rattle.network.specs.BehaviourLaws.{behaviour-shape, behaviour-in-file, choice-row, behaviour-operations}
 use Rattle.network.specs.OnceLaws.{each-row-once, tops-apart}
@@ -92,23 +92,8 @@ pub record TopKept (s : List ℕ) (q : ℕ) (x : Role) : Type 0 where
   pub kind : isBranch (kindAt s (topRow s q x)) ≡ false
   pub used : 1 ≤ serviceUses s (topRow s q x) q
 
-one-same : (m n : ℕ) → m ≡ n → one (eqb m n) ≡ 1
-one-same m n e = ap one (of-eq m n e)
-
 no-branch : (k : BehaviourKind) → isChoice k ≡ true → isBranch k ≡ false
-no-branch BehaviourKind.Nil e = refl
-no-branch BehaviourKind.OneWay e = refl
-no-branch BehaviourKind.RequestResponse e = refl
-no-branch BehaviourKind.Notification e = refl
-no-branch BehaviourKind.SolicitResponse e = refl
-no-branch BehaviourKind.If e = refl
-no-branch BehaviourKind.While e = refl
-no-branch BehaviourKind.Sequence e = refl
-no-branch BehaviourKind.Parallel e = refl
-no-branch BehaviourKind.Assign e = refl
-no-branch BehaviourKind.Choice e = refl
-no-branch BehaviourKind.Branch e = let z : _≡_ {A = ℕ} 0 1 = cc in absurd (omega arith)
-no-branch BehaviourKind.Unknown e = refl
+no-branch k e = ap isBranch (choice-kind k e)
 
 starter-kept : (s : List ℕ) → WellFormed s → (q : ℕ) → q < serviceCount s → (eqb (starterRow s q) noRow ≡ false)
     → (starterRow s q < behaviourCount s) × (isChoice (kindAt s (starterRow s q)) ≡ true)

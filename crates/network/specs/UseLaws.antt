@@ -22,7 +22,7 @@ use Rattle.network.specs.Rows.{fieldFits, fieldsRule, behaviourHead, bra
 use Rattle.network.specs.Uses.{fieldUses, one, usesBy, rowUses, serviceUses, usedByRows, used, secondUse, rowUseRule, serviceUseRule, usesRow}
 use Rattle.network.specs.Form.{WellFormed}
 use Rattle.network.specs.LeastLaws.{least-kept, rule-kept, over-kept, sum-part}
-use Rattle.network.specs.TestLaws.{lt-of, le-of, eq-of, of-eq, of-lt, and-of, not-true, clash, under, in-run, lt-not}
+use Rattle.network.specs.TestLaws.{lt-of, le-of, eq-of, of-eq, of-lt, and-of, not-true, clash, under, in-run, lt-not, true-false}
 use Rattle.network.specs.RowLaws.{Unbroken, unbroken}
 
 -- ---- uses
@@ -166,7 +166,22 @@ branch-kind BehaviourKind.Choice e = let z : _≡_ {A = ℕ} 0 1 = cc in absurd 
 branch-kind BehaviourKind.Branch e = refl
 branch-kind BehaviourKind.Unknown e = let z : _≡_ {A = ℕ} 0 1 = cc in absurd (omega arith)
 
-one-same : (m n : ℕ) → m ≡ n → one (eqb m n) ≡ 1
+pub choice-kind : (k : BehaviourKind) → isChoice k ≡ true → k ≡ BehaviourKind.Choice
+choice-kind BehaviourKind.Nil e = true-false (sym e)
+choice-kind BehaviourKind.OneWay e = true-false (sym e)
+choice-kind BehaviourKind.RequestResponse e = true-false (sym e)
+choice-kind BehaviourKind.Notification e = true-false (sym e)
+choice-kind BehaviourKind.SolicitResponse e = true-false (sym e)
+choice-kind BehaviourKind.If e = true-false (sym e)
+choice-kind BehaviourKind.While e = true-false (sym e)
+choice-kind BehaviourKind.Sequence e = true-false (sym e)
+choice-kind BehaviourKind.Parallel e = true-false (sym e)
+choice-kind BehaviourKind.Assign e = true-false (sym e)
+choice-kind BehaviourKind.Choice e = refl
+choice-kind BehaviourKind.Branch e = true-false (sym e)
+choice-kind BehaviourKind.Unknown e = true-false (sym e)
+
+pub one-same : (m n : ℕ) → m ≡ n → one (eqb m n) ≡ 1
 one-same m n e = ap one (of-eq m n e)
 
 sub-test : (s : List ℕ) (r v : ℕ) → subFits s r v ≡ true → Uses s r v → SubKept s r v

@@ -1,7 +1,7 @@
 -- Laws of refusal 13: one for each way out of the functions.
 use Prim.Native.Nat.{ℕ, _+_, _-_, _<_, _≤_}
 use mathlib.Core.Path.{_≡_, refl, sym, _∙_, ap, subst}
-use mathlib.Core.List.{List, [], _∷_}
+use mathlib.Core.List.{List}
 use mathlib.Core.Bool.{Bool, true, false, not, _&&_, _||_}
 use native.Mathlib.Numerals.{add-one}
 use native.Mathlib.Omega.{arith}
@@ -22,7 +22,7 @@ use Rattle.network.specs.Rows.{operationDirection, operationTwoWay, operationId
 use Rattle.network.specs.RowLaws.{OperationKept, operation-kept, CountsKept, counts-kept}
 use Rattle.network.specs.Decode.{typeOf, operationOf, serviceOf, rowsFrom, networkOf}
 use Rattle.network.specs.TestLaws.{not-true, not-false, and-of, one-less}
-use Rattle.network.specs.DecodeLaws.{reply-row}
+use Rattle.network.specs.DecodeLaws.{reply-row, rows-more, rows-none}
 use Rattle.types.specs.Tells.{RowsOrder}
 use Rattle.operations.specs.Directions.{directionOf}
 use Rattle.outputs.specs.Outputs.{verdictOf, Meets, MeetsFrom, Located, MeetsServices, Output, OutputsFrom, Outputs}
@@ -122,14 +122,6 @@ module _ (file : List ℕ) (q o i : ℕ) {tw : ℕ} {p : Bool} (a : tw ≡ opera
 pub ruleset meet-laws = (meets-not-permitted, meets-other-id, meets-request, meets-one-way, meets-two-way)
 
 -- ---- rows one after another
-
-rows-more : {A : Type 0} (f : ℕ → A) (i n : ℕ) → (n ≡ 0 → ⊥) → rowsFrom f i n ≡ f i ∷ rowsFrom f (i + 1) (n - 1)
-unfolding rowsFrom
-rows-more f i n z = ap (rowsFrom f i) (one-less n z) ∙ ap (λ (k : ℕ). f i ∷ rowsFrom f k (n - 1)) (sym (add-one i))
-
-rows-none : {A : Type 0} (f : ℕ → A) (i n : ℕ) → n ≡ 0 → rowsFrom f i n ≡ []
-unfolding rowsFrom
-rows-none f i n z = ap (rowsFrom f i) z
 
 pub from-none : (file : List ℕ) (q o i n : ℕ) → n ≡ 0 → MeetsFrom file q o i n false
 unfolding meetsOne

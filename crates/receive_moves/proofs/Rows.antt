@@ -1,12 +1,7 @@
--- The row of an input and an undone row, at each of the ways out of the code.
-use mathlib.Core.Path.{_≡_, refl, sym, ap, _∙_}
+-- The row of an input, at each of the ways out of the code.
+use mathlib.Core.Path.{_≡_, sym, ap, _∙_}
 use mathlib.Core.Bool.{true, false}
 use Prim.Native.Nat.{ℕ}
-use Rattle.state.specs.Session.{Progress}
-use Rattle.state.specs.Shape.{isUndone}
-use Rattle.progress.specs.declared.Progress as coded
-use Rattle.progress.specs.declared.Progress.the-variants.{Undone, Done, Waits, Taken, FromOutsider, FromRow, FromNobody}
-use Rattle.progress.specs.Meaning.{meaning}
 use Rattle.rows.specs.declared.BehaviourRow.{BehaviourRow}
 use Rattle.receive_moves.specs.declared.Input.{Input}
 use Rattle.receive_moves.specs.Receiving.{inputOf}
@@ -71,29 +66,3 @@ pub ruleset input-laws = (
   input-branch,
   input-unknown,
 )
-
--- ---- an undone row
-
-module _ (y : coded.Progress) (q : Progress) (e : meaning y ≡ q) where
-  pub is-undone : y ≡ Undone → true ≡ isUndone q
-  is-undone h = rw (sym e ∙ ap meaning h) refl
-
-  pub is-done : y ≡ Done → false ≡ isUndone q
-  is-done h = rw (sym e ∙ ap meaning h) refl
-
-  pub is-waiting : y ≡ Waits → false ≡ isUndone q
-  is-waiting h = rw (sym e ∙ ap meaning h) refl
-
-  pub is-taken : {k : ℕ} → y ≡ Taken k → false ≡ isUndone q
-  is-taken h = rw (sym e ∙ ap meaning h) refl
-
-  pub is-outsiders : {v : ℕ} → y ≡ FromOutsider v → false ≡ isUndone q
-  is-outsiders h = rw (sym e ∙ ap meaning h) refl
-
-  pub is-rows : {a b c : ℕ} → y ≡ FromRow a b c → false ≡ isUndone q
-  is-rows h = rw (sym e ∙ ap meaning h) refl
-
-  pub is-nobodys : y ≡ FromNobody → false ≡ isUndone q
-  is-nobodys h = rw (sym e ∙ ap meaning h) refl
-
-pub ruleset undone-laws = (is-undone, is-done, is-waiting, is-taken, is-outsiders, is-rows, is-nobodys)

@@ -29,7 +29,7 @@ use Rattle.state.specs.PartLaws.{length-zeros, byte-zeros}
 use Rattle.progress.specs.declared.Progress.the-variants.{Undone}
 use Rattle.progress.specs.Meaning.{meaning}
 use Rattle.reopening.specs.Reopening.{inRows, withUndone, isRow, behaviourRows, branchRows, subRows, rowsBelow, Clears, ClearsBranches}
-use Rattle.reopening.specs.ReopeningLaws.{cleared-are}
+use Rattle.reopening.specs.ReopeningLaws.{cleared-are, and-false}
 
 -- ---- one after another
 
@@ -69,10 +69,6 @@ clears-both {slot} {s} {t} {u} f g h c d e = record {
 }
 
 -- ---- one row
-
-and-false : (a : Bool) → a && false ≡ false
-and-false true = refl
-and-false false = refl
 
 before-row : (r slot k : ℕ) → k < slot + 2416 + 6 * r → inRows (isRow r) slot k ≡ false
 unfolding inRows isRow

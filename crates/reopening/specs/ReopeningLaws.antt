@@ -49,7 +49,7 @@ cleared-are {f} {slot} {s} {t} c =
 
 -- ---- a slot's rows
 
-and-false : (a : Bool) → a && false ≡ false
+pub and-false : (a : Bool) → a && false ≡ false
 and-false true = refl
 and-false false = refl
 

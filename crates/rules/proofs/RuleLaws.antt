@@ -2,18 +2,19 @@
 use Prim.Native.Nat.{ℕ, zero, suc, _+_, _-_, _<_, _≤_}
 use mathlib.Core.Path.{_≡_, refl, sym, _∙_, ap}
 use mathlib.Core.List.{List}
-use mathlib.Core.Bool.{Bool, true, false, not, _&&_, _||_}
-use lib.Dec.{eqb, ltb}
+use mathlib.Core.Bool.{Bool, true, false, not, _&&_}
+use lib.Dec.{eqb}
 use native.Mathlib.Omega.{arith}
 use borrow.Author.Tests.{eq-eqb, ne-eqb}
 use Rattle.scalar.specs.Value.{pick}
 use Rattle.network.specs.declared.Broken.{Broken}
 use Rattle.network.specs.declared.Broken.the-variants.{Nowhere}
 use Rattle.network.specs.Least.{least, rule, leastOver}
-use Rattle.network.specs.Layout.{typeCount, typeAt, operationAt}
-use Rattle.network.specs.Rows.{inRun, typeId, laterRun, childrenFit, idBefore, childRule, childIds, rootFits, locationFits, replyFits, operationId, sameService, sameName, repeatRule}
+use Rattle.network.specs.Layout.{typeCount, operationAt}
+use Rattle.network.specs.Rows.{typeId, laterRun, childrenFit, idBefore, childRule, childIds, rootFits, locationFits, replyFits, operationId, sameService, sameName, repeatRule}
+use Rattle.network.specs.FoldLaws.{child-outside}
 use Rattle.layout.specs.LeastFacts.{rule-true}
-use Rattle.layout.specs.Loops.{Swept, swept-more, OnlyRun, clip, run-none, run-done}
+use Rattle.layout.specs.Loops.{Swept, swept-more, clip, run-none, run-done}
 
 pub children-none : (s : List ℕ) (r first n : ℕ) → n ≡ 0 → eqb first 0 ≡ childrenFit s r first n
 unfolding childrenFit
@@ -72,20 +73,12 @@ pub ruleset repeat-laws = (other-ids)
 
 -- ---- the children of a T row
 
-or-true : (a b : Bool) → a ≡ false → not a || b ≡ true
-or-true a b e = rw e refl
-
-only-children : (s : List ℕ) (first n : ℕ) → OnlyRun (childRule s first n) first n
-unfolding childRule
-only-children s first n j e =
-    rule-true (not (inRun first n j) || ltb (idBefore s first j) (typeId s j)) (typeAt s j) (or-true (inRun first n j) (ltb (idBefore s first j) (typeId s j)) e)
-
 pub children-begin : (s : List ℕ) (first n size from to : ℕ) → from ≡ clip (first + 0) size → to ≡ clip (first + n) size → Swept (childRule s first n) to from Nowhere
-children-begin s first n size from to p q = run-none (childRule s first n) first n size from to (only-children s first n) p q
+children-begin s first n size from to p q = run-none (childRule s first n) first n size from to (child-outside s first n) p q
 
 pub children-done : (s : List ℕ) (first n size to i : ℕ) (m : Broken) → to ≡ clip (first + n) size → size ≡ typeCount s →
     Swept (childRule s first n) to i m → to ≤ i → m ≡ childIds s first n
 unfolding childIds
-children-done s first n size to i m q e w h = run-done (childRule s first n) first n size to i m (typeCount s) (only-children s first n) q w h e
+children-done s first n size to i m q e w h = run-done (childRule s first n) first n size to i m (typeCount s) (child-outside s first n) q w h e
 
 pub ruleset children-laws = (children-begin, swept-more, children-done)

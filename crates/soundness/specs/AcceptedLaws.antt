@@ -33,12 +33,7 @@ use Rattle.state.specs.Shape.{behaviourIn, serviceAt, clientOf, starterOf}
 use Rattle.soundness.specs.Parts.{branchAt}
 use Rattle.soundness.specs.Accepted.{MadeOf, SmallType, OperationFits, BehaviourFits, Agree, DerivedStarter, Accepted}
 use Rattle.soundness.specs.FilePartsLaws.{operation-same, service-same, behaviour-made}
-
-some-inj : {A : Type 0} {x y : A} → some x ≡ some y → x ≡ y
-some-inj h = cc
-
-not-some : {A : Type 0} {x : A} → none ≡ some x → ⊥
-not-some h = let z : _≡_ {A = ℕ} 0 1 = cc in omega arith
+use Rattle.soundness.specs.MadeLaws.{some-inj, not-some}
 
 -- Operations ------------------------------------------------------------------------------------------------------------------------------
 

@@ -51,7 +51,7 @@ basic-of (tree v k) (tree (mark m b) l) h = h .basics
 pub root-proper : (y : Tree Value) → GoodTree y → Proper (rootValue y)
 root-proper (tree v k) g = g .0
 
-present-good : (l : Lookup Value) (y : Tree Value) → GoodLookup l → l ≡ present y → GoodTree y
+pub present-good : (l : Lookup Value) (y : Tree Value) → GoodLookup l → l ≡ present y → GoodTree y
 present-good l y g e = subst GoodLookup e g
 
 on-root : (y : Tree Value) (f : Value → Optional Value) → onRoot (some y) f ≡ f (rootValue y)

@@ -4,7 +4,6 @@ use mathlib.Core.Path.{_≡_, refl, sym, subst}
 use Prim.Native.Nat.{ℕ}
 use mathlib.Core.Bool.{false}
 use mathlib.Core.List.{List}
-use native.Mathlib.Omega.{arith}
 use native.Mathlib.Decide.{ℕ-discrete}
 use lib.Dec.{eqb}
 use borrow.Author.Tests.{ne-eqb}
@@ -15,16 +14,14 @@ use Rattle.typing.specs.Result.{passed}
 use Rattle.typing.specs.NetworkRules.{Environments}
 use Rattle.checking.specs.FileChecker.{checkFile}
 use Rattle.tree.specs.Encode.{Octets}
-use Rattle.state.specs.Session.{Session, free, live}
+use Rattle.state.specs.Session.{Session, live}
 use Rattle.state.specs.Shape.{HasShape, serviceAt, clientOf, freshSlot, freshState}
 use Rattle.state.specs.ShapeLaws.{fresh-shape}
 use Rattle.soundness.specs.Accepted.{Accepted}
 use Rattle.soundness.specs.AcceptedLaws.{accepted}
 use Rattle.soundness.specs.Invariant.{SessionSound, Sound}
 use Rattle.soundness.specs.StartLaws.{client-sound}
-
-not-live : {S : Session} → free ≡ live S → ⊥
-not-live e = let z : _≡_ {A = ℕ} 0 1 = cc in omega arith
+use Rattle.soundness.specs.ResultLaws.{not-live}
 
 live-inj : {R S : Session} → live R ≡ live S → R ≡ S
 live-inj e = cc

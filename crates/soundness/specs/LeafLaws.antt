@@ -4,7 +4,7 @@ use mathlib.Core.Path.{_≡_, refl, sym, subst, _∙_}
 use Prim.Native.Nat.{ℕ}
 use mathlib.Core.Bool.{_||_}
 use lib.Dec.{T, eqb→eq}
-use Rattle.forest.specs.Forest.{Forest, Tree, Lookup, present, Rising}
+use Rattle.forest.specs.Forest.{Forest, Tree, present, Rising}
 use Rattle.forest.specs.Path.{Path, read, replaceAt, setPayloadAt}
 use Rattle.scalar.specs.Basic.{bool}
 use Rattle.scalar.specs.Value.{Value, basicOf}
@@ -24,9 +24,9 @@ use Rattle.typing.specs.TypedLaws.{typed-rising}
 use Rattle.moves.specs.Evaluation.{evaluate}
 use Rattle.moves.specs.Moves.{rootValue, voidValue}
 use Rattle.network.specs.OnceLaws.{or-case}
-use Rattle.soundness.specs.GoodTrees.{Good, GoodTree, GoodLookup, GoodExpression}
+use Rattle.soundness.specs.GoodTrees.{Good, GoodTree, GoodExpression}
 use Rattle.soundness.specs.GoodTreesLaws.{read-good}
-use Rattle.soundness.specs.EvaluationLaws.{progress, basic-of}
+use Rattle.soundness.specs.EvaluationLaws.{progress, basic-of, present-good}
 use Rattle.soundness.specs.Parts.{branchAt}
 use Rattle.soundness.specs.MadeLaws.{branch-typed, branch-occurs, branch-sorted, some-inj}
 use Rattle.soundness.specs.ContextLaws.{finished, finished-same, Active, Fewer, hole}
@@ -84,9 +84,6 @@ leaf-sorted notifies w = tt
 leaf-sorted asks w = w
 leaf-sorted (answers h) w = tt
 leaf-sorted (selects {m} k) w = branch-sorted m k w
-
-present-good : (l : Lookup Value) (y : Tree Value) → GoodLookup l → l ≡ present y → GoodTree y
-present-good l y g e = subst GoodLookup e g
 
 module _ (q : ℕ) where
   -- A tree, what is left, and the environment that it leads to: the session is well typed.

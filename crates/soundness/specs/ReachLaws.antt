@@ -344,7 +344,7 @@ offered-found : (P : Reached → Type 0) (b : Bool) (c k : ℕ) (a : Behaviour) 
 offered-found P true c k a l f g = f tt
 offered-found P false c k a l f g = g
 
-lt-suc : (j n : ℕ) → T (ltb j n) → T (ltb (suc j) (suc n))
+pub lt-suc : (j n : ℕ) → T (ltb j n) → T (ltb (suc j) (suc n))
 lt-suc j n t = lt→ltb (suc j) (suc n) (let h = ltb→lt j n t in omega arith)
 
 further : (c i n r : ℕ) (a b m : Behaviour) (l : Reached) → FoundOffer c i (suc n) m l → FoundOffer c i n (branch r a b m) l

@@ -3,7 +3,6 @@ use mathlib.Core.Path.{_≡_, refl, sym, ap, subst, _∙_}
 use Prim.Native.Nat.{ℕ}
 use mathlib.Core.Bool.{Bool, true, false}
 use mathlib.Core.List.{List, [], _++_}
-use native.Mathlib.Omega.{arith}
 use lib.Dec.{T, eqb, eqb→eq}
 use Rattle.forest.specs.Forest.{Tree, tree, present}
 use Rattle.forest.specs.Path.{Path, read, replaceAt}
@@ -31,14 +30,11 @@ use Rattle.soundness.specs.ReachLaws.{isOpen, Opens, asking, serving}
 use Rattle.soundness.specs.Accepted.{OfFile, MadeOf, Accepted}
 use Rattle.soundness.specs.MadeLaws.{made-at, isSequence, reaches-atRow, atRow-row, some-inj}
 use Rattle.soundness.specs.Invariant.{SessionSound, Sound}
-use Rattle.soundness.specs.SessionLaws.{once-of, made-of, advance-other, answer-sound, waiting-sound}
+use Rattle.soundness.specs.SessionLaws.{once-of, made-of, advance-other, answer-sound, waiting-sound, waits-received}
 use Rattle.soundness.specs.ResultLaws.{Keeps, goes-keeps, keeps-15, by-require, by-received, by-waiting, by-session, by-live, by-message}
 use Rattle.soundness.specs.ResultLaws.{live-inj, by-pick, keeps-found, keeps-fit, outside-fit, sound-set}
 use Rattle.soundness.specs.LocalLaws.{save-goes}
 use Rattle.soundness.specs.SendLaws.{set-elim, decoded-good}
-
-waits-received : {to : ReplyTo} → waits ≡ received to → ⊥
-waits-received h = let z : _≡_ {A = ℕ} 0 1 = cc in omega arith
 
 opens-row : {i : ℕ} {W : Behaviour} → Opens i W → rowOf W ≡ i
 unfolding rowOf

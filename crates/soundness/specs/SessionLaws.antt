@@ -80,7 +80,7 @@ advance-opens p X r s only new i t g =
 done-received : {to : ReplyTo} → done ≡ received to → ⊥
 done-received e = let z : _≡_ {A = ℕ} 0 1 = cc in omega arith
 
-waits-received : {to : ReplyTo} → waits ≡ received to → ⊥
+pub waits-received : {to : ReplyTo} → waits ≡ received to → ⊥
 waits-received e = let z : _≡_ {A = ℕ} 0 1 = cc in omega arith
 
 taken-received : {k : ℕ} {to : ReplyTo} → taken k ≡ received to → ⊥

@@ -4,9 +4,9 @@ use Prim.Native.Nat.{ℕ, suc, _+_}
 use mathlib.Core.Bool.{Bool, true, false}
 use mathlib.Core.List.{[]}
 use native.Mathlib.Omega.{arith}
-use lib.Dec.{T, eqb, ltb, ltb→lt, lt→ltb}
+use lib.Dec.{T, eqb, ltb, lt→ltb}
 use Rattle.forest.specs.Compare.{and-i}
-use Rattle.forest.specs.Forest.{end, Rising, measure}
+use Rattle.forest.specs.Forest.{end, measure}
 use Rattle.scalar.specs.Value.{pick}
 use Rattle.syntax.specs.Syntax.{Mark, Types, some, Network, Behaviour, nil, oneWay, requestResponse, notification, solicitResponse, ifThenElse}
 use Rattle.syntax.specs.Syntax.{whileDo, sequence, parallel, assign, choice, branch, lastBranch, waiting, answering}
@@ -17,6 +17,7 @@ use Rattle.typing.specs.Environment.{within}
 use Rattle.typing.specs.Rules.{Derives, WellSorted}
 use Rattle.typing.specs.Typed.{Typed}
 use Rattle.typing.specs.DerivesLaws.{derives-typed, derives-within}
+use Rattle.typing.specs.NetworkLaws.{end-rising}
 use Rattle.state.specs.Session.{ReplyTo, Progress, Progresses, undone, received, taken, advance, newSession}
 use Rattle.state.specs.Shape.{behaviourIn, undoneOrTaken, branches, suits}
 use Rattle.moves.specs.Readiness.{rest}
@@ -25,17 +26,13 @@ use Rattle.soundness.specs.GoodTreesLaws.{good-end}
 use Rattle.soundness.specs.Parts.{branchAt, Once, Fresh, Clean}
 use Rattle.soundness.specs.RowLaws.{in-own, branch-rows, branch-once, rest-fresh, rest-branch}
 use Rattle.soundness.specs.CleanLaws.{clean-fresh, undone-taken, suits-fresh}
-use Rattle.soundness.specs.ReachLaws.{isOpen}
+use Rattle.soundness.specs.ReachLaws.{isOpen, lt-suc}
 use Rattle.soundness.specs.Accepted.{Accepted}
 use Rattle.soundness.specs.MadeLaws.{made-sorted, branch-sorted}
 use Rattle.soundness.specs.Invariant.{AllQueued, SessionSound}
 use Rattle.soundness.specs.SessionLaws.{advance-same, advance-other, advance-below, once-of, made-of}
 
 -- The empty environment.
-rising-end : Rising {A = Mark} end
-unfolding Rising
-rising-end = tt
-
 within-end : T (within {A = Mark} end)
 unfolding measure
 within-end = tt
@@ -65,9 +62,6 @@ FoundStart w c n m (starts d k a) = (c ≡ d) × StartedBy w c k a n m
 start-found : (P : Target → Type 0) (b : Bool) (c k : ℕ) (a : Behaviour) (l : Target) → (T b → P (starts c k a)) → P l → P (startIf b c k a l)
 start-found P true c k a l f g = f tt
 start-found P false c k a l f g = g
-
-lt-suc : (j n : ℕ) → T (ltb j n) → T (ltb (suc j) (suc n))
-lt-suc j n t = lt→ltb (suc j) (suc n) (let h = ltb→lt j n t in omega arith)
 
 further : (w c n r : ℕ) (a b m : Behaviour) (l : Target) → FoundStart w c (suc n) m l → FoundStart w c n (branch r a b m) l
 unfolding branchAt branches
@@ -126,7 +120,7 @@ startFrom-found w c (answering r p y d) n o = absurd o
 
 module _ (N : Network) (rows : ℕ) (acc : Accepted N rows) where
   typed-from-end : (q : ℕ) (B : Behaviour) (Δ : Types) → WellSorted B → Derives q B end Δ → Typed q B end Δ
-  typed-from-end q B Δ w d = derives-typed q B end Δ w rising-end d
+  typed-from-end q B Δ w d = derives-typed q B end Δ w end-rising d
 
   pub client-sound : (q : ℕ) (B : Behaviour) → behaviourIn N q 0 ≡ some B → SessionSound N rows q 0 newSession
   unfolding AllQueued
@@ -148,7 +142,7 @@ module _ (N : Network) (rows : ℕ) (acc : Accepted N rows) where
         good = good-end;
         well = record {
           env = end;
-          rising = rising-end;
+          rising = end-rising;
           fit = own-end;
           typed = subst (λ (z : Behaviour). Typed q z end (c .0)) (sym (rest-fresh B u on (λ i t. refl))) (typed-from-end q B (c .0) ws (c .1));
         };
@@ -185,7 +179,7 @@ module _ (N : Network) (rows : ℕ) (acc : Accepted N rows) where
         good = good-end;
         well = record {
           env = end;
-          rising = rising-end;
+          rising = end-rising;
           fit = own-end;
           typed = subst (λ (z : Behaviour). Typed q z end (d k .0)) (sym er) (typed-from-end q (branchAt k m) (d k .0) (branch-sorted m k ws) (d k .1));
         };

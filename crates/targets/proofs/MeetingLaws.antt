@@ -1,9 +1,8 @@
 -- Laws of the inputs met: one for each way out of the functions.
 use Prim.Native.Nat.{ℕ, zero, suc, _+_, _-_, _<_, _≤_}
 use mathlib.Core.Path.{_≡_, refl, sym, _∙_, ap}
-use mathlib.Core.List.{List, [], _∷_}
+use mathlib.Core.List.{List}
 use mathlib.Core.Bool.{Bool, true, false, not, _&&_, _||_}
-use native.Mathlib.Numerals.{add-one}
 use native.Mathlib.Omega.{arith}
 use lib.Dec.{eqb}
 use borrow.Author.Tests.{eq-eqb, ne-eqb}
@@ -14,21 +13,13 @@ use Rattle.network.specs.Rows.{operationService, operationDirection, operationT
 use Rattle.network.specs.Decode.{operationOf, serviceOf, rowsFrom, networkOf}
 use Rattle.network.specs.Meets.{entry, locationOf, someAt, inFile, isInputOperation, sameKind, meets, firstOf, metInput}
 use Rattle.network.specs.NetworkLaws.{service-entry}
-use Rattle.network.specs.TestLaws.{one-less}
+use Rattle.network.specs.DecodeLaws.{rows-more, rows-none}
 use Rattle.state.specs.Shape.{isInput}
 use Rattle.moves.specs.Moves.{isInputNamed}
 use Rattle.targets.specs.declared.Met.{Met}
 use Rattle.targets.specs.Meeting.{operationMet}
 
 -- ---- rows one after another
-
-rows-more : {A : Type 0} (f : ℕ → A) (i n : ℕ) → (n ≡ 0 → ⊥) → rowsFrom f i n ≡ f i ∷ rowsFrom f (i + 1) (n - 1)
-unfolding rowsFrom
-rows-more f i n z = ap (rowsFrom f i) (one-less n z) ∙ ap (λ (k : ℕ). f i ∷ rowsFrom f k (n - 1)) (sym (add-one i))
-
-rows-none : {A : Type 0} (f : ℕ → A) (i n : ℕ) → n ≡ 0 → rowsFrom f i n ≡ []
-unfolding rowsFrom
-rows-none f i n z = ap (rowsFrom f i) z
 
 -- ---- locations in the file
 

@@ -21,7 +21,7 @@ use Rattle.network.specs.Rows.{fieldA, fieldB, kindAt, isInput, isChoice, noRow
 use Rattle.network.specs.Decode.{branchesFrom, behaviourFrom, behaviourTo, behaviourOf, operationOf, serviceOf, networkOf, optionalBehaviour}
 use Rattle.network.specs.Shapes.{asStarter, asClient}
 use Rattle.network.specs.RowLaws.{counts-kept, next-at}
-use Rattle.network.specs.UseLaws.{RowKept, behaviour-kept, branch-kept}
+use Rattle.network.specs.UseLaws.{RowKept, behaviour-kept, branch-kept, choice-kind}
 use Rattle.network.specs.BehaviourLaws.{behaviour-row}
 use Rattle.network.specs.NetworkLaws.{top-of}
 use Rattle.network.specs.TestLaws.{not-true, not-false, one-less, true-false}
@@ -233,21 +233,6 @@ no-choice file sub w r at BehaviourKind.Choice e = true-false e
 no-choice file sub w r at BehaviourKind.Branch e = refl
 no-choice file sub w r at BehaviourKind.Unknown e = refl
 
-is-choice : (k : BehaviourKind) → isChoice k ≡ true → k ≡ BehaviourKind.Choice
-is-choice BehaviourKind.Nil e = true-false (sym e)
-is-choice BehaviourKind.OneWay e = true-false (sym e)
-is-choice BehaviourKind.RequestResponse e = true-false (sym e)
-is-choice BehaviourKind.Notification e = true-false (sym e)
-is-choice BehaviourKind.SolicitResponse e = true-false (sym e)
-is-choice BehaviourKind.If e = true-false (sym e)
-is-choice BehaviourKind.While e = true-false (sym e)
-is-choice BehaviourKind.Sequence e = true-false (sym e)
-is-choice BehaviourKind.Parallel e = true-false (sym e)
-is-choice BehaviourKind.Assign e = true-false (sym e)
-is-choice BehaviourKind.Choice e = refl
-is-choice BehaviourKind.Branch e = true-false (sym e)
-is-choice BehaviourKind.Unknown e = true-false (sym e)
-
 choice-starts : (file : List ℕ) (w r : ℕ) → definition.startFrom w 0 0 (behaviourFrom file (behaviourOf file) r (behaviourAt file r) BehaviourKind.Choice)
     ≡ definition.startFrom w r 0 (branchesFrom file (behaviourOf file) (fieldA file (behaviourAt file r)) (fieldB file (behaviourAt file r)))
 unfolding behaviourFrom definition.startFrom
@@ -266,7 +251,7 @@ module _ (file : List ℕ) (w r : ℕ) {row first n : ℕ} {k : BehaviourKind} {
 
   module _ (f : not t ≡ false) where
     kind-is : kindAt file r ≡ BehaviourKind.Choice
-    kind-is = is-choice (kindAt file r) (sym (e ∙ ap isChoice d) ∙ not-false t f)
+    kind-is = choice-kind (kindAt file r) (sym (e ∙ ap isChoice d) ∙ not-false t f)
 
     first-is : first ≡ fieldA file (behaviourAt file r)
     first-is = b ∙ ap (λ (y : ℕ). u16At file (y + 2)) a

@@ -23,9 +23,10 @@ use Rattle.wire.specs.Wire.{u16At}
 use Rattle.network.specs.Kinds.{behaviourFields}
 use Rattle.network.specs.declared.Fields.{Fields}
 use Rattle.network.specs.Rows.{inRun, kindAt, starterRow, clientRow}
-use Rattle.network.specs.Uses.{one, fieldUses, usesBy, rowUses, serviceUses, usedByRows, used, secondUse, rowUseRule, serviceUseRule, usesRow, usesRows}
+use Rattle.network.specs.Uses.{one, fieldUses, usesBy, rowUses, serviceUses, usedByRows, used, secondUse, rowUseRule, serviceUseRule, usesRows}
+use Rattle.network.specs.FoldLaws.{usedRule, uses-by-user}
 use Rattle.layout.specs.Loops.{clip, clip-below, run-none, Swept, swept-none, swept-more, swept-done}
-use Rattle.layout.specs.LeastFacts.{rule-true, rule-apart, rule-either, over-alike, over-pair, over-exchange}
+use Rattle.layout.specs.LeastFacts.{rule-true, rule-either}
 use Rattle.uses.specs.Marks.{someBelow, plus, secondOf, Marked, Step, useOf, runTo, fieldUse, sortsUse, rowUse, serviceUse, noUse, usesTo, usesBeside, rowSecond, serviceSecond, neverUsed, Fresh, ByRows, Beside, ByServices, AllUsed}
 
 -- ---- tests below a number
@@ -472,22 +473,15 @@ pub ruleset never-laws = (swept-none, never-more, swept-done)
 
 pub uses-are : (s : List ℕ) (n : ℕ) (x y z p m : Broken) (l o : List ℕ) → n ≡ behaviourCount s → ByRows s n x l → ByServices s n y o → z ≡ leastOver n (neverUsed s) →
     p ≡ least x y → m ≡ least z p → m ≡ usesRows s
-unfolding usesRows usesRow neverUsed rowSecond serviceSecond
+unfolding neverUsed rowSecond serviceSecond
 uses-are s n x y z p m l o c v w q e f =
     let B = behaviourCount s in
     let S = serviceCount s in
-    let a : leastOver B (usesRow s) ≡ leastOver B (λ t. least (neverUsed s t) (least (leastOver B (rowUseRule s t)) (leastOver S (serviceUseRule s t)))) =
-    over-alike (usesRow s) (λ t. least (neverUsed s t) (least (leastOver B (rowUseRule s t)) (leastOver S (serviceUseRule s t)))) B
-    (λ t k. rule-apart (not (eqb (used s t S) 0)) (behaviourAt s t) (least (leastOver B (rowUseRule s t)) (leastOver S (serviceUseRule s t)))) in
-    let b = over-pair (neverUsed s) (λ t. least (leastOver B (rowUseRule s t)) (leastOver S (serviceUseRule s t))) B in
-    let d = over-pair (λ t. leastOver B (rowUseRule s t)) (λ t. leastOver S (serviceUseRule s t)) B in
-    let g = over-exchange (rowUseRule s) B B in
-    let h = over-exchange (serviceUseRule s) B S in
     let i : x ≡ leastOver B (λ r. leastOver B (λ t. rowUseRule s t r)) = v .lowest ∙ ap (λ (k : ℕ). leastOver k (rowSecond s)) c in
     let j : y ≡ leastOver S (λ r. leastOver B (λ t. serviceUseRule s t r)) = w .lowest in
-    let k : z ≡ leastOver B (neverUsed s) = q ∙ ap (λ (k : ℕ). leastOver k (neverUsed s)) c in
+    let k : z ≡ leastOver B (usedRule s) = q ∙ ap (λ (k : ℕ). leastOver k (neverUsed s)) c in
     f ∙ ap (least z) e ∙ ap (λ (u : Broken). least u (least x y)) k
-    ∙ ap (least (leastOver B (neverUsed s))) (ap (λ (u : Broken). least u y) (i ∙ sym g) ∙ ap (least (leastOver B (λ t. leastOver B (rowUseRule s t)))) (j ∙ sym h) ∙ sym d)
-    ∙ sym b ∙ sym a
+    ∙ ap (least (leastOver B (usedRule s))) (ap (λ (u : Broken). least u y) i ∙ ap (least (leastOver B (λ r. leastOver B (λ t. rowUseRule s t r)))) j)
+    ∙ sym (uses-by-user s)
 
 pub ruleset uses-laws = (fresh-marks, uses-are)

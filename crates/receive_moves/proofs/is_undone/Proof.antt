@@ -1,10 +1,10 @@
-use Rattle.receive_moves.proofs.Rows.{undone-laws}
 use borrow.Author.Needs.{needs}
 use Rattle.receive_moves.proofs.is_undone.Statement.{statement}
 use Rattle.receive_moves.proofs.is_undone.Tie as tie
 use Rattle.receive_moves.proofs.is_undone.Reads as reads
 use Rattle.receive_moves.proofs.is_undone.Lts as lts
 use Rattle.progress.proofs.row_progress.Reads as row-progress-reads
+use Rattle.progress.specs.UndoneLaws.{undone-laws}
 
 row-progress-requires : tie.Need-row-progress-requires
 row-progress-requires c κs = search needs
