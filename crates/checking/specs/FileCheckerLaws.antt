@@ -9,7 +9,7 @@ use Rattle.syntax.specs.Syntax.{Operation, Behaviour, nil, oneWay, requestRespo
 use Rattle.syntax.specs.Syntax.{sequence, parallel, assign, choice, branch, lastBranch, waiting, answering, Optional, none, some, Service, Network}
 use Rattle.network.specs.Form.{formOf, WellFormed}
 use Rattle.network.specs.Decode.{networkOf}
-use Rattle.network.specs.Meets.{entry}
+use Rattle.syntax.specs.Rows.{entry}
 use Rattle.network.specs.Shapes.{OperationShape, BehaviourShape, FileBehaviour, IfAny, asStarter, asClient, NetworkShape}
 use Rattle.network.specs.NetworkLaws.{network-shape}
 use Rattle.typing.specs.Rules.{RisingOperation, WellSorted}

@@ -16,6 +16,7 @@ use Rattle.refusal.specs.declared.Verdict.the-variants.{Done, Refused}
 use Rattle.refusal.specs.declared.Outcome.{Outcome}
 use Rattle.refusal.specs.Refusal.{doneWith, refusedBy}
 use Rattle.scalar.specs.Value.{pick}
+use Rattle.syntax.specs.Rows.{entry}
 use Rattle.syntax.specs.Syntax.{Behaviour, Optional, none, some, Service}
 use Rattle.network.specs.Form.{formOf, WellFormed}
 use Rattle.network.specs.Layout.{serviceCount}
@@ -65,7 +66,7 @@ clear-all s i n v l =
 -- ---- one client
 
 service-at : (f : ℕ → Service) (q first n : ℕ) → q < n → serviceAt (rowsFrom f first n) q ≡ some (f (first + q))
-unfolding serviceAt rowsFrom
+unfolding entry rowsFrom
 service-at f q first zero l = absurd (omega (arith, l))
 service-at f zero first (suc n) l = let z : first ≡ first + 0 = omega arith in ap (λ (j : ℕ). some (f j)) z
 service-at f (suc q) first (suc n) l =

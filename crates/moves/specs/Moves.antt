@@ -9,7 +9,7 @@ use Rattle.forest.specs.Path.{Path, read, replaceAt, setPayloadAt}
 use Rattle.scalar.specs.Basic.{bool, void}
 use Rattle.scalar.specs.Value.{Value, value, basicOf, bytesOf, number, pick}
 use Rattle.syntax.specs.Syntax.{MessageType, Expression, Optional, none, some, Service, Network, Operation, Direction, input, output, Behaviour, nil, oneWay, requestResponse, notification, solicitResponse, ifThenElse, whileDo, sequence, parallel, assign, choice, branch, lastBranch, waiting, answering}
-use Rattle.syntax.specs.Rows.{atRow}
+use Rattle.syntax.specs.Rows.{atRow, isInputOperation}
 use Rattle.state.specs.Session.{ReplyTo, nobody, outsider, waitingRow, Progress, undone, done, waits, received, taken, Progresses, advance, reopen, Queued, Session, Slot, free, live, State, setSlot, newSession}
 use Rattle.refusal.specs.declared.Refusal.{Refusal}
 use Rattle.refusal.specs.declared.Refusal.the-variants.{MoveNotAllowed, QueueFull, NoMessage, Stuck, MessageMisfit}
@@ -21,7 +21,7 @@ use Rattle.tree.specs.Encode.{messageDeep, messageMany}
 use Rattle.tree.specs.Decode.{decodeMessage}
 use Rattle.state.specs.Bytes.{messageBytes, u32Bytes}
 use Rattle.moves.specs.Readiness.{isDone, Reached, unreached, reached, offered, reach, ifTaken, ifReceived}
-use Rattle.state.specs.Shape.{behaviourIn, isInput}
+use Rattle.state.specs.Shape.{behaviourIn}
 use Rattle.moves.specs.Targets.{Target, noTarget, queueFull, queued, starts, target}
 use Rattle.moves.specs.Evaluation.{evaluate}
 
@@ -383,7 +383,7 @@ onMessage (present m) f = f m
 
 -- The input of the service q with that id; ids of inputs are unique in a service.
 abbrev pub isInputNamed : ℕ → ℕ → Operation → Bool
-isInputNamed q id o = eqb (o .service) q && (isInput (o .direction) && eqb (o .id) id)
+isInputNamed q id o = eqb (o .service) q && (isInputOperation (o .direction) && eqb (o .id) id)
 
 abbrev pub inputNamed : Network → ℕ → ℕ → Optional Operation
 inputNamed N q id = firstOf (isInputNamed q id) (N .operations)

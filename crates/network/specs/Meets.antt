@@ -1,16 +1,11 @@
 -- Which input an output meets. 01, Typing: "An output to a location in the file meets an input there of the same id and kind".
-use Prim.Native.Nat.{ℕ, zero, suc}
+use Prim.Native.Nat.{ℕ}
 use mathlib.Core.List.{List, [], _∷_}
 use mathlib.Core.Bool.{Bool, true, false, _&&_, _||_}
 use lib.Dec.{eqb}
 use Rattle.scalar.specs.Value.{pick}
-use Rattle.syntax.specs.Syntax.{Direction, input, output, Operation, Optional, none, some, Service, Network}
-
--- Entry number n of a list, counted from 0: of the services or operations, the one of row n.
-unfoldable pub entry : {A : Type 0} → ℕ → List A → Optional A
-entry n [] = none
-entry zero (a ∷ l) = some a
-entry (suc n) (a ∷ l) = entry n l
+use Rattle.syntax.specs.Rows.{entry, isInputOperation}
+use Rattle.syntax.specs.Syntax.{Operation, Optional, none, some, Service, Network}
 
 -- The location of a service; 0, which is no service's location, where there is none.
 abbrev pub locationOf : Optional Service → ℕ
@@ -24,10 +19,6 @@ someAt (v ∷ vs) l = eqb (v .location) l || someAt vs l
 
 abbrev pub inFile : Network → ℕ → Bool
 inFile n l = someAt (n .services) l
-
-abbrev pub isInputOperation : Direction → Bool
-isInputOperation input = true
-isInputOperation output = false
 
 -- The kind is one-way or two-way.
 abbrev pub sameKind : Bool → Bool → Bool

@@ -8,7 +8,8 @@ use native.Mathlib.Omega.{arith}
 use lib.Dec.{eqb}
 use Rattle.scalar.specs.Value.{pick}
 use Rattle.syntax.specs.Syntax.{Direction, input, output, Operation, Optional, none, some, Service, Network}
-use Rattle.network.specs.Meets.{entry, locationOf, someAt, inFile, isInputOperation, sameKind, meets, firstOf, metInput}
+use Rattle.network.specs.Meets.{locationOf, someAt, inFile, sameKind, meets, firstOf, metInput}
+use Rattle.syntax.specs.Rows.{entry, isInputOperation}
 use Rattle.network.specs.Shapes.{NetworkShape}
 use Rattle.network.specs.TestLaws.{eq-of, of-eq, and-of, or-of, clash}
 

@@ -14,9 +14,8 @@ use Rattle.syntax.specs.Syntax.{Mark, mark, mandatory, basic, Types, MessageTyp
 use Rattle.syntax.specs.Syntax.{binary, Direction, input, output, Operation, Behaviour, nil, oneWay, requestResponse, notification, solicitResponse}
 use Rattle.syntax.specs.Syntax.{ifThenElse, whileDo, sequence, parallel, assign, choice, branch, lastBranch, waiting, answering, Optional, none, some}
 use Rattle.syntax.specs.Syntax.{Service, Network}
-use Rattle.syntax.specs.Rows.{hasRow}
+use Rattle.syntax.specs.Rows.{hasRow, entry}
 use Rattle.network.specs.Sizes.{typeLevels, typeNodes, expressionLevels}
-use Rattle.network.specs.Meets.{entry}
 
 unfoldable pub AllPositive : List ℕ → Type 0
 AllPositive [] = Unit {0}

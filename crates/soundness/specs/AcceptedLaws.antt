@@ -15,7 +15,8 @@ use Rattle.syntax.specs.Syntax.{branch, lastBranch, waiting, answering}
 use Rattle.network.specs.Layout.{behaviourCount}
 use Rattle.network.specs.Form.{WellFormed}
 use Rattle.network.specs.Decode.{networkOf, rowOperation}
-use Rattle.network.specs.Meets.{entry, locationOf, inFile, metInput}
+use Rattle.network.specs.Meets.{locationOf, inFile, metInput}
+use Rattle.syntax.specs.Rows.{entry}
 use Rattle.network.specs.MeetsLaws.{Met, met-input, met-entry, met-once, in-file}
 use Rattle.network.specs.Shapes.{MessageTypeShape, FileBehaviour, IfAny, Role, asStarter, asClient, isChoiceBehaviour, alone, inChoice, AsInFile}
 use Rattle.network.specs.Shapes.{NetworkShape, behaviourIn as inRole}
@@ -32,7 +33,7 @@ use Rattle.tree.specs.Encode.{Octets}
 use Rattle.state.specs.Shape.{behaviourIn, serviceAt, clientOf, starterOf}
 use Rattle.soundness.specs.Parts.{branchAt}
 use Rattle.soundness.specs.Accepted.{MadeOf, SmallType, OperationFits, BehaviourFits, Agree, DerivedStarter, Accepted}
-use Rattle.soundness.specs.FilePartsLaws.{operation-same, service-same, behaviour-made}
+use Rattle.soundness.specs.FilePartsLaws.{behaviour-made}
 use Rattle.soundness.specs.MadeLaws.{some-inj, not-some}
 
 -- Operations ------------------------------------------------------------------------------------------------------------------------------
@@ -60,12 +61,12 @@ record Runs (N : Network) (q : ℕ) (x : Role) (B : Behaviour) : Type 0 where
 
 client-runs : (N : Network) (q : ℕ) (B : Behaviour) (v : Optional Service) → serviceAt (N .services) q ≡ v → clientOf v ≡ some B → Runs N q asClient B
 client-runs N q B none e h = absurd (not-some h)
-client-runs N q B (some v) e h = record { service = v; there = sym (service-same (N .services) q) ∙ e; runs = h }
+client-runs N q B (some v) e h = record { service = v; there = e; runs = h }
 
 starter-runs : (N : Network) (q : ℕ) (B : Behaviour) (t : Bool) (v : Optional Service) → serviceAt (N .services) q ≡ v
     → pick t (starterOf v) none ≡ some B → Runs N q asStarter B
 starter-runs N q B true none e h = absurd (not-some h)
-starter-runs N q B true (some v) e h = record { service = v; there = sym (service-same (N .services) q) ∙ e; runs = h }
+starter-runs N q B true (some v) e h = record { service = v; there = e; runs = h }
 starter-runs N q B false v e h = absurd (not-some h)
 
 abbrev roleOf : ℕ → Role
@@ -236,7 +237,7 @@ pub accepted : (s : List ℕ) (Es : List Environments) → Octets s → checkFil
 accepted s Es b e = record {
   fewRows = counts-kept s w .behaviours;
   fewServices = let x = service-length s in let y = counts-kept s w .services in omega arith;
-  operations = λ r o g. operation-fits (rowOperation s) (networkOf s) h r o (sym (operation-same (networkOf s .operations) r) ∙ g);
+  operations = λ r o g. operation-fits (rowOperation s) (networkOf s) h r o g;
   behaviours = λ q n B g. behaviour-fits s b w q (roleOf n) B (session-runs (networkOf s) q n B g);
   clients = λ q B g.
       let r = session-runs (networkOf s) q 0 B g in
@@ -247,7 +248,7 @@ accepted s Es b e = record {
       starter-derived q B (u .0)
       (if-any (λ B. T (isChoiceBehaviour B)) (r .service .starter) B (r .runs) (h .starters q (r .service) (r .there)))
       (behaviour-fits s b w q asStarter B r .standing) (u .1);
-  outputs = λ r o i g. outputs-agree (rowOperation s) (networkOf s) h (d .outputs) r o i (sym (operation-same (networkOf s .operations) r) ∙ g);
+  outputs = λ r o i g. outputs-agree (rowOperation s) (networkOf s) h (d .outputs) r o i g;
 }
   where
     w : WellFormed s

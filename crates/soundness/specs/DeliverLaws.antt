@@ -12,7 +12,7 @@ use Rattle.scalar.specs.Value.{Value, pick}
 use Rattle.syntax.specs.Syntax.{Types, MessageType, Optional, none, some, Service, Network, Operation, input, Behaviour, nil, oneWay, requestResponse}
 use Rattle.syntax.specs.Syntax.{notification, solicitResponse, ifThenElse, whileDo, sequence, parallel, assign, choice, branch, lastBranch, waiting}
 use Rattle.syntax.specs.Syntax.{answering}
-use Rattle.syntax.specs.Rows.{rowOf, hasRow}
+use Rattle.syntax.specs.Rows.{rowOf, hasRow, entry}
 use Rattle.network.specs.Shapes.{alone}
 use Rattle.network.specs.Meets.{firstOf}
 use Rattle.subtyping.specs.Own.{Fits}
@@ -44,7 +44,7 @@ message-formed (tree v k) (tree a l) g rt st f =
 
 -- The operation found is one of the list, and passes the test.
 pub first-there : (test : Operation → Bool) (l : List Operation) (i : Operation) → firstOf test l ≡ some i → (w : ℕ) × (operationAt l w ≡ some i) × T (test i)
-unfolding firstOf operationAt
+unfolding firstOf entry
 first-there test [] i e = absurd (none-some e)
   where
     none-some : {i : Operation} → none ≡ some i → ⊥
@@ -58,7 +58,7 @@ first-there test (o ∷ l) i e = go (test o) refl e (first-there test l i)
 
 -- A service of the file and a session 0 to 3.
 service-below : (l : List Service) (q : ℕ) (s : Service) → serviceAt l q ≡ some s → q < length l
-unfolding serviceAt
+unfolding entry
 service-below [] q s e = absurd (none-some e)
   where
     none-some : {s : Service} → none ≡ some s → ⊥

@@ -28,7 +28,8 @@ use Rattle.network.specs.Kinds.{expressionKind, behaviourKind, expressionFields
 use Rattle.network.specs.Layout.{trailer, start, count, pathAt, typeAt, expressionAt, behaviourAt, operationAt, serviceAt, dataPart, lengthFits}
 use Rattle.network.specs.Layout.{sectionsFollow, endsFit, counted}
 use Rattle.network.specs.Least.{least, rule, leastOver, sumOver}
-use Rattle.network.specs.Meets.{entry, someAt, meets, firstOf, metInput}
+use Rattle.network.specs.Meets.{someAt, meets, firstOf, metInput}
+use Rattle.syntax.specs.Rows.{entry}
 use Rattle.network.specs.Rows.{laterRun, pathRow, typeId, cardinality, typeBasic, firstChild, childCount, childrenFit, idBefore, childRule, childIds}
 use Rattle.network.specs.Rows.{typeRow, expressionKindAt, kindAt, subFits, inputFits, constantFits, fieldFits, fieldsRule, basicFits, expressionRow}
 use Rattle.network.specs.Rows.{behaviourHead, branchRule, branchRows, choiceRun, behaviourRow, operationService, operationDirection, operationTwoWay}

@@ -6,7 +6,7 @@ use Rattle.forest.specs.Forest.{find, set, measure, mapForest}
 use Rattle.forest.specs.Path.{readSteps, writeSteps}
 use Rattle.scalar.specs.Value.{number, isValue}
 use Rattle.scalar.specs.Operator.{littleEndian, addOf}
-use Rattle.syntax.specs.Rows.{rowOf, hasRow, atRow}
+use Rattle.syntax.specs.Rows.{rowOf, hasRow, atRow, entry}
 use Rattle.tree.specs.Decode.{headOk, siblings, parse, decode}
 use Rattle.tree.specs.Encode.{count, encode}
 use Rattle.subtyping.specs.Subtype.{areSubtypes}
@@ -18,8 +18,8 @@ use Rattle.network.specs.Layout.{trailer, start, count as sectionCount, pathAt,
 use Rattle.network.specs.Layout.{serviceAt as servicePlace, dataPart}
 use Rattle.network.specs.Rows.{typeId, cardinality, typeBasic, firstChild, childCount, expressionKindAt, kindAt, operationService, operationDirection}
 use Rattle.network.specs.Rows.{operationTwoWay, operationId, operationLocation, requestType, replyType, serviceLocation, starterRow, clientRow}
-use Rattle.network.specs.Meets.{entry, someAt, meets, firstOf, metInput}
-use Rattle.state.specs.Shape.{serviceAt, operationAt, freshState}
+use Rattle.network.specs.Meets.{someAt, meets, firstOf, metInput}
+use Rattle.state.specs.Shape.{freshState}
 use Rattle.moves.specs.Evaluation.{evaluate}
 use Rattle.moves.specs.Moves.{localAt, oldest, receiveAt, sendAt, move}
 use Rattle.moves.specs.Readiness.{isDone, offer, reach}
@@ -39,7 +39,7 @@ unfolding u16At find set measure mapForest readSteps writeSteps number isValue l
     behaviourFrom behaviourTo behaviourOf serviceOf rowsFrom networkOf expressionKind behaviourKind expressionFields behaviourFields trailer start
     sectionCount pathAt typeAt expressionAt behaviourAt operationPlace servicePlace dataPart typeId cardinality typeBasic firstChild childCount
     expressionKindAt kindAt operationService operationDirection operationTwoWay operationId operationLocation requestType replyType serviceLocation
-    starterRow clientRow entry someAt meets firstOf metInput serviceAt operationAt evaluate localAt oldest receiveAt sendAt move isDone offer reach
+    starterRow clientRow entry someAt meets firstOf metInput evaluate localAt oldest receiveAt sendAt move isDone offer reach
     startFrom numbers reachedBy
 computed = (refl, refl, refl, refl)
 

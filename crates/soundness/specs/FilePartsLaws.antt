@@ -16,7 +16,7 @@ use Rattle.network.specs.Rows.{fieldA, fieldB, fieldC, fieldD, expressionKindAt
 use Rattle.network.specs.Form.{WellFormed}
 use Rattle.network.specs.Decode.{untilZero, pathOf, expressionFrom, expressionTo, expressionOf, operationOf, branchesFrom, behaviourFrom, behaviourTo}
 use Rattle.network.specs.Decode.{behaviourOf, networkOf}
-use Rattle.network.specs.Meets.{entry}
+use Rattle.syntax.specs.Rows.{entry}
 use Rattle.network.specs.Shapes.{AllPositive, PartsShape}
 use Rattle.network.specs.DecodeLaws.{path-shape, expression-shape}
 use Rattle.network.specs.UseLaws.{RowKept, behaviour-kept, branch-kept}
@@ -27,20 +27,6 @@ use Rattle.tree.specs.EncodeLaws.{octets-part, octets-nil}
 use Rattle.state.specs.Shape.{operationAt, serviceAt}
 use Rattle.soundness.specs.GoodTrees.{AllIds, GoodPath, GoodExpression}
 use Rattle.soundness.specs.Accepted.{OfFile, MadeOf}
-
--- Rows of lists ---------------------------------------------------------------------------------------------------------------------------
-
-pub operation-same : (l : List Operation) (w : ℕ) → operationAt l w ≡ entry w l
-unfolding operationAt entry
-operation-same [] w = refl
-operation-same (o ∷ l) zero = refl
-operation-same (o ∷ l) (suc w) = operation-same l w
-
-pub service-same : (l : List Service) (q : ℕ) → serviceAt l q ≡ entry q l
-unfolding serviceAt entry
-service-same [] q = refl
-service-same (v ∷ l) zero = refl
-service-same (v ∷ l) (suc q) = service-same l q
 
 -- Numbers of bytes ------------------------------------------------------------------------------------------------------------------------
 
@@ -129,7 +115,7 @@ operation-row s w = refl
 
 operation-of-file : (s : List ℕ) (w : ℕ) → w < operationCount s → OfFile (networkOf s) (operationOf s w)
 operation-of-file s w l =
-    ap (operationAt (networkOf s .operations)) (operation-row s w) ∙ (operation-same (networkOf s .operations) w ∙ operation-entry s w l)
+    ap (operationAt (networkOf s .operations)) (operation-row s w) ∙ operation-entry s w l
 
 -- Behaviours ------------------------------------------------------------------------------------------------------------------------------
 

@@ -12,7 +12,7 @@ use Rattle.forest.specs.Path.{Path, replaceAt}
 use Rattle.scalar.specs.Value.{Value, pick}
 use Rattle.syntax.specs.Syntax.{some, Network, Operation, Direction, input, output, Expression, Behaviour, nil, oneWay, requestResponse, notification}
 use Rattle.syntax.specs.Syntax.{solicitResponse, ifThenElse, whileDo, sequence, parallel, assign, choice, branch, lastBranch, waiting, answering}
-use Rattle.syntax.specs.Rows.{rowOf, hasRow}
+use Rattle.syntax.specs.Rows.{rowOf, hasRow, isInputOperation}
 use Rattle.refusal.specs.declared.Refusal.the-variants.{Stuck, MoveNotAllowed}
 use Rattle.subtyping.specs.Own.{Fits}
 use Rattle.typing.specs.Environment.{within}
@@ -20,7 +20,7 @@ use Rattle.typing.specs.Rules.{permits, sameBool, sameDirection}
 use Rattle.tree.specs.Encode.{WellFormed, messageDeep, messageMany}
 use Rattle.state.specs.Session.{ReplyTo, Progress, Progresses, undone, done, waits, received, taken, advance, reopen, Queued, Session, free, live}
 use Rattle.state.specs.Session.{State, setSlot}
-use Rattle.state.specs.Shape.{operationAt, isInput, isNobody, isDestination, suitsOperation, undoneOrTaken, branches, suits}
+use Rattle.state.specs.Shape.{operationAt, isNobody, isDestination, suitsOperation, undoneOrTaken, branches, suits}
 use Rattle.moves.specs.Readiness.{isDone, Reached, unreached, reached, offered, reach}
 use Rattle.moves.specs.Evaluation.{evaluate}
 use Rattle.moves.specs.Moves.{Result, moved, require, onTree, onBool, rootValue, voidValue, ifReadyWhile, withTree, withProgress, withQueue}
@@ -105,8 +105,8 @@ permits-output q two o t =
 pub suits-destination : (N : Network) (rows q : ℕ) (to : ReplyTo) (o : Operation) → T (suitsOperation N rows q to (some o)) → o .twoWay ≡ true
     → T (isDestination N rows to)
 suits-destination N rows q to o t e =
-    let u = and-r (isInput (o .direction)) (pick (o .twoWay) (isDestination N rows to) (isNobody to))
-    (and-r (eqb (o .service) q) (isInput (o .direction) && pick (o .twoWay) (isDestination N rows to) (isNobody to)) t) in
+    let u = and-r (isInputOperation (o .direction)) (pick (o .twoWay) (isDestination N rows to) (isNobody to))
+    (and-r (eqb (o .service) q) (isInputOperation (o .direction) && pick (o .twoWay) (isDestination N rows to) (isNobody to)) t) in
     subst (λ (b : Bool). T (pick b (isDestination N rows to) (isNobody to))) e u
 
 module _ (N : Network) (rows : ℕ) (acc : Accepted N rows) where

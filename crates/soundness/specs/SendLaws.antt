@@ -11,8 +11,8 @@ use Rattle.forest.specs.Path.{Path}
 use Rattle.scalar.specs.Value.{Value, pick}
 use Rattle.syntax.specs.Syntax.{some, Network, Operation, Direction, input, output, Expression, Behaviour, nil, oneWay, requestResponse, notification}
 use Rattle.syntax.specs.Syntax.{solicitResponse, ifThenElse, whileDo, sequence, parallel, assign, choice, branch, lastBranch, waiting, answering}
-use Rattle.syntax.specs.Rows.{rowOf, atRow}
-use Rattle.network.specs.Meets.{entry, locationOf, inFile, isInputOperation, sameKind, metInput, meets}
+use Rattle.syntax.specs.Rows.{rowOf, atRow, entry, isInputOperation}
+use Rattle.network.specs.Meets.{locationOf, inFile, sameKind, metInput, meets}
 use Rattle.refusal.specs.declared.Refusal.the-variants.{MoveNotAllowed}
 use Rattle.subtyping.specs.Subtype.{Subtype}
 use Rattle.subtyping.specs.SubtypeLaws.{subtype-sound, subtype-trans}
@@ -25,7 +25,7 @@ use Rattle.tree.specs.DecodeLaws.{decode-sound}
 use Rattle.state.specs.Session.{ReplyTo, nobody, outsider, waitingRow, Progress, Progresses, done, waits, advance, Session, Slot, live, State}
 use Rattle.state.specs.Session.{setSlot}
 use Rattle.state.specs.Bytes.{messageBytes}
-use Rattle.state.specs.Shape.{operationAt, isInput, isNobody, isDestination, suitsOperation}
+use Rattle.state.specs.Shape.{operationAt, isNobody, isDestination, suitsOperation}
 use Rattle.moves.specs.Readiness.{Reached, unreached, reached, offered, reach}
 use Rattle.moves.specs.Evaluation.{evaluate}
 use Rattle.moves.specs.Targets.{Target, noTarget, queueFull, queued, starts, target}
@@ -46,7 +46,7 @@ use Rattle.soundness.specs.DeliverLaws.{TargetInfo, target-info, Admits,
 solicit-same : {r r2 : ℕ} {o o2 : Operation} {e e2 : Expression} {x x2 : Path} → solicitResponse r o e x ≡ solicitResponse r2 o2 e2 x2 → o ≡ o2
 solicit-same h = cc
 
-is-input : (d : Direction) → T (isInputOperation d) → T (isInput d)
+is-input : (d : Direction) → T (isInputOperation d) → T (isInputOperation d)
 is-input input t = t
 is-input output t = t
 
@@ -75,7 +75,7 @@ module _ (N : Network) (rows : ℕ) (acc : Accepted N rows) where
   -- The input that an output meets.
   pub record Met (o i : Operation) : Type 0 where
     pub ofFile : OfFile N i
-    pub isIn : T (isInput (i .direction))
+    pub isIn : T (isInputOperation (i .direction))
     pub alike : i .twoWay ≡ o .twoWay
 
   met : (o i : Operation) → metInput N o ≡ some i → Met o i
@@ -91,11 +91,11 @@ module _ (N : Network) (rows : ℕ) (acc : Accepted N rows) where
         alike = same-bool (i .twoWay) (o .twoWay) (and-r (eqb (i .id) (o .id)) (sameKind (i .twoWay) (o .twoWay)) (and-r A B (u .2)));
       }
 
-  pub suit-of : (i : Operation) (back : ReplyTo) → T (isInput (i .direction)) → T (pick (i .twoWay) (isDestination N rows back) (isNobody back))
+  pub suit-of : (i : Operation) (back : ReplyTo) → T (isInputOperation (i .direction)) → T (pick (i .twoWay) (isDestination N rows back) (isNobody back))
       → T (suitsOperation N rows (i .service) back (some i))
   suit-of i back t u =
-      and-i (eqb (i .service) (i .service)) (isInput (i .direction) && pick (i .twoWay) (isDestination N rows back) (isNobody back)) (eqb-refl (i .service))
-      (and-i (isInput (i .direction)) (pick (i .twoWay) (isDestination N rows back) (isNobody back)) t u)
+      and-i (eqb (i .service) (i .service)) (isInputOperation (i .direction) && pick (i .twoWay) (isDestination N rows back) (isNobody back)) (eqb-refl (i .service))
+      (and-i (isInputOperation (i .direction)) (pick (i .twoWay) (isDestination N rows back) (isNobody back)) t u)
 
   -- The target as the state is after the sender has gone on.
   gone-info : (G : State) (q n : ℕ) (S : Session) (p2 : Progresses) → G q n ≡ live S → (i : Operation) (k : ℕ) (t : Target) → TargetInfo N G i k t
@@ -222,8 +222,8 @@ module _ (N : Network) (rows : ℕ) (acc : Accepted N rows) where
       by-operation N rows false (inputNamed N q id) K
       (λ i ei.
       let u = first-there (isInputNamed q id) (N .operations) i ei in
-      let svc = eqb→eq (i .service) q (and-l (eqb (i .service) q) (isInput (i .direction) && eqb (i .id) id) (u .2)) in
-      let isIn = and-l (isInput (i .direction)) (eqb (i .id) id) (and-r (eqb (i .service) q) (isInput (i .direction) && eqb (i .id) id) (u .2)) in
+      let svc = eqb→eq (i .service) q (and-l (eqb (i .service) q) (isInputOperation (i .direction) && eqb (i .id) id) (u .2)) in
+      let isIn = and-l (isInputOperation (i .direction)) (eqb (i .id) id) (and-r (eqb (i .service) q) (isInputOperation (i .direction) && eqb (i .id) id) (u .2)) in
       let t = target N G i n in
       let back = pick (i .twoWay) (outsider number) nobody in
       let D : Tree Value → Result = λ m. mustFit m (i .request) (deliver G i n t back m) in

@@ -12,12 +12,12 @@ use borrow.Author.Tests.{ne-eqb, eqb-true, ltb-true, leb-true}
 use Rattle.forest.specs.Forest.{Forest, Tree, tree, nodes}
 use Rattle.scalar.specs.Value.{Value, value, pick, isValue}
 use Rattle.syntax.specs.Syntax.{Optional, none, some, Network, Operation, Behaviour, nil, oneWay, requestResponse, notification, solicitResponse, ifThenElse, whileDo, sequence, parallel, assign, choice, branch, lastBranch, waiting, answering}
-use Rattle.syntax.specs.Rows.{rowOf, hasRow}
+use Rattle.syntax.specs.Rows.{rowOf, hasRow, entry, isInputOperation}
 use Rattle.tree.specs.Encode.{count, encode, rooted, empty, Octets, Proper, WellFormed, messageDeep, messageMany, treeDeep, treeMany}
 use Rattle.tree.specs.EncodeLaws.{and-left, and-right, count-nodes, encode-octets, octets-nil}
 use Rattle.state.specs.Session.{ReplyTo, nobody, outsider, waitingRow, Progress, undone, done, waits, received, taken, Progresses, Queued, Session, Slot, free, live, State}
 use Rattle.state.specs.Bytes.{zeros, joined, padded, u16Bytes, replyKind, replyBytes, messageBytes, entryBytes, queueBytes, progressBytes, rowsBytes, treeBytes, slotBytes, slotAt, stateBytes}
-use Rattle.state.specs.Shape.{isDestination, isNobody, isInput, isUndone, undoneOrDone, undoneDoneOrWaits, undoneDoneOrReceived, undoneOrTaken, undoneDoneOrBody, branches, suits, quietElsewhere, suitsOperation, suitsQueue, operationAt, behaviourIn, suitsBehaviour, suitsSlot, AllMessages, WellMade, MadeSlot, HasShape}
+use Rattle.state.specs.Shape.{isDestination, isNobody, isUndone, undoneOrDone, undoneDoneOrWaits, undoneDoneOrReceived, undoneOrTaken, undoneDoneOrBody, branches, suits, quietElsewhere, suitsOperation, suitsQueue, operationAt, behaviourIn, suitsBehaviour, suitsSlot, AllMessages, WellMade, MadeSlot, HasShape}
 use Rattle.state.specs.PartLaws.{byte-zeros}
 use Rattle.state.specs.SizeLaws.{value-size, message-size, session-tree-size}
 use Rattle.state.specs.RowShape.{suitsRow, PartOf}
@@ -115,7 +115,7 @@ module _ {N : Network} {rows : ℕ} (w : WithinLimits N rows) where
   -- ---- the queue
 
   operation-row : (l : List Operation) (k : ℕ) (o : Operation) → operationAt l k ≡ some o → k < length l
-  unfolding operationAt
+  unfolding entry
   operation-row [] k o e = absurd (let z : _≡_ {A = ℕ} 0 1 = cc in omega arith)
   operation-row (a ∷ l) zero o e = omega arith
   operation-row (a ∷ l) (suc k) o e = omega (arith, operation-row l k o e)
@@ -136,7 +136,7 @@ module _ {N : Network} {rows : ℕ} (w : WithinLimits N rows) where
       by (some o) e h =
           let l = messageBytes (m .message) in
           let t = pick (o .twoWay) (isDestination N rows (m .replyTo)) (isNobody (m .replyTo)) in
-          let r = and-right (isInput (o .direction)) t (and-right (eqb (o .service) q) (isInput (o .direction) && t) h) in
+          let r = and-right (isInputOperation (o .direction)) t (and-right (eqb (o .service) q) (isInputOperation (o .direction) && t) h) in
           let k = operation-row (N .operations) (m .operation) o e in
           octets-cons (omega (arith, w .operations)) (octets-cons (kind-octet (m .replyTo))
           (octets-append (u16Bytes (length l)) _ (octets-u16 (length l) (omega (arith, message-size (m .message) f)))

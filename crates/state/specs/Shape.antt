@@ -10,17 +10,15 @@ use lib.Dec.{eqb, leb, ltb}
 use lib.ListN.{length}
 use Rattle.forest.specs.Forest.{tree}
 use Rattle.scalar.specs.Value.{pick}
-use Rattle.syntax.specs.Syntax.{Optional, none, some, Service, Network, Operation, Direction, input, output, Behaviour, nil, oneWay, requestResponse, notification, solicitResponse, ifThenElse, whileDo, sequence, parallel, assign, choice, branch, lastBranch, waiting, answering}
-use Rattle.syntax.specs.Rows.{hasRow}
+use Rattle.syntax.specs.Syntax.{Optional, none, some, Service, Network, Operation, Behaviour, nil, oneWay, requestResponse, notification, solicitResponse, ifThenElse, whileDo, sequence, parallel, assign, choice, branch, lastBranch, waiting, answering}
+use Rattle.syntax.specs.Rows.{hasRow, entry, isInputOperation}
 use Rattle.tree.specs.Encode.{WellFormed, empty, messageDeep, messageMany, treeDeep, treeMany}
 use Rattle.state.specs.Session.{ReplyTo, nobody, outsider, waitingRow, Progress, undone, done, waits, received, taken, Progresses, Queued, Session, Slot, free, live, State, newSession}
 use Rattle.state.specs.Bytes.{stateBytes, readState}
 
 -- The service of a row.
-unfoldable pub serviceAt : List Service → ℕ → Optional Service
-serviceAt [] q = none
-serviceAt (s ∷ l) zero = some s
-serviceAt (s ∷ l) (suc q) = serviceAt l q
+abbrev pub serviceAt : List Service → ℕ → Optional Service
+serviceAt l q = entry q l
 
 abbrev pub clientOf : Optional Service → Optional Behaviour
 clientOf none = none
@@ -35,10 +33,8 @@ abbrev pub behaviourIn : Network → ℕ → ℕ → Optional Behaviour
 behaviourIn N q n = pick (eqb n 0) (clientOf (serviceAt (N .services) q)) (pick (leb n 3) (starterOf (serviceAt (N .services) q)) none)
 
 -- The operation of an O row.
-unfoldable pub operationAt : List Operation → ℕ → Optional Operation
-operationAt [] w = none
-operationAt (o ∷ l) zero = some o
-operationAt (o ∷ l) (suc w) = operationAt l w
+abbrev pub operationAt : List Operation → ℕ → Optional Operation
+operationAt l w = entry w l
 
 -- Where a reply goes: "where replies go", with the services, sessions and B rows that there are.
 abbrev pub isDestination : Network → ℕ → ReplyTo → Bool
@@ -51,15 +47,11 @@ isNobody nobody = true
 isNobody (outsider k) = false
 isNobody (waitingRow q n r) = false
 
-abbrev pub isInput : Direction → Bool
-isInput input = true
-isInput output = false
-
 -- A queued message is of an input of its service, and has a destination exactly if that is two-way.
 abbrev pub suitsOperation : Network → ℕ → ℕ → ReplyTo → Optional Operation → Bool
 suitsOperation N rows q to none = false
 suitsOperation N rows q to (some o) =
-    eqb (o .service) q && (isInput (o .direction) && pick (o .twoWay) (isDestination N rows to) (isNobody to))
+    eqb (o .service) q && (isInputOperation (o .direction) && pick (o .twoWay) (isDestination N rows to) (isNobody to))
 
 unfoldable pub suitsQueue : Network → ℕ → ℕ → List Queued → Bool
 suitsQueue N rows q [] = true

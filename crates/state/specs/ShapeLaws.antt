@@ -13,6 +13,7 @@ use lib.Dec.{eqb, ltb}
 use borrow.Author.Tests.{eq-eqb, ne-eqb, eqb-true, lt-ltb, le-ltb}
 use Rattle.forest.specs.Forest.{end, tree, Lookup, absent, present, childrenOf, Rising, measure}
 use Rattle.scalar.specs.Value.{Value, pick}
+use Rattle.syntax.specs.Rows.{entry}
 use Rattle.syntax.specs.Syntax.{Optional, none, some, Network, Service, Behaviour, nil, oneWay, requestResponse, notification, solicitResponse, ifThenElse, whileDo, sequence, parallel, assign, choice, branch, lastBranch, waiting, answering}
 use Rattle.wire.specs.Wire.{byteAt, u16At, part}
 use Rattle.tree.specs.Encode.{empty, Octets, Sound, WellFormed, messageDeep, messageMany, treeDeep, treeMany}
@@ -251,7 +252,7 @@ new-suits N rows q B = rw (undone-suits N rows B, undone-quiet 256 B)
 
 -- Past the services there is none.
 pub no-service : (l : List Service) (q : ℕ) → length l ≤ q → serviceAt l q ≡ none
-unfolding serviceAt
+unfolding entry
 no-service [] q h = refl
 no-service (s ∷ l) zero h = absurd (omega arith)
 no-service (s ∷ l) (suc q) h = no-service l q (omega arith)

@@ -15,7 +15,8 @@ use Rattle.network.specs.Rows.{operationService, operationDirection, operationT
 use Rattle.network.specs.Decode.{operationOf, rowsFrom, networkOf}
 use Rattle.state.specs.Session.{ReplyTo, nobody, waitingRow}
 use Rattle.state.specs.Bytes.{readReply, readEntry, readQueue}
-use Rattle.state.specs.Shape.{operationAt, isDestination, isNobody, isInput, suitsQueue}
+use Rattle.state.specs.Shape.{operationAt, isDestination, isNobody, suitsQueue}
+use Rattle.syntax.specs.Rows.{isInputOperation, entry}
 use Rattle.state_shape.specs.Stands.{suitsEntry}
 
 -- ---- nowhere
@@ -38,13 +39,13 @@ pub ruleset nobody-laws = (an-outsider, no-outsider)
 -- ---- an entry
 
 operation-row : (f : ℕ → Operation) (n first w : ℕ) → w < n → operationAt (rowsFrom f first n) w ≡ some (f (first + w))
-unfolding operationAt rowsFrom
+unfolding entry rowsFrom
 operation-row f zero first w h = absurd (omega arith)
 operation-row f (suc n) first zero h = rw (add-zero first)
 operation-row f (suc n) first (suc w) h = let e : suc first + w ≡ first + suc w = omega arith in operation-row f n (suc first) w (omega arith) ∙ rw e
 
 no-operation : (f : ℕ → Operation) (n first w : ℕ) → n ≤ w → operationAt (rowsFrom f first n) w ≡ none
-unfolding operationAt rowsFrom
+unfolding entry rowsFrom
 no-operation f zero first w h = refl
 no-operation f (suc n) first zero h = absurd (omega arith)
 no-operation f (suc n) first (suc w) h = no-operation f n (suc first) w (omega arith)
@@ -64,7 +65,7 @@ module _ (file s : List ℕ) (q w at m : ℕ) (e : m ≡ operationCount file) wh
     entry-is =
         rw (operation-row (operationOf file) (operationCount file) 0 w (omega arith), zero-add w, sym f) (by (eqb (operationDirection file w) 0))
       where
-        by : (t : Bool) → (eqb v q && (isInput (pick t input output) &&
+        by : (t : Bool) → (eqb v q && (isInputOperation (pick t input output) &&
             pick (eqb (operationTwoWay file w) 1) (isDestination (networkOf file) (behaviourCount file) to) (isNobody to)))
             ≡ (eqb v q && (t && pick (eqb (operationTwoWay file w) 1) (isDestination (networkOf file) (behaviourCount file) to) (isNobody to)))
         by true = refl

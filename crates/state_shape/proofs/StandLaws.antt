@@ -9,6 +9,7 @@ use lib.ListN.{length}
 use lib.Dec.{eqb, leb, ltb}
 use borrow.Author.Tests.{eq-eqb, ne-eqb, le-leb, lt-ltb, ltb-true, not-true, not-false}
 use Rattle.scalar.specs.Value.{pick}
+use Rattle.syntax.specs.Rows.{entry}
 use Rattle.syntax.specs.Syntax.{Optional, none, some, Behaviour, Service}
 use Rattle.wire.specs.Wire.{byteAt}
 use Rattle.tree.specs.Encode.{Octets}
@@ -30,13 +31,13 @@ use Rattle.state_shape.specs.Stands.{isSome, standsFor, TopRow, SessionT
 -- ---- what a session runs
 
 service-row : (f : ℕ → Service) (n first q : ℕ) → q < n → serviceAt (rowsFrom f first n) q ≡ some (f (first + q))
-unfolding serviceAt rowsFrom
+unfolding entry rowsFrom
 service-row f zero first q h = absurd (omega arith)
 service-row f (suc n) first zero h = rw (add-zero first)
 service-row f (suc n) first (suc q) h = let e : suc first + q ≡ first + suc q = omega arith in service-row f n (suc first) q (omega arith) ∙ rw e
 
 no-service : (f : ℕ → Service) (n first q : ℕ) → n ≤ q → serviceAt (rowsFrom f first n) q ≡ none
-unfolding serviceAt rowsFrom
+unfolding entry rowsFrom
 no-service f zero first q h = refl
 no-service f (suc n) first zero h = absurd (omega arith)
 no-service f (suc n) first (suc q) h = no-service f n (suc first) q (omega arith)

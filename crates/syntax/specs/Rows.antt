@@ -1,8 +1,10 @@
--- The rows of a behaviour. Row numbers are labels: rules never look at them, progress and places of refusals do.
+-- The rows of a behaviour, and the entries of lists by row. Row numbers are labels: rules never look at them, progress and places of refusals
+-- do.
+use mathlib.Core.List.{List, [], _∷_}
 use mathlib.Core.Bool.{Bool, true, false, _||_}
-use Prim.Native.Nat.{ℕ}
+use Prim.Native.Nat.{ℕ, zero, suc}
 use lib.Dec.{eqb}
-use Rattle.syntax.specs.Syntax.{Optional, none, some, Behaviour, nil, oneWay, requestResponse, notification, solicitResponse, ifThenElse, whileDo, sequence, parallel, assign, choice, branch, lastBranch, waiting, answering}
+use Rattle.syntax.specs.Syntax.{Direction, input, output, Optional, none, some, Behaviour, nil, oneWay, requestResponse, notification, solicitResponse, ifThenElse, whileDo, sequence, parallel, assign, choice, branch, lastBranch, waiting, answering}
 
 -- The number of the row that a behaviour stands for.
 unfoldable pub rowOf : Behaviour → ℕ
@@ -65,3 +67,13 @@ atRow i (branch r a b m) = itself (eqb i r) (branch r a b m) (orElseSome (orElse
 atRow i (lastBranch r a b) = itself (eqb i r) (lastBranch r a b) (orElseSome (atRow i a) (atRow i b))
 atRow i (waiting r o x) = itself (eqb i r) (waiting r o x) none
 atRow i (answering r o c d) = itself (eqb i r) (answering r o c d) (atRow i d)
+
+-- Entry number n of a list, counted from 0: of the services or operations, the one of row n.
+unfoldable pub entry : {A : Type 0} → ℕ → List A → Optional A
+entry n [] = none
+entry zero (a ∷ l) = some a
+entry (suc n) (a ∷ l) = entry n l
+
+abbrev pub isInputOperation : Direction → Bool
+isInputOperation input = true
+isInputOperation output = false

@@ -11,10 +11,10 @@ use Rattle.syntax.specs.Syntax.{input, output, Operation, none, some, Service}
 use Rattle.network.specs.Layout.{operationCount, serviceCount}
 use Rattle.network.specs.Rows.{operationService, operationDirection, operationTwoWay, operationId, operationLocation, serviceLocation}
 use Rattle.network.specs.Decode.{operationOf, serviceOf, rowsFrom, networkOf}
-use Rattle.network.specs.Meets.{entry, locationOf, someAt, inFile, isInputOperation, sameKind, meets, firstOf, metInput}
+use Rattle.network.specs.Meets.{locationOf, someAt, inFile, sameKind, meets, firstOf, metInput}
+use Rattle.syntax.specs.Rows.{entry, isInputOperation}
 use Rattle.network.specs.NetworkLaws.{service-entry}
 use Rattle.network.specs.DecodeLaws.{rows-more, rows-none}
-use Rattle.state.specs.Shape.{isInput}
 use Rattle.moves.specs.Moves.{isInputNamed}
 use Rattle.targets.specs.declared.Met.{Met}
 use Rattle.targets.specs.Meeting.{operationMet}
@@ -99,7 +99,7 @@ pub ruleset kind-laws = (kind-first, kind-second)
 
 pub ruleset meets-laws = (meets-are)
 
-named-is : (t : Bool) → isInput (pick t input output) ≡ t
+named-is : (t : Bool) → isInputOperation (pick t input output) ≡ t
 named-is true = refl
 named-is false = refl
 

@@ -7,6 +7,7 @@ use native.Mathlib.Omega.{arith}
 use lib.Dec.{eqb, leb, ltb}
 use borrow.Author.Tests.{lt-ltb}
 use Rattle.scalar.specs.Value.{pick}
+use Rattle.syntax.specs.Rows.{entry}
 use Rattle.syntax.specs.Syntax.{Behaviour, Optional, none, some, Service}
 use Rattle.network.specs.Layout.{serviceCount}
 use Rattle.network.specs.Decode.{serviceOf, rowsFrom, networkOf}
@@ -15,13 +16,13 @@ use Rattle.state.specs.Bytes.{readSlot, readState}
 use Rattle.state.specs.Shape.{serviceAt, clientOf, starterOf, behaviourIn}
 
 past-end : (f : ℕ → Service) (n first q : ℕ) → n ≤ q → serviceAt (rowsFrom f first n) q ≡ none
-unfolding serviceAt rowsFrom
+unfolding entry rowsFrom
 past-end f zero first q l = refl
 past-end f (suc n) first zero l = absurd (omega (arith, l))
 past-end f (suc n) first (suc q) l = past-end f n (suc first) q (omega (arith, l))
 
 at-row : (f : ℕ → Service) (n first q : ℕ) → q < n → serviceAt (rowsFrom f first n) q ≡ some (f (first + q))
-unfolding serviceAt rowsFrom
+unfolding entry rowsFrom
 at-row f zero first q l = absurd (omega (arith, l))
 at-row f (suc n) first zero l = let z : first ≡ first + 0 = omega arith in ap (λ (j : ℕ). some (f j)) z
 at-row f (suc n) first (suc q) l =
