@@ -10,10 +10,10 @@ use lib.Dec.{T, leb}
 use lib.ListN.{length, take, drop, length-drop, length-take}
 use borrow.Author.Tests.{le-leb}
 use Rattle.wire.specs.Wire.{part}
-use Rattle.scalar.specs.Value.{Value, value, number, isValue}
+use Rattle.scalar.specs.Value.{Value, value, number, isValue, Sound}
 use Rattle.scalar.specs.Operator.{notOf, negateOf, addOf, subtractOf, lessOf, equalOf, andOf}
 use Rattle.scalar.specs.Scalar.{valueOf, valueBeside, beside, answerOf}
-use Rattle.scalar.specs.NumberLaws.{Sound, sound-bool, sound-int, sound-long, sound-double}
+use Rattle.scalar.specs.NumberLaws.{sound-bool, sound-int, sound-long, sound-double}
 use Rattle.scalar.specs.declared.Operand.{Operand}
 use Rattle.scalar.specs.declared.Scalar.{Scalar}
 use Rattle.scalar.specs.declared.Computed.{Computed}

@@ -7,8 +7,7 @@ use lib.ListN.{length, take, drop, length-append}
 use lib.Seq.{take-append-seam, drop-drop}
 use Rattle.wire.specs.Wire.{withPart}
 use Rattle.forest.specs.Forest.{Forest, end, node, Tree, tree}
-use Rattle.scalar.specs.Value.{Value, value, basicOf, bytesOf}
-use Rattle.scalar.specs.NumberLaws.{Sound}
+use Rattle.scalar.specs.Value.{Value, value, basicOf, bytesOf, Sound}
 use Rattle.scalar.specs.Scalar.{valueOf}
 use Rattle.scalar.specs.declared.Operand.{Operand}
 use Rattle.syntax.specs.Syntax.{Optional, none, some}

@@ -4,7 +4,7 @@ ghost use mathlib.Core.Path.{_≡_};
 ghost use Prim.Native.Nat.{_≤_};
 ghost use lib.ListN.{length};
 ghost use Rattle.scalar.specs.Scalar.{answerOf, valueOf};
-ghost use Rattle.scalar.specs.NumberLaws.{Sound};
+ghost use Rattle.scalar.specs.Value.{Sound};
 ghost use Rattle.scalar.specs.Operator.{ofBool};
 ghost use Rattle.syntax.specs.Syntax.{none, some};
 ghost use Rattle.expressions.specs.Parts.{unaryOf, binaryOf};

@@ -21,7 +21,7 @@ use Rattle.wire.specs.WireLaws.{agree-byte, part-agrees, byte-past, length-part
 use Rattle.integer.specs.Wrap.{pattern, wrap}
 use Rattle.integer.specs.WrapLaws.{pattern-fits, pattern-exact, wrap-exact, wrap-fits, wrap-pattern}
 use Rattle.scalar.specs.Basic.{bool, int, double, long}
-use Rattle.scalar.specs.Value.{Value, basicOf, bytesOf, number, isValue, isDouble, theNan}
+use Rattle.scalar.specs.Value.{number, isValue, isDouble, theNan, Sound}
 use Rattle.scalar.specs.Operator.{littleEndian, signed, wrapped, ofBool, ofInt, ofLong, doubleOf, ofDouble}
 
 -- ---- little-endian bytes
@@ -149,11 +149,6 @@ double-same {v} h e k =
     ap (littleEndian 8) (pattern-same (number v) l k) ∙ ap (λ (n : ℕ). littleEndian n (number v)) (sym e) ∙ littleEndian-number h
 
 -- ---- what is written is a value
-
--- A value of a basic type, by the value rule.
-pub record Sound (b : ℕ) (x : Value) : Type 0 where
-  pub basic : basicOf x ≡ b
-  pub rule : isValue b (bytesOf x) ≡ true
 
 pub sound-bool : (t : Bool) → Sound bool (ofBool t)
 unfolding isValue number

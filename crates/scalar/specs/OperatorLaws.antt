@@ -15,11 +15,11 @@ use lib.Count.{trailingZeros}
 use borrow.Author.Tests.{eqb-true}
 use Rattle.integer.specs.Wrap.{pattern, modulo}
 use Rattle.scalar.specs.Basic.{bool, int, double, long, void}
-use Rattle.scalar.specs.Value.{Value, value, basicOf, number, pick}
+use Rattle.scalar.specs.Value.{Value, value, basicOf, number, pick, Sound}
 use Rattle.scalar.specs.Operator.{Answer, wrong, gives, littleEndian, boolOf, ofBool, ofInt, intOf, longOf, doubleOf, sameBytes}
 use Rattle.scalar.specs.Operator.{alike, Numeric, numericBy, adding, subtracting, comparing, andBy, equalBy}
 use Rattle.scalar.specs.Operator.{notOf, negateOf, andOf, addOf, subtractOf, lessOf, equalOf}
-use Rattle.scalar.specs.NumberLaws.{Sound, sound-bool, sound-int, sound-long, sound-double}
+use Rattle.scalar.specs.NumberLaws.{sound-bool, sound-int, sound-long, sound-double}
 
 -- "int, long or double"
 abbrev pub isNumber : ℕ → Bool

@@ -1,5 +1,6 @@
 -- Values: a basic type and the bytes of a value of it. 01: "Value: bool one byte 0 or 1, int 4 bytes and long 8 (two's
 -- complement), double 8 (IEEE 754; the only NaN is 7FF8000000000000 hexadecimal), string and raw 0 to 16 bytes, void none."
+use mathlib.Core.Path.{_≡_}
 use mathlib.Core.List.{List, [], _∷_}
 use mathlib.Core.Bool.{Bool, true, false, _&&_, _||_}
 use Prim.Native.Nat.{ℕ, _+_, _*_, _%_}
@@ -45,3 +46,8 @@ isValue b v =
     (pick (eqb b string) (leb (length v) 16)
     (pick (eqb b raw) (leb (length v) 16)
     (pick (eqb b void) (eqb (length v) 0) false))))))
+
+-- A value of a basic type, by the value rule.
+pub record Sound (b : ℕ) (x : Value) : Type 0 where
+  pub basic : basicOf x ≡ b
+  pub rule : isValue b (bytesOf x) ≡ true

@@ -13,10 +13,9 @@ use borrow.Author.Tests.{eq-eqb, eqb-true}
 use Rattle.refusal.specs.declared.Refusal.the-variants.{OperandType}
 use Rattle.forest.specs.Compare.{of-T}
 use Rattle.scalar.specs.Basic.{bool, int, double, long, void}
-use Rattle.scalar.specs.Value.{Value, value, basicOf, bytesOf, pick}
+use Rattle.scalar.specs.Value.{Value, value, basicOf, bytesOf, pick, Sound}
 use Rattle.scalar.specs.Operator.{Answer, wrong, gives, littleEndian, bit, boolOf, intOf, longOf, doubleOf, sameBytes, alike}
 use Rattle.scalar.specs.Operator.{notOf, negateOf, addOf, subtractOf, lessOf, equalOf, andOf}
-use Rattle.scalar.specs.NumberLaws.{Sound}
 use Rattle.scalar.specs.OperatorLaws.{Gives, not-gives, negate-gives, add-gives, subtract-gives, less-gives, equal-gives, and-gives}
 use Rattle.syntax.specs.Syntax.{MessageType, some, Unary, logicalNot, negate, Binary, add, subtract, less, equal, logicalAnd}
 use Rattle.tree.specs.Encode.{Octets, Proper}

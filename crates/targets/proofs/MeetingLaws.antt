@@ -19,8 +19,6 @@ use Rattle.moves.specs.Moves.{isInputNamed}
 use Rattle.targets.specs.declared.Met.{Met}
 use Rattle.targets.specs.Meeting.{operationMet}
 
--- ---- rows one after another
-
 -- ---- locations in the file
 
 pub located-none : (file : List ℕ) (l q n : ℕ) → n ≡ 0 → false ≡ someAt (rowsFrom (serviceOf file) q n) l
