@@ -18,8 +18,8 @@ use Rattle.state.specs.Shape.{behaviourIn, operationAt, suitsOperation, suits}
 use Rattle.moves.specs.Readiness.{rest}
 use Rattle.soundness.specs.GoodTrees.{Good}
 use Rattle.soundness.specs.Parts.{NotIn, Clean}
-use Rattle.soundness.specs.ReachLaws.{AllOpen}
-use Rattle.soundness.specs.LeafLaws.{Well}
+use Rattle.soundness.specs.Parts.{AllOpen}
+use Rattle.soundness.specs.Well.{Well}
 
 -- Replies of the operation o may go there: a waiting row's own reply type is above o's.
 abbrev pub Destination : Network → Operation → ReplyTo → Type 0

@@ -29,6 +29,7 @@ use Rattle.soundness.specs.GoodTreesLaws.{read-good}
 use Rattle.soundness.specs.EvaluationLaws.{progress, basic-of, present-good}
 use Rattle.soundness.specs.Parts.{branchAt}
 use Rattle.soundness.specs.MadeLaws.{branch-typed, branch-occurs, branch-sorted, some-inj}
+use Rattle.soundness.specs.Well.{Well}
 use Rattle.soundness.specs.ContextLaws.{finished, finished-same, Active, Fewer, hole}
 
 -- The tree before, the row, the tree after, what is left of the row.
@@ -84,14 +85,6 @@ leaf-sorted notifies w = tt
 leaf-sorted asks w = w
 leaf-sorted (answers h) w = tt
 leaf-sorted (selects {m} k) w = branch-sorted m k w
-
-module _ (q : ℕ) where
-  -- A tree, what is left, and the environment that it leads to: the session is well typed.
-  pub record Well (F : Forest Value) (R : Behaviour) (last : Types) : Type 0 where
-    pub env : Types
-    pub rising : Rising env
-    pub fit : Subtypes (ownTypes F) env
-    pub typed : Typed q R env last
 
 module _ (q : ℕ) where
   pub leaf-well : {F F2 : Forest Value} {L L2 : Behaviour} → Leaf F L F2 L2 → Good F → WellSorted L → (Γ Δ : Types) → Rising Γ → Subtypes (ownTypes F) Γ

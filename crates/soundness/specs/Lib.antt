@@ -10,6 +10,7 @@ pub mod CleanLaws
 pub mod ReachLaws
 pub mod Accepted
 pub mod MadeLaws
+pub mod Well
 pub mod LeafLaws
 pub mod Invariant
 pub mod SessionLaws

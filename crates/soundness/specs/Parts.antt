@@ -1,5 +1,7 @@
--- Parts of a behaviour: the branch of a choice that was taken, each row once, parts that are not begun, and rows that are reached.
+-- Parts of a behaviour: the branch of a choice that was taken, each row once, parts that are not begun, rows that are reached, and rows
+-- that are open.
 use mathlib.Core.Path.{_≡_}
+use mathlib.Core.Bool.{Bool, true, false}
 use Prim.Native.Nat.{ℕ, zero, suc}
 use lib.Dec.{T}
 use Rattle.forest.specs.Path.{Path}
@@ -7,7 +9,7 @@ use Rattle.syntax.specs.Syntax.{Expression, Operation, Behaviour, nil, oneWay, 
 use Rattle.syntax.specs.Syntax.{sequence, parallel, assign, choice, branch, lastBranch, waiting, answering}
 use Rattle.syntax.specs.Rows.{hasRow}
 use Rattle.network.specs.Shapes.{Standing, alone, inChoice, onlyAlone, onlyInChoice}
-use Rattle.state.specs.Session.{Progresses, ReplyTo, undone, received, taken}
+use Rattle.state.specs.Session.{Progress, Progresses, ReplyTo, undone, done, waits, received, taken}
 use Rattle.moves.specs.Readiness.{isDone, firstOr}
 
 -- The branch k of a choice's branches, counted from 0, as the sequence of its input and what follows; past the last, the last. Any
@@ -91,3 +93,25 @@ pub data Reaches (p : Progresses) (X : Behaviour) : Behaviour → Type 0 where
   atServed : {r : ℕ} {o : Operation} {x c : Path} {d : Behaviour} (to : ReplyTo) → p r ≡ received to → Reaches p X d
       → Reaches p X (requestResponse r o x c d)
   atBranch : {r : ℕ} {m : Behaviour} (k : ℕ) → p r ≡ taken k → Reaches p X (branchAt k m) → Reaches p X (choice r m)
+
+-- Open rows: those that wait or were received.
+abbrev pub isOpen : Progress → Bool
+isOpen undone = false
+isOpen done = false
+isOpen waits = true
+isOpen (received to) = true
+isOpen (taken k) = false
+
+-- A row that can be open.
+pub data Opens (i : ℕ) : Behaviour → Type 0 where
+  asking : {o : Operation} {e : Expression} {x : Path} → Opens i (solicitResponse i o e x)
+  serving : {o : Operation} {x c : Path} {d : Behaviour} → Opens i (requestResponse i o x c d)
+
+pub record Open (p : Progresses) (i : ℕ) (B : Behaviour) : Type 0 where
+  pub what : Behaviour
+  pub kind : Opens i what
+  pub way : Reaches p what B
+
+-- Every open row is reached.
+abbrev pub AllOpen : Progresses → Behaviour → Type 0
+AllOpen p B = (i : ℕ) → T (hasRow i B) → T (isOpen (p i)) → Open p i B

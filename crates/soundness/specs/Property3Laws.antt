@@ -31,7 +31,7 @@ use Rattle.moves.specs.Moves.{localAt, localReached, onBehaviour, onLive, local
 use Rattle.moves.specs.Moves.{move}
 use Rattle.moves.specs.Step.{Step, refuse, finish, onForm, onState, buffersFit, step}
 use Rattle.soundness.specs.Parts.{Reaches}
-use Rattle.soundness.specs.ReachLaws.{Found, found-alone, clean-shut, clean-shut}
+use Rattle.soundness.specs.ReachLaws.{Found, found-alone, clean-shut}
 use Rattle.soundness.specs.Accepted.{Accepted}
 use Rattle.soundness.specs.MadeLaws.{made-sorted, rest-sorted, some-inj}
 use Rattle.soundness.specs.Invariant.{AllQueued, SessionSound, Sound}

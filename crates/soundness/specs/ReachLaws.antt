@@ -17,7 +17,7 @@ use Rattle.state.specs.Shape.{branches, isUndone, undoneDoneOrReceived, undoneO
 use Rattle.moves.specs.Readiness.{ifDone, ifReceived, ifTaken, thenOrElse, isDone, Reached, unreached, reached, offered, here, orElse, onlyIf}
 use Rattle.moves.specs.Readiness.{offeredIf, offer, reach, served}
 use Rattle.soundness.specs.Parts.{branchAt, Once, Fresh, Clean, Reaches, atSelf, atFirst, atSecond, atLeft, atRight, atThen, atElse, atLoop, atServed}
-use Rattle.soundness.specs.Parts.{atBranch}
+use Rattle.soundness.specs.Parts.{atBranch, isOpen, Opens, asking, serving, Open, AllOpen}
 use Rattle.soundness.specs.RowLaws.{in-own, in-first, in-second, in-only, taken-at, branch-done, branch-rows, branch-once, branch-alone}
 use Rattle.soundness.specs.RowLaws.{get-alone, get-choice, reaches-rows, done-same, Off}
 use Rattle.soundness.specs.CleanLaws.{once-at}
@@ -182,27 +182,6 @@ reaches-nested p X W i tw tx B s (atBranch k g w) (atBranch {r} {m} k2 g2 x) =
     reaches-nested p X W i tw tx (branchAt k m) (branch-once m k (s .1)) w (subst (λ (j : ℕ). Reaches p X (branchAt j m)) (taken-inj (sym g2 ∙ g)) x)
 
 -- Open rows: those that wait or were received ---------------------------------------------------------------------------------------
-
-abbrev pub isOpen : Progress → Bool
-isOpen undone = false
-isOpen done = false
-isOpen waits = true
-isOpen (received to) = true
-isOpen (taken k) = false
-
--- A row that can be open.
-pub data Opens (i : ℕ) : Behaviour → Type 0 where
-  asking : {o : Operation} {e : Expression} {x : Path} → Opens i (solicitResponse i o e x)
-  serving : {o : Operation} {x c : Path} {d : Behaviour} → Opens i (requestResponse i o x c d)
-
-pub record Open (p : Progresses) (i : ℕ) (B : Behaviour) : Type 0 where
-  pub what : Behaviour
-  pub kind : Opens i what
-  pub way : Reaches p what B
-
--- Every open row is reached.
-abbrev pub AllOpen : Progresses → Behaviour → Type 0
-AllOpen p B = (i : ℕ) → T (hasRow i B) → T (isOpen (p i)) → Open p i B
 
 open-row : {i : ℕ} {W : Behaviour} → Opens i W → T (hasRow i W)
 unfolding hasRow

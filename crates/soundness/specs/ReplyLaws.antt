@@ -26,7 +26,7 @@ use Rattle.moves.specs.Moves.{Result, moved, notAllowed, require, onFound, onMe
 use Rattle.moves.specs.Moves.{onWaitingRow, takeReply, answered, replyTo, replyAt, replyMove, outerReply}
 use Rattle.soundness.specs.GoodTrees.{GoodTree}
 use Rattle.soundness.specs.Parts.{Reaches}
-use Rattle.soundness.specs.ReachLaws.{isOpen, Opens, asking, serving}
+use Rattle.soundness.specs.Parts.{isOpen, Opens, asking, serving}
 use Rattle.soundness.specs.Accepted.{OfFile, MadeOf, Accepted}
 use Rattle.soundness.specs.MadeLaws.{made-at, isSequence, reaches-atRow, atRow-row, some-inj}
 use Rattle.soundness.specs.Invariant.{SessionSound, Sound}

@@ -33,7 +33,7 @@ use Rattle.moves.specs.Moves.{Result, moved, require, onTree, onOperation, onMe
 use Rattle.moves.specs.Moves.{sendOutside, sendBy, sendAt, sendReached, sendMove, isInputNamed, inputNamed, outerMessage}
 use Rattle.soundness.specs.GoodTrees.{GoodTree}
 use Rattle.soundness.specs.Parts.{Reaches}
-use Rattle.soundness.specs.ReachLaws.{Found, found-alone, clean-shut, clean-shut}
+use Rattle.soundness.specs.ReachLaws.{Found, found-alone, clean-shut}
 use Rattle.soundness.specs.Accepted.{OfFile, MadeOf, Accepted, Agree}
 use Rattle.soundness.specs.MadeLaws.{made-at, reaches-atRow, some-inj}
 use Rattle.soundness.specs.Invariant.{Destination, SessionSound, Sound}

@@ -40,7 +40,8 @@ use Rattle.soundness.specs.RowLaws.{in-own, branch-rows, branch-once, re
 use Rattle.soundness.specs.RowLaws.{done-finished, reaches-rows, row-active, Off}
 use Rattle.soundness.specs.CleanLaws.{clean-same, clean-fresh, clean-at, clean-move, once-at, undone-taken, suits-same, suits-fresh, suits-at}
 use Rattle.soundness.specs.CleanLaws.{suits-move, of-two, three}
-use Rattle.soundness.specs.ReachLaws.{isOpen, Opens, asking, serving, open-below, open-change, open-undone, reaches-done}
+use Rattle.soundness.specs.ReachLaws.{open-below, open-change, open-undone, reaches-done}
+use Rattle.soundness.specs.Parts.{isOpen, Opens, asking, serving}
 use Rattle.soundness.specs.Accepted.{MadeOf, Accepted}
 use Rattle.soundness.specs.MadeLaws.{once, made-at, made-sorted, rest-sorted}
 use Rattle.soundness.specs.LeafLaws.{Leaf, assigns, takesThen, takesElse, enters, leaves, reenters, ends, receivesOne, receivesTwo, getsReply}

@@ -26,7 +26,8 @@ use Rattle.soundness.specs.GoodTreesLaws.{good-end}
 use Rattle.soundness.specs.Parts.{branchAt, Once, Fresh, Clean}
 use Rattle.soundness.specs.RowLaws.{in-own, branch-rows, branch-once, rest-fresh, rest-branch}
 use Rattle.soundness.specs.CleanLaws.{clean-fresh, undone-taken, suits-fresh}
-use Rattle.soundness.specs.ReachLaws.{isOpen, lt-suc}
+use Rattle.soundness.specs.ReachLaws.{lt-suc}
+use Rattle.soundness.specs.Parts.{isOpen}
 use Rattle.soundness.specs.Accepted.{Accepted}
 use Rattle.soundness.specs.MadeLaws.{made-sorted, branch-sorted}
 use Rattle.soundness.specs.Invariant.{AllQueued, SessionSound}
