@@ -135,7 +135,8 @@ unfoldable mutual
   reach p k i (waiting r o x) = unreached
   reach p k i (answering r o c d) = unreached
 
-  -- The row i in the body of a received input of a choice in which no branch is taken.
+  -- "the body of a received request-response count likewise": the row i in the body of a received input of a choice in which no branch is
+  -- taken. No list of moves from fresh leaves such a choice (docs/DECISIONS.md, 43).
   pub served : Progresses → ℕ → Behaviour → Reached
   served p i (nil r) = unreached
   served p i (oneWay r o x) = unreached

@@ -10,10 +10,12 @@ use lib.Dec.{eqb, leb, ltb}
 use lib.ListN.{length}
 use Rattle.forest.specs.Forest.{tree}
 use Rattle.scalar.specs.Value.{pick}
-use Rattle.syntax.specs.Syntax.{Optional, none, some, Service, Network, Operation, Behaviour, nil, oneWay, requestResponse, notification, solicitResponse, ifThenElse, whileDo, sequence, parallel, assign, choice, branch, lastBranch, waiting, answering}
+use Rattle.syntax.specs.Syntax.{Optional, none, some, Service, Network, Operation, Behaviour, nil, oneWay, requestResponse, notification, solicitResponse}
+use Rattle.syntax.specs.Syntax.{ifThenElse, whileDo, sequence, parallel, assign, choice, branch, lastBranch, waiting, answering}
 use Rattle.syntax.specs.Rows.{hasRow, entry, isInputOperation}
 use Rattle.tree.specs.Encode.{WellFormed, empty, messageDeep, messageMany, treeDeep, treeMany}
-use Rattle.state.specs.Session.{ReplyTo, nobody, outsider, waitingRow, Progress, undone, done, waits, received, taken, Progresses, Queued, Session, Slot, free, live, State, newSession}
+use Rattle.state.specs.Session.{ReplyTo, nobody, outsider, waitingRow, Progress, undone, done, waits, received, taken, Progresses}
+use Rattle.state.specs.Session.{Queued, Session, Slot, free, live, State, newSession}
 use Rattle.state.specs.Bytes.{stateBytes, readState}
 
 -- The service of a row.
