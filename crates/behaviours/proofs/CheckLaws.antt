@@ -14,7 +14,7 @@ use Rattle.refusal.specs.declared.Verdict.{Verdict}
 use Rattle.refusal.specs.declared.Verdict.the-variants.{Done, Refused}
 use Rattle.scalar.specs.Basic.{bool, lastBasic}
 use Rattle.scalar.specs.Value.{pick}
-use Rattle.syntax.specs.Syntax.{Types, MessageType, Expression, input, output, Behaviour, nil, sequence, branch, lastBranch, choice}
+use Rattle.syntax.specs.Syntax.{Types, MessageType, Expression, input, output, Behaviour, nil, sequence, parallel, branch, lastBranch, choice}
 use Rattle.subtyping.specs.Subtype.{rootBasic, isSubtype}
 use Rattle.typing.specs.Result.{Result, fails, yields, require, andThen, Checked, refused, passed, atRow, next}
 use Rattle.typing.specs.Environment.{leaf, place, assignTo}
@@ -42,10 +42,11 @@ use Rattle.environments.specs.Tells.{Places, Assigns, Asks, ReadAt, TypeUnder, 
 use Rattle.expressions.specs.declared.Typing.{Typing}
 use Rattle.expressions.specs.Typings.{TypedAs, Typed}
 use Rattle.expressions.specs.SmallLaws.{small-typing}
+use Rattle.roots.specs.Sets.{Apart, Separates}
 use Rattle.operations.specs.Directions.{directionOf}
 use Rattle.operations.specs.PermitsLaws.{two-way}
 use Rattle.behaviours.specs.Rows.{behaviourBy, Sub, BranchSubs, KeptBy}
-use Rattle.behaviours.specs.Checks.{SendsType, Sends, Receives, conditionOf, Conditions, Agrees, LeafChecks, RowChecks, Checks, Sequences, Settles, goOn, Branches}
+use Rattle.behaviours.specs.Checks.{SendsType, Sends, Receives, conditionOf, Conditions, Agrees, LeafChecks, RowChecks, ParallelChecks, Checks, Sequences, Settles, goOn, Branches}
 use Rattle.behaviours.specs.KindLaws.{row-is}
 
 -- ---- steps one after another
@@ -321,21 +322,28 @@ pub sequence-done : (file : List ℕ) (q a b left : ℕ) (e : Environment) {s t 
 unfolding check
 sequence-done file q a b left e k v n = record { tells = λ c i Γ g w l m. next-done _ (k .tells c Γ g w l) v (λ Δ d y. n .tells c Δ d w m) }
 
-pub parallel-not : (file : List ℕ) (q r a b left : ℕ) (e : Environment) {t : Bool} {s : Step} → t ≡ noSharedRoot (behaviourOf file a) (behaviourOf file b) → not t ≡ true
-    → s ≡ stepOf (refused (SharedRoot r)) → RowChecks file q r (BehaviourRow.Parallel a b) left e s
-unfolding check next
-parallel-not file q r a b left e {t} p n z = record {
-  tells = λ c Γ g w l.
-      answers-as (ap (λ (y : Bool). next (atRow r (require y SharedRoot (yields Γ))) (λ Γ0. next (check q c (behaviourOf file a) Γ) (λ Γ1. check q c (behaviourOf file b) Γ1))) (sym (sym p ∙ not-true t n))) (answers-refuse (SharedRoot r) z);
-}
+module _ (file sets : List ℕ) (q r a b left : ℕ) (e : Environment) {t : Bool} (h : Separates file sets) (k : Apart sets a b t) where
+  told-apart : WellFormed file → r < behaviourCount file → behaviourRowOf file r ≡ BehaviourRow.Parallel a b → t ≡ noSharedRoot (behaviourOf file a) (behaviourOf file b)
+  told-apart w l p = h .tells w r a b t l p k
 
-pub parallel-done : (file : List ℕ) (q r a b left : ℕ) (e : Environment) {t : Bool} {s : Step} → t ≡ noSharedRoot (behaviourOf file a) (behaviourOf file b) → not t ≡ false
-    → Sequences file q a b left e s → RowChecks file q r (BehaviourRow.Parallel a b) left e s
-unfolding check next
-parallel-done file q r a b left e {t} p n k = record {
-  tells = λ c Γ g w l.
-      answers-as (ap (λ (y : Bool). next (atRow r (require y SharedRoot (yields Γ))) (λ Γ0. next (check q c (behaviourOf file a) Γ) (λ Γ1. check q c (behaviourOf file b) Γ1))) (sym (sym p ∙ not-false t n))) (k .tells c r Γ g w (l .0) (l .1));
-}
+  after-test : (c : ℕ) (Γ : Types) {x : Bool} → x ≡ noSharedRoot (behaviourOf file a) (behaviourOf file b)
+      → next (atRow r (require x SharedRoot (yields Γ))) (λ Γ0. next (check q c (behaviourOf file a) Γ) (λ Γ1. check q c (behaviourOf file b) Γ1))
+      ≡ check q c (parallel r (behaviourOf file a) (behaviourOf file b)) Γ
+  unfolding check
+  after-test c Γ p =
+      ap (λ (y : Bool). next (atRow r (require y SharedRoot (yields Γ))) (λ Γ0. next (check q c (behaviourOf file a) Γ) (λ Γ1. check q c (behaviourOf file b) Γ1))) p
+
+  pub parallel-not : {s : Step} → not t ≡ true → s ≡ stepOf (refused (SharedRoot r)) → ParallelChecks file q r a b left e s
+  unfolding next
+  parallel-not n z = record {
+    tells = λ c Γ g w l p m o. answers-as (after-test c Γ (sym (not-true t n) ∙ told-apart w l p)) (answers-refuse (SharedRoot r) z);
+  }
+
+  pub parallel-done : {s : Step} → not t ≡ false → Sequences file q a b left e s → ParallelChecks file q r a b left e s
+  unfolding next check
+  parallel-done n k = record {
+    tells = λ c Γ g w l p m o. answers-as (after-test c Γ (sym (not-false t n) ∙ told-apart w l p)) (k .tells c r Γ g w m o);
+  }
 
 pub response-refused : (file : List ℕ) (q r o p i d left : ℕ) (e : Environment) {s : Step} {why : Refusal} → Receives file q r o p true e s → s .verdict ≡ Refused why
     → RowChecks file q r (BehaviourRow.RequestResponse o p i d) left e s
@@ -520,6 +528,14 @@ deep-row file q r left e {x} {y} {s} z p o k = record {
       answers-as (ap (λ (b : Behaviour). check q c b Γ) (sym (d .0))) (k .tells c Γ g w (d .1));
 }
 
+pub parallel-row : (file : List ℕ) (q r left : ℕ) (e : Environment) {x : BehaviourRow} {a b : ℕ} {s : Step} → (left ≡ 0 → ⊥) → x ≡ behaviourRowOf file r
+    → x ≡ BehaviourRow.Parallel a b → ParallelChecks file q r a b (left - 1) e s → Checks file q r left e s
+parallel-row file q r left e {x} {a} {b} {s} z p o k = record {
+  tells = λ c Γ g w l.
+      let d = row-is file w r (left - 1) (sub-less file left r z l) p o in
+      answers-as (ap (λ (b : Behaviour). check q c b Γ) (sym (d .0))) (k .tells c Γ g w (l .exists) (sym p ∙ o) (d .1 .0) (d .1 .1));
+}
+
 pub sequence-row : (file : List ℕ) (q r left : ℕ) (e : Environment) {x : BehaviourRow} {a b : ℕ} {s : Step} → (left ≡ 0 → ⊥) → x ≡ behaviourRowOf file r
     → x ≡ BehaviourRow.Sequence a b → Sequences file q a b (left - 1) e s → Checks file q r left e s
 sequence-row file q r left e z p o k = deep-row file q r left e z p o (record { tells = λ c Γ g w l. k .tells c r Γ g w (l .0) (l .1) })
@@ -555,4 +571,4 @@ pub ruleset branches-laws = (branches-end, branches-refused, branches-more)
 
 pub ruleset choice-laws = (choice-none, choice-refused, choice-done)
 
-pub ruleset row-laws = (no-rows, nil-row, branch-row, unknown-row, leaf-row, deep-row, sequence-row)
+pub ruleset row-laws = (no-rows, nil-row, branch-row, unknown-row, leaf-row, deep-row, parallel-row, sequence-row)

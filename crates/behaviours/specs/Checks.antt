@@ -9,7 +9,7 @@ use Rattle.refusal.specs.declared.Refusal.the-variants.{WrongOperation, Operand
 use Rattle.refusal.specs.declared.Verdict.the-variants.{Done}
 use Rattle.scalar.specs.Basic.{bool}
 use Rattle.scalar.specs.Value.{pick}
-use Rattle.syntax.specs.Syntax.{Types, input, output, sequence}
+use Rattle.syntax.specs.Syntax.{Types, input, output, sequence, parallel}
 use Rattle.typing.specs.Result.{yields, require, Checked, refused, atRow}
 use Rattle.typing.specs.Environment.{place}
 use Rattle.typing.specs.Rules.{permits}
@@ -19,6 +19,7 @@ use Rattle.network.specs.Form.{WellFormed}
 use Rattle.network.specs.Layout.{pathCount, typeCount, expressionCount, behaviourCount, operationCount, behaviourAt}
 use Rattle.network.specs.Decode.{pathOf, typeOf, expressionOf, operationOf, branchesFrom, behaviourOf}
 use Rattle.rows.specs.declared.BehaviourRow.{BehaviourRow}
+use Rattle.rows.specs.Readers.{behaviourRowOf}
 use Rattle.environments.specs.declared.Environment.{Environment}
 use Rattle.environments.specs.declared.Step.{Step}
 use Rattle.environments.specs.Environment.{StandsFor, stepOf, Answers}
@@ -57,6 +58,11 @@ pub record LeafChecks (file : List ℕ) (q r : ℕ) (row : BehaviourRow) (e : En
 
 pub record RowChecks (file : List ℕ) (q r : ℕ) (row : BehaviourRow) (left : ℕ) (e : Environment) (s : Step) : Type 0 where
   pub tells : (c : ℕ) (Γ : Types) → StandsFor e Γ → WellFormed file → KeptBy file left row → Answers s (check q c (behaviourBy file r row) Γ)
+
+-- A parallel, whose sides the sets of root ids tell apart.
+pub record ParallelChecks (file : List ℕ) (q r a b left : ℕ) (e : Environment) (s : Step) : Type 0 where
+  pub tells : (c : ℕ) (Γ : Types) → StandsFor e Γ → WellFormed file → r < behaviourCount file → behaviourRowOf file r ≡ BehaviourRow.Parallel a b
+      → Sub file left a → Sub file left b → Answers s (check q c (parallel r (behaviourOf file a) (behaviourOf file b)) Γ)
 
 pub record Checks (file : List ℕ) (q r left : ℕ) (e : Environment) (s : Step) : Type 0 where
   pub tells : (c : ℕ) (Γ : Types) → StandsFor e Γ → WellFormed file → Sub file left r → Answers s (check q c (behaviourOf file r) Γ)

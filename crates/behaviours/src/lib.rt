@@ -1,9 +1,10 @@
 // The checker of behaviours, given by B rows: from an environment the environment that a row leaves, or the first refusal of 6 to 12.
-// Sub-behaviours are later rows: `left` counts the rows left, so the walk ends on any bytes.
+// Sub-behaviours are later rows: `left` counts the rows left, so the walk ends on any bytes. `sets` are the root ids of the B rows.
 ghost use mathlib.Core.Path.{_≡_};
 ghost use Prim.Native.Nat.{ℕ, _+_, _*_, _<_};
 ghost use Rattle.rows.specs.declared.BehaviourRow.{BehaviourRow};
-ghost use Rattle.behaviours.specs.Checks.{Sends, SendsType, Receives, conditionOf, Conditions, Agrees, LeafChecks, RowChecks, Checks, Sequences, Settles, Branches};
+ghost use Rattle.roots.specs.Sets.{Separates};
+ghost use Rattle.behaviours.specs.Checks.{Sends, SendsType, Receives, conditionOf, Conditions, Agrees, LeafChecks, RowChecks, ParallelChecks, Checks, Sequences, Settles, Branches};
 use environments::Environment;
 use environments::Step;
 use expressions::Typing;
@@ -132,31 +133,51 @@ fn settle(c: u16, d: Environment, same: bool) -> Step
 }
 
 // "Sequence: a, then b."
-pub fn sequence(file: &[u8], q: u16, a: u16, b: u16, left: u16, e: Environment) -> Step
+pub fn sequence(
+    file: &[u8],
+    sets: &[u8; 8192],
+    q: u16,
+    a: u16,
+    b: u16,
+    left: u16,
+    e: Environment,
+) -> Step
+    requires { ⌜ Separates (now file) (now sets) ⌝ }
     ensures { λ s. ⌜ Sequences (now (file .entry)) q a b left e s ⌝ }
 {
-    let first = check_row(file, q, a, left, e);
+    let first = check_row(file, sets, q, a, left, e);
     let v = first.verdict;
     let Verdict::Done = v else {
         return first;
     };
     let d = first.environment;
-    check_row(file, q, b, left, d)
+    check_row(file, sets, q, b, left, d)
 }
 
 // "Parallel: no root id (a path's first id) occurs on both sides; left, then right."
-fn parallel(file: &[u8], q: u16, r: u16, a: u16, b: u16, left: u16, e: Environment) -> Step
-    ensures { λ s. ⌜ RowChecks (now (file .entry)) q r (BehaviourRow.Parallel a b) left e s ⌝ }
+fn parallel(
+    file: &[u8],
+    sets: &[u8; 8192],
+    q: u16,
+    r: u16,
+    a: u16,
+    b: u16,
+    left: u16,
+    e: Environment,
+) -> Step
+    requires { ⌜ Separates (now file) (now sets) ⌝ }
+    ensures { λ s. ⌜ ParallelChecks (now (file .entry)) q r a b left e s ⌝ }
 {
-    if !roots::no_shared_root(file, a, b) {
+    if !roots::apart(sets, a, b) {
         return environments::refuse(Refusal::SharedRoot(r));
     }
-    sequence(file, q, a, b, left, e)
+    sequence(file, sets, q, a, b, left, e)
 }
 
 // "Request-response places it, types the body, then the reply path stands firm and is ≤ the reply type."
 fn request_response(
     file: &[u8],
+    sets: &[u8; 8192],
     q: u16,
     r: u16,
     o: u16,
@@ -166,6 +187,7 @@ fn request_response(
     left: u16,
     e: Environment,
 ) -> Step
+    requires { ⌜ Separates (now file) (now sets) ⌝ }
     ensures { λ s. ⌜ RowChecks (now (file .entry)) q r (BehaviourRow.RequestResponse o p c body) left e s ⌝ }
 {
     let received = receive(file, q, r, o, p, true, e);
@@ -174,7 +196,7 @@ fn request_response(
         return received;
     };
     let d = received.environment;
-    let done = check_row(file, q, body, left, d);
+    let done = check_row(file, sets, q, body, left, d);
     let w = done.verdict;
     let Verdict::Done = w else {
         return done;
@@ -186,6 +208,7 @@ fn request_response(
 // "If: a bool; both sides give equal Γ."
 fn if_then_else(
     file: &[u8],
+    sets: &[u8; 8192],
     q: u16,
     r: u16,
     x: u16,
@@ -194,6 +217,7 @@ fn if_then_else(
     left: u16,
     e: Environment,
 ) -> Step
+    requires { ⌜ Separates (now file) (now sets) ⌝ }
     ensures { λ s. ⌜ RowChecks (now (file .entry)) q r (BehaviourRow.If x a b) left e s ⌝ }
 {
     let tested = condition(file, r, x, e);
@@ -201,12 +225,12 @@ fn if_then_else(
     let Verdict::Done = u else {
         return tested;
     };
-    let one = check_row(file, q, a, left, e);
+    let one = check_row(file, sets, q, a, left, e);
     let v = one.verdict;
     let Verdict::Done = v else {
         return one;
     };
-    let other = check_row(file, q, b, left, e);
+    let other = check_row(file, sets, q, b, left, e);
     let w = other.verdict;
     let Verdict::Done = w else {
         return other;
@@ -217,7 +241,17 @@ fn if_then_else(
 }
 
 // "While: a bool; the body gives back Γ."
-fn while_do(file: &[u8], q: u16, r: u16, x: u16, b: u16, left: u16, e: Environment) -> Step
+fn while_do(
+    file: &[u8],
+    sets: &[u8; 8192],
+    q: u16,
+    r: u16,
+    x: u16,
+    b: u16,
+    left: u16,
+    e: Environment,
+) -> Step
+    requires { ⌜ Separates (now file) (now sets) ⌝ }
     ensures { λ s. ⌜ RowChecks (now (file .entry)) q r (BehaviourRow.While x b) left e s ⌝ }
 {
     let tested = condition(file, r, x, e);
@@ -225,7 +259,7 @@ fn while_do(file: &[u8], q: u16, r: u16, x: u16, b: u16, left: u16, e: Environme
     let Verdict::Done = u else {
         return tested;
     };
-    let body = check_row(file, q, b, left, e);
+    let body = check_row(file, sets, q, b, left, e);
     let v = body.verdict;
     let Verdict::Done = v else {
         return body;
@@ -237,6 +271,7 @@ fn while_do(file: &[u8], q: u16, r: u16, x: u16, b: u16, left: u16, e: Environme
 // The n further branches of the choice c, whose rows stand from `at` on; the first gave d, all so far the same or not.
 fn branches(
     file: &[u8],
+    sets: &[u8; 8192],
     q: u16,
     c: u16,
     at: usize,
@@ -246,7 +281,7 @@ fn branches(
     d: Environment,
     same: bool,
 ) -> Step
-    requires { ⌜ at + 10 * n < 2000000 ⌝ }
+    requires { ⌜ (at + 10 * n < 2000000) × Separates (now file) (now sets) ⌝ }
     ensures { λ s. ⌜ Branches (now (file .entry)) q c at n left e d same s ⌝ }
 {
     if n == 0 {
@@ -254,6 +289,7 @@ fn branches(
     }
     let one = sequence(
         file,
+        sets,
         q,
         wire::u16_at(file, at + 2),
         wire::u16_at(file, at + 4),
@@ -266,11 +302,21 @@ fn branches(
     };
     let x = one.environment;
     let again = both(same, environments::same(x, d));
-    branches(file, q, c, at + 10, n - 1, left, e, d, again)
+    branches(file, sets, q, c, at + 10, n - 1, left, e, d, again)
 }
 
 // "Choice: all branches give equal Γ."
-fn choice(file: &[u8], q: u16, r: u16, first: u16, n: u16, left: u16, e: Environment) -> Step
+fn choice(
+    file: &[u8],
+    sets: &[u8; 8192],
+    q: u16,
+    r: u16,
+    first: u16,
+    n: u16,
+    left: u16,
+    e: Environment,
+) -> Step
+    requires { ⌜ Separates (now file) (now sets) ⌝ }
     ensures { λ s. ⌜ RowChecks (now (file .entry)) q r (BehaviourRow.Choice first n) left e s ⌝ }
 {
     if n == 0 {
@@ -279,6 +325,7 @@ fn choice(file: &[u8], q: u16, r: u16, first: u16, n: u16, left: u16, e: Environ
     let at = layout::behaviour_at(file, first);
     let one = sequence(
         file,
+        sets,
         q,
         wire::u16_at(file, at + 2),
         wire::u16_at(file, at + 4),
@@ -290,11 +337,12 @@ fn choice(file: &[u8], q: u16, r: u16, first: u16, n: u16, left: u16, e: Environ
         return one;
     };
     let d = one.environment;
-    branches(file, q, r, at + 10, n - 1, left, e, d, true)
+    branches(file, sets, q, r, at + 10, n - 1, left, e, d, true)
 }
 
 // The behaviour of B row r, of the service row q, from the environment e; so many rows are left.
-pub fn check_row(file: &[u8], q: u16, r: u16, left: u16, e: Environment) -> Step
+pub fn check_row(file: &[u8], sets: &[u8; 8192], q: u16, r: u16, left: u16, e: Environment) -> Step
+    requires { ⌜ Separates (now file) (now sets) ⌝ }
     ensures { λ s. ⌜ Checks (now (file .entry)) q r left e s ⌝ }
 {
     if left == 0 {
@@ -305,6 +353,7 @@ pub fn check_row(file: &[u8], q: u16, r: u16, left: u16, e: Environment) -> Step
         BehaviourRow::OneWay(o, p) => one_way(file, q, r, o, p, e),
         BehaviourRow::RequestResponse(o, p, c, d) => request_response(
             file,
+            sets,
             q,
             r,
             o,
@@ -316,12 +365,12 @@ pub fn check_row(file: &[u8], q: u16, r: u16, left: u16, e: Environment) -> Step
         ),
         BehaviourRow::Notification(o, x) => notification(file, q, r, o, x, e),
         BehaviourRow::SolicitResponse(o, x, p) => solicit_response(file, q, r, o, x, p, e),
-        BehaviourRow::If(x, a, b) => if_then_else(file, q, r, x, a, b, left - 1, e),
-        BehaviourRow::While(x, b) => while_do(file, q, r, x, b, left - 1, e),
-        BehaviourRow::Sequence(a, b) => sequence(file, q, a, b, left - 1, e),
-        BehaviourRow::Parallel(a, b) => parallel(file, q, r, a, b, left - 1, e),
+        BehaviourRow::If(x, a, b) => if_then_else(file, sets, q, r, x, a, b, left - 1, e),
+        BehaviourRow::While(x, b) => while_do(file, sets, q, r, x, b, left - 1, e),
+        BehaviourRow::Sequence(a, b) => sequence(file, sets, q, a, b, left - 1, e),
+        BehaviourRow::Parallel(a, b) => parallel(file, sets, q, r, a, b, left - 1, e),
         BehaviourRow::Assign(p, x) => assign(file, q, r, p, x, e),
-        BehaviourRow::Choice(first, n) => choice(file, q, r, first, n, left - 1, e),
+        BehaviourRow::Choice(first, n) => choice(file, sets, q, r, first, n, left - 1, e),
         BehaviourRow::Branch(_, _) => environments::pass(e),
         BehaviourRow::Unknown => environments::pass(e),
     }

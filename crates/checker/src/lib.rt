@@ -1,7 +1,9 @@
 // The checker of network files: refusals 2 to 13, or the environments of every service.
 ghost use mathlib.Core.Path.{_≡_};
 ghost use Prim.Native.Nat.{ℕ, _+_, _≤_};
+ghost use Rattle.network.specs.Layout.{serviceCount};
 ghost use Rattle.checking.specs.FileChecker.{checkFile};
+ghost use Rattle.roots.specs.Sets.{Separates};
 ghost use Rattle.checker.specs.Answer.{emptyPair, refusedWith, withFirst, answerOf, IfPassed, ShapedAll, StarterGives, ClientGives, ServiceGives, ServicesGive};
 use environments::Environment;
 use environments::Step;
@@ -53,32 +55,35 @@ fn verdict_only(v: Verdict) -> Answer
 }
 
 // The starter of S row q, if there is one.
-fn starter(file: &[u8], q: u16) -> Step
+fn starter(file: &[u8], sets: &[u8; 8192], q: u16) -> Step
+    requires { ⌜ Separates (now file) (now sets) ⌝ }
     ensures { λ s. ⌜ StarterGives (now (file .entry)) q s ⌝ }
 {
     let r = rows::starter_row(file, q);
     if r == 65535 {
         return environments::pass(environments::empty());
     }
-    starters::check_starter(file, q, r)
+    starters::check_starter(file, sets, q, r)
 }
 
 // The client of S row q, if there is one.
-fn client(file: &[u8], q: u16) -> Step
+fn client(file: &[u8], sets: &[u8; 8192], q: u16) -> Step
+    requires { ⌜ Separates (now file) (now sets) ⌝ }
     ensures { λ s. ⌜ ClientGives (now (file .entry)) q s ⌝ }
 {
     let r = rows::client_row(file, q);
     if r == 65535 {
         return environments::pass(environments::empty());
     }
-    starters::check_client(file, q, r)
+    starters::check_client(file, sets, q, r)
 }
 
 // S row q, "starter first".
-fn service(file: &[u8], q: u16) -> One
+fn service(file: &[u8], sets: &[u8; 8192], q: u16) -> One
+    requires { ⌜ Separates (now file) (now sets) ⌝ }
     ensures { λ x. ⌜ ServiceGives (now (file .entry)) q x ⌝ }
 {
-    let a = starter(file, q);
+    let a = starter(file, sets, q);
     let v = a.verdict;
     let Verdict::Done = v else {
         return One {
@@ -86,7 +91,7 @@ fn service(file: &[u8], q: u16) -> One
             pair: empty_pair(),
         };
     };
-    let b = client(file, q);
+    let b = client(file, sets, q);
     let w = b.verdict;
     let Verdict::Done = w else {
         return One {
@@ -122,25 +127,34 @@ fn with_first(p: Pair, x: Answer) -> Answer
 }
 
 // The n services from row q on.
-fn services(file: &[u8], q: u16, n: u16) -> Answer
-    requires { ⌜ q + n ≤ 65535 ⌝ }
+fn services(file: &[u8], sets: &[u8; 8192], q: u16, n: u16) -> Answer
+    requires { ⌜ (q + n ≤ 65535) × Separates (now file) (now sets) ⌝ }
     ensures { λ x. ⌜ ServicesGive (now (file .entry)) q n x ⌝ }
 {
     if n == 0 {
         return verdict_only(Verdict::Done);
     }
-    let one = service(file, q);
+    let one = service(file, sets, q);
     let v = one.verdict;
     let Verdict::Done = v else {
         return verdict_only(v);
     };
-    let others = services(file, q + 1, n - 1);
+    let others = services(file, sets, q + 1, n - 1);
     let w = others.verdict;
     let Verdict::Done = w else {
         return verdict_only(w);
     };
     let p = one.pair;
     with_first(p, others)
+}
+
+// All services, by the root ids of the file's B rows.
+fn all_services(file: &[u8]) -> Answer
+    ensures { λ x. ⌜ ServicesGive (now (file .entry)) 0 (serviceCount (now (file .entry))) x ⌝ }
+{
+    let mut sets = [0u8; 8192];
+    roots::fill(file, &mut sets);
+    services(file, &sets, 0, layout::service_count(file))
 }
 
 // "The checker tries 2 to 13". (Its environments keep to their limits, as a fact that callers can cite.)
@@ -152,7 +166,7 @@ pub fn check(file: &[u8]) -> Answer
     let Verdict::Done = form else {
         return verdict_only(form);
     };
-    let all = services(file, 0, layout::service_count(file));
+    let all = all_services(file);
     let v = all.verdict;
     let Verdict::Done = v else {
         return verdict_only(v);

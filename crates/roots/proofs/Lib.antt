@@ -1,1 +1,3 @@
+pub mod BitLaws
+pub mod SetLaws
 pub mod RootLaws

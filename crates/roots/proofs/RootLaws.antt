@@ -1,36 +1,39 @@
--- Laws of marks on root ids: one for each way out of the functions.
+-- Laws of the root ids of rows: those of a row's parts, and one law for each way out of the functions that fill the sets.
 use Prim.Native.Nat.{ℕ, zero, suc, _+_, _-_, _*_, _<_, _≤_}
 use mathlib.Core.Path.{_≡_, refl, sym, _∙_, ap, subst}
-use mathlib.Core.List.{List, [], _∷_}
-use mathlib.Core.Bool.{Bool, true, false, not, _&&_, _||_}
-use mathlib.Core.Logic.{⊎-elim}
-use native.Mathlib.Numerals.{add-one}
+use mathlib.Core.List.{List}
+use mathlib.Core.Bool.{Bool, true, false, _||_}
 use native.Mathlib.Omega.{arith}
-use lib.ListN.{getD, set, length, length-set, replicate, length-replicate}
-use Rattle.scalar.specs.Value.{pick}
-use lib.Seq.{getD-set-same, getD-set-other}
+use lib.ListN.{length, replicate}
 use lib.Dec.{T, eqb, ltb}
-use borrow.Author.Tests.{eq-eqb, ne-eqb, eqb-true, ltb-true, ltb-false}
+use borrow.Author.Tests.{ne-eqb}
 use Rattle.forest.specs.Compare.{Compare, lt, eq, gt, compare, T-of, of-T, not-T-false}
 use Rattle.wire.specs.Wire.{byteAt, u16At}
 use Rattle.network.specs.declared.ExpressionKind.{ExpressionKind}
 use Rattle.network.specs.declared.BehaviourKind.{BehaviourKind}
-use Rattle.network.specs.Layout.{behaviourCount, pathAt, expressionAt, behaviourAt}
-use Rattle.network.specs.Rows.{fieldA, fieldB, fieldC, fieldD, expressionKindAt, kindAt}
-use Rattle.network.specs.Decode.{pathOf, expressionFrom, expressionTo, branchesFrom, behaviourFrom, behaviourTo, behaviourOf}
-use Rattle.network.specs.TestLaws.{one-less, or-false, or-assoc, and-of, both-true, or-of, clash}
-use Rattle.network.specs.RowLaws.{next-at}
+use Rattle.network.specs.Form.{WellFormed}
+use Rattle.network.specs.Kinds.{behaviourKind, expressionFields}
+use Rattle.network.specs.Layout.{pathCount, expressionCount, behaviourCount, pathAt, expressionAt, behaviourAt}
+use Rattle.network.specs.Rows.{fieldA, fieldB, fieldC, fieldD, fieldFits, expressionKindAt, kindAt}
+use Rattle.network.specs.Decode.{pathOf, expressionFrom, expressionOf, branchesFrom, behaviourFrom, behaviourOf}
+use Rattle.network.specs.DecodeLaws.{expression-kept, expression-row}
+use Rattle.network.specs.BehaviourLaws.{behaviour-row}
+use Rattle.network.specs.UseLaws.{RowKept, BranchKept, behaviour-kept, branch-kept}
+use Rattle.network.specs.TestLaws.{lt-of, one-less, or-false, or-assoc, clash}
+use Rattle.network.specs.RowLaws.{counts-kept, next-at}
 use Rattle.rows.specs.declared.ExpressionRow.{ExpressionRow}
 use Rattle.rows.specs.declared.BehaviourRow.{BehaviourRow}
 use Rattle.rows.specs.Readers.{expressionRowAs, expressionRowOf, behaviourRowAs, behaviourRowOf}
-use Rattle.syntax.specs.Syntax.{Behaviour}
-use Rattle.typing.specs.Occurs.{isRoot, occursIn, occurs, NoSharedRoot, noSharedRoot}
+use Rattle.typing.specs.Occurs.{isRoot, occursIn, occurs, noSharedRoot}
 use Rattle.typing.specs.OccursLaws.{no-shared-sound, no-shared-complete}
 use Rattle.roots.specs.declared.Operands.{Operands}
 use Rattle.roots.specs.declared.Own.{Own}
 use Rattle.roots.specs.declared.Subs.{Subs}
 use Rattle.roots.specs.Parts.{operandsIn, operandsOf, ownIn, ownOf, subsIn, subsOf}
-use Rattle.roots.specs.Marks.{marked, Added, Adds, pathRoot, expressionRoots, behaviourRoots, branchRoots, operandRoots, ownRoots, subRoots, AddsBranches, Shares}
+use Rattle.roots.specs.Sets.{inSet, rootAt, pathRoot, expressionRoots, behaviourRoots, branchRoots, operandRoots, ownRoots, subRoots}
+use Rattle.roots.specs.Sets.{rowFor, Represented, Represents, SetOf, SetsOf, WithPath, Joined, Stored, ExpressionSet, ExpressionSets, OwnKept, OwnSet, LaterRow}
+use Rattle.roots.specs.Sets.{LaterBranches, SubsKept, LaterSets, WithBranches, WithSubs, BehaviourSet, BehaviourSets, NoParallel, Apart, Separates, Fills}
+use Rattle.roots.proofs.SetLaws.{set-of, set-none, join-set, store-row}
 
 -- ---- parts of a row
 
@@ -60,390 +63,496 @@ pub ruleset kind-laws = (operands-by, own-by, subs-by)
 
 pub ruleset part-laws = (operands-are, own-are, subs-of-row)
 
--- ---- tests
+-- ---- a set more
 
-or-true : (a : Bool) → a || true ≡ true
-or-true true = refl
-or-true false = refl
+-- A path, and an E row, after a set.
+path-more : (file table s x : List ℕ) (p : ℕ) (f : ℕ → Bool) → WellFormed file → Represented file table → p < pathCount file → WithPath file table s p x
+    → SetOf file table s 0 f → SetOf file table x 0 (λ i. f i || pathRoot file p i)
+path-more file table s x p f w r l h m = h .tells f r l (let c = counts-kept file w in omega arith) m
 
--- ---- marks one after another
-
-pub adds-none : (l : List ℕ) (f : ℕ → Bool) → ((i : ℕ) → f i ≡ false) → Adds f l l
-adds-none l f e = record {
-  adds = λ n h. record {
-    size = h;
-    near = λ i k. or-false (marked l i) ∙ ap (λ (x : Bool). marked l i || x) (sym (e i));
-    far = λ i k t. absurd (clash t (e i));
-    keeps = λ t. t;
-    full = λ k t. t;
-  };
-}
-
-pub adds-as : {l o : List ℕ} (f g : ℕ → Bool) → ((i : ℕ) → f i ≡ g i) → Adds f l o → Adds g l o
-adds-as {l} {o} f g e h = record {
-  adds = λ n k.
-      let a = h .adds n k in
-      record {
-        size = a .size;
-        near = λ i j. a .near i j ∙ ap (λ (x : Bool). marked l i || x) (e i);
-        far = λ i j t. a .far i j (e i ∙ t);
-        keeps = a .keeps;
-        full = a .full;
-      };
-}
-
-pub adds-both : {l m o : List ℕ} (f g h : ℕ → Bool) → Adds f l m → Adds g m o → ((i : ℕ) → h i ≡ f i || g i) → Adds h l o
-adds-both {l} {m} {o} f g h x y e = record {
-  adds = λ n k.
-      let a = x .adds n k in
-      let b = y .adds n (a .size) in
-      record {
-        size = b .size;
-        near = λ i j.
-            b .near i j ∙ (ap (λ (z : Bool). z || g i) (a .near i j) ∙ (or-assoc (marked l i) (f i) (g i) ∙ ap (λ (z : Bool). marked l i || z) (sym (e i))));
-        far = λ i j t. ⊎-elim (λ u. b .keeps (a .far i j u)) (λ u. b .far i j u) (or-of (f i) (g i) (sym (e i) ∙ t));
-        keeps = λ t. b .keeps (a .keeps t);
-        full = λ j t. a .full j (b .full j t);
-      };
-}
-
--- ---- one path
-
-set-marks : (l : List ℕ) (p i : ℕ) → p < length l → marked (set l p 1) i ≡ marked l i || eqb i p
-unfolding marked
-set-marks l p i h = go (compare p i)
-  where
-    go : Compare p i → not (eqb (getD (set l p 1) i 0) 0) ≡ not (eqb (getD l i 0) 0) || eqb i p
-    go (lt k) = rw (getD-set-other l p i 1 0 (λ e. omega arith), ne-eqb i p (λ e. omega arith)) (or-false (not (eqb (getD l i 0) 0)))
-    go (gt k) = rw (getD-set-other l p i 1 0 (λ e. omega arith), ne-eqb i p (λ e. omega arith)) (or-false (not (eqb (getD l i 0) 0)))
-    go (eq k) =
-        subst (λ (z : ℕ). not (eqb (getD (set l p 1) z 0) 0) ≡ not (eqb (getD l z 0) 0) || eqb z p) k
-        (rw (getD-set-same l p 1 0 h, eq-eqb p p refl) (sym (or-true (not (eqb (getD l p 0) 0)))))
-
-or-left : {a : Bool} (b : Bool) → a ≡ true → a || b ≡ true
-or-left b e = rw e refl
-
--- The mark of the id i, if it has one of its own; else the last.
-near-marked : (l : List ℕ) (i n : ℕ) → length l ≡ suc n → i < n → Added n (λ k. eqb k i) l (set l i 1)
-near-marked l i n h k = record {
-  size = length-set l i 1 ∙ h;
-  near = λ j q. set-marks l i j (omega arith);
-  far = λ j q t. absurd (let e = eqb-true j i t in omega arith);
-  keeps = λ t. set-marks l i n (omega arith) ∙ or-left (eqb n i) t;
-  full = λ q t. or-false (marked l n) ∙ (ap (λ (x : Bool). marked l n || x) (sym (ne-eqb n i (λ e. omega arith))) ∙ (sym (set-marks l i n (omega arith)) ∙ t));
-}
-
-last-marked : (l : List ℕ) (i n : ℕ) → length l ≡ suc n → n ≤ i → i < 65536 → Added n (λ k. eqb k i) l (set l n 1)
-last-marked l i n h k q = record {
-  size = length-set l n 1 ∙ h;
-  near = λ j u.
-      set-marks l n j (omega arith)
-      ∙ (ap (λ (x : Bool). marked l j || x) (ne-eqb j n (λ e. omega arith)) ∙ ap (λ (x : Bool). marked l j || x) (sym (ne-eqb j i (λ e. omega arith))));
-  far = λ j u t. last;
-  keeps = λ t. last;
-  full = λ u t. absurd (omega arith);
-}
-  where
-    last : marked (set l n 1) n ≡ true
-    last = set-marks l n n (omega arith) ∙ (ap (λ (x : Bool). marked l n || x) (eq-eqb n n refl) ∙ or-true (marked l n))
-
-id-marked : (l : List ℕ) (i n j : ℕ) → length l ≡ suc n → i < 65536 → j ≡ pick (ltb i n) i n → Added n (λ k. eqb k i) l (set l j 1)
-id-marked l i n j h q e = go (ltb i n) refl
-  where
-    at : (k : ℕ) → j ≡ k → Added n (λ k. eqb k i) l (set l k 1) → Added n (λ k. eqb k i) l (set l j 1)
-    at k f a = subst (λ (z : ℕ). Added n (λ k. eqb k i) l (set l z 1)) (sym f) a
-
-    go : (t : Bool) → ltb i n ≡ t → Added n (λ k. eqb k i) l (set l j 1)
-    go true f = at i (e ∙ ap (λ (t : Bool). pick t i n) f) (near-marked l i n h (ltb-true i n f))
-    go false f = at n (e ∙ ap (λ (t : Bool). pick t i n) f) (last-marked l i n h (ltb-false i n f) q)
-
-pub pick-inside : (i j len : ℕ) → j ≡ pick (ltb i (len - 1)) i (len - 1) → (len ≡ 0 → ⊥) → j < len
-pick-inside i j len e z = go (ltb i (len - 1)) refl
-  where
-    go : (t : Bool) → ltb i (len - 1) ≡ t → j < len
-    go true f = let g : j ≡ i = e ∙ ap (λ (t : Bool). pick t i (len - 1)) f in let h = ltb-true i (len - 1) f in omega (arith, z)
-    go false f = let g : j ≡ len - 1 = e ∙ ap (λ (t : Bool). pick t i (len - 1)) f in omega (arith, z)
-
-pub path-marked : (s l : List ℕ) (p at v i j : ℕ) → at ≡ pathAt s p → v ≡ u16At s at → i ≡ v → i < 65536 → j ≡ pick (ltb i (length l - 1)) i (length l - 1)
-    → Adds (pathRoot s p) l (set l j 1)
-unfolding pathRoot pathOf
-path-marked s l p at v i j e f g h k = record {
-  adds = λ n m.
-      let last : length l - 1 ≡ n = omega arith in
-      subst (λ (z : ℕ). Added n (λ k. eqb k z) l (set l j 1)) (g ∙ (f ∙ ap (u16At s) e))
-      (id-marked l i n j m h (k ∙ ap (λ (z : ℕ). pick (ltb i z) i z) last));
-}
-
-pub path-unmarked : (s l : List ℕ) (p : ℕ) → length l ≡ 0 → Adds (pathRoot s p) l l
-path-unmarked s l p e = record { adds = λ n m. absurd (omega arith) }
+row-more : (file table s sets x : List ℕ) (a n : ℕ) (f : ℕ → Bool) (g : ℕ → ℕ → Bool) → n ≤ 256 → Joined s sets a x → a < n
+    → SetOf file table sets (32 * a) (g a) → SetOf file table s 0 f → SetOf file table x 0 (λ i. f i || g a i)
+row-more file table s sets x a n f g c j l k m = join-set file table s sets x a f (g a) j (omega arith) m k
 
 -- ---- expressions
 
-by-kind : (s : List ℕ) (d r i : ℕ) (k : ExpressionKind) → occursIn i (expressionFrom s (expressionTo s d) (expressionAt s r) k)
-    ≡ operandRoots s d (operandsIn (expressionRowAs k (byteAt s (expressionAt s r + 1)) (fieldA s (expressionAt s r)) (fieldB s (expressionAt s r)))) i
+by-kind : (s : List ℕ) (r i : ℕ) (k : ExpressionKind) → occursIn i (expressionFrom s (expressionOf s) (expressionAt s r) k)
+    ≡ operandRoots s (operandsIn (expressionRowAs k (byteAt s (expressionAt s r + 1)) (fieldA s (expressionAt s r)) (fieldB s (expressionAt s r)))) i
 unfolding expressionFrom occursIn operandRoots expressionRowAs expressionRoots pathRoot
-by-kind s d r i ExpressionKind.Constant = refl
-by-kind s d r i ExpressionKind.ValueAt = refl
-by-kind s d r i ExpressionKind.Presence = refl
-by-kind s d r i ExpressionKind.Not = refl
-by-kind s d r i ExpressionKind.Negate = refl
-by-kind s d r i ExpressionKind.Add = refl
-by-kind s d r i ExpressionKind.Subtract = refl
-by-kind s d r i ExpressionKind.Less = refl
-by-kind s d r i ExpressionKind.Equal = refl
-by-kind s d r i ExpressionKind.And = refl
-by-kind s d r i ExpressionKind.Unknown = refl
+by-kind s r i ExpressionKind.Constant = refl
+by-kind s r i ExpressionKind.ValueAt = refl
+by-kind s r i ExpressionKind.Presence = refl
+by-kind s r i ExpressionKind.Not = refl
+by-kind s r i ExpressionKind.Negate = refl
+by-kind s r i ExpressionKind.Add = refl
+by-kind s r i ExpressionKind.Subtract = refl
+by-kind s r i ExpressionKind.Less = refl
+by-kind s r i ExpressionKind.Equal = refl
+by-kind s r i ExpressionKind.And = refl
+by-kind s r i ExpressionKind.Unknown = refl
 
 -- The root ids of an E row are those of its operands.
-expression-parts : (s : List ℕ) (d r i : ℕ) → expressionRoots s (suc d) r i ≡ operandRoots s d (operandsOf s r) i
-unfolding expressionRoots expressionTo operandsOf expressionRowOf
-expression-parts s d r i = by-kind s d r i (expressionKindAt s r)
+expression-parts : (s : List ℕ) → WellFormed s → (r i : ℕ) → r < expressionCount s → expressionRoots s r i ≡ operandRoots s (operandsOf s r) i
+unfolding expressionRoots operandsOf expressionRowOf
+expression-parts s w r i l = ap (occursIn i) (expression-row s w r l) ∙ by-kind s r i (expressionKindAt s r)
 
-parts-of : (s : List ℕ) (d r : ℕ) {x y : Operands} → (d ≡ 0 → ⊥) → x ≡ operandsOf s r → x ≡ y → (i : ℕ)
-    → operandRoots s (d - 1) y i ≡ expressionRoots s d r i
-parts-of s d r h e f i =
-    ap (λ (z : Operands). operandRoots s (d - 1) z i) (sym f ∙ e)
-    ∙ (sym (expression-parts s (d - 1) r i) ∙ ap (λ (z : ℕ). expressionRoots s z r i) (sym (one-less d h)))
+-- "Operands a, b are earlier rows."
+abbrev OperandsKept : List ℕ → ℕ → Operands → Type 0
+OperandsKept s r Operands.Nothing = Unit {0}
+OperandsKept s r (Operands.Path p) = p < pathCount s
+OperandsKept s r (Operands.One a) = a < r
+OperandsKept s r (Operands.Two a b) = (a < r) × (b < r)
 
-pub no-levels : (s l : List ℕ) (d r : ℕ) → d ≡ 0 → Adds (expressionRoots s d r) l l
-unfolding expressionRoots expressionTo occursIn
-no-levels s l d r e = subst (λ (z : ℕ). Adds (expressionRoots s z r) l l) (sym e) (adds-none l (expressionRoots s 0 r) (λ i. refl))
+operands-by-kind : (s : List ℕ) (r at b : ℕ) (k : ExpressionKind) → fieldFits s r b (expressionFields k .a) (fieldA s at) (fieldB s at) ≡ true
+    → fieldFits s r b (expressionFields k .b) (fieldB s at) (fieldC s at) ≡ true → OperandsKept s r (operandsIn (expressionRowAs k b (fieldA s at) (fieldB s at)))
+unfolding expressionFields fieldFits expressionRowAs
+operands-by-kind s r at b ExpressionKind.Constant x y = tt
+operands-by-kind s r at b ExpressionKind.ValueAt x y = lt-of (fieldA s at) (pathCount s) x
+operands-by-kind s r at b ExpressionKind.Presence x y = lt-of (fieldA s at) (pathCount s) x
+operands-by-kind s r at b ExpressionKind.Not x y = lt-of (fieldA s at) r x
+operands-by-kind s r at b ExpressionKind.Negate x y = lt-of (fieldA s at) r x
+operands-by-kind s r at b ExpressionKind.Add x y = (lt-of (fieldA s at) r x, lt-of (fieldB s at) r y)
+operands-by-kind s r at b ExpressionKind.Subtract x y = (lt-of (fieldA s at) r x, lt-of (fieldB s at) r y)
+operands-by-kind s r at b ExpressionKind.Less x y = (lt-of (fieldA s at) r x, lt-of (fieldB s at) r y)
+operands-by-kind s r at b ExpressionKind.Equal x y = (lt-of (fieldA s at) r x, lt-of (fieldB s at) r y)
+operands-by-kind s r at b ExpressionKind.And x y = (lt-of (fieldA s at) r x, lt-of (fieldB s at) r y)
+operands-by-kind s r at b ExpressionKind.Unknown x y = tt
 
-pub no-operand : (s l : List ℕ) (d r : ℕ) {x : Operands} → (d ≡ 0 → ⊥) → x ≡ operandsOf s r → x ≡ Operands.Nothing → Adds (expressionRoots s d r) l l
+operands-kept : (s : List ℕ) → WellFormed s → (r : ℕ) → r < expressionCount s → OperandsKept s r (operandsOf s r)
+unfolding operandsOf expressionRowOf
+operands-kept s w r l =
+    let k = expression-kept s w r l in
+    operands-by-kind s r (expressionAt s r) (byteAt s (expressionAt s r + 1)) (expressionKindAt s r) (k .fitsA) (k .fitsB)
+
+-- A row of known operands: how they are kept, and the root ids.
+module _ (s table known x : List ℕ) (r : ℕ) {o y : Operands} (e : o ≡ operandsOf s r) (f : o ≡ y)
+    (h : WellFormed s → Represented s table → r < expressionCount s → SetsOf s table known (expressionRoots s) 0 r → OperandsKept s r y → r ≤ 256 → SetOf s table x 0 (operandRoots s y)) where
+  pub expression-by : ExpressionSet s table known r x
+  expression-by = record {
+    tells = λ w t l k.
+        let c = counts-kept s w in
+        let g : operandsOf s r ≡ y = sym e ∙ f in
+        set-of s table x 0 (operandRoots s y) (expressionRoots s r) (λ i. sym (expression-parts s w r i l ∙ ap (λ (z : Operands). operandRoots s z i) g))
+        (h w t l k (subst (OperandsKept s r) g (operands-kept s w r l)) (omega arith));
+  }
+
+pub operand-none : (s table known : List ℕ) (r : ℕ) {o : Operands} → o ≡ operandsOf s r → o ≡ Operands.Nothing → ExpressionSet s table known r (replicate 32 0)
 unfolding operandRoots
-no-operand s l d r h e f = adds-none l (expressionRoots s d r) (λ i. sym (parts-of s d r h e f i))
+operand-none s table known r e f = expression-by s table known (replicate 32 0) r e f (λ w t l k c n. set-none s table 32)
 
-pub path-operand : (s l o : List ℕ) (d r : ℕ) {x : Operands} {p : ℕ} → (d ≡ 0 → ⊥) → x ≡ operandsOf s r → x ≡ Operands.Path p → Adds (pathRoot s p) l o
-    → Adds (expressionRoots s d r) l o
+pub operand-path : (s table known x : List ℕ) (r : ℕ) {o : Operands} {p : ℕ} → o ≡ operandsOf s r → o ≡ Operands.Path p → WithPath s table (replicate 32 0) p x
+    → ExpressionSet s table known r x
 unfolding operandRoots
-path-operand s l o d r {x} {p} h e f a = adds-as (pathRoot s p) (expressionRoots s d r) (λ i. parts-of s d r h e f i) a
+operand-path s table known x r {o} {p} e f h =
+    expression-by s table known x r e f (λ w t l k c n. path-more s table (replicate 32 0) x p (λ i. false) w t c h (set-none s table 32))
 
-pub one-operand : (s l o : List ℕ) (d r : ℕ) {x : Operands} {a : ℕ} → (d ≡ 0 → ⊥) → x ≡ operandsOf s r → x ≡ Operands.One a
-    → Adds (expressionRoots s (d - 1) a) l o → Adds (expressionRoots s d r) l o
+pub operand-one : (s table known x : List ℕ) (r : ℕ) {o : Operands} {a : ℕ} → o ≡ operandsOf s r → o ≡ Operands.One a → Joined (replicate 32 0) known a x
+    → ExpressionSet s table known r x
 unfolding operandRoots
-one-operand s l o d r {x} {a} h e f y = adds-as (expressionRoots s (d - 1) a) (expressionRoots s d r) (λ i. parts-of s d r h e f i) y
+operand-one s table known x r {o} {a} e f h =
+    expression-by s table known x r e f (λ w t l k c n.
+    row-more s table (replicate 32 0) known x a r (λ i. false) (expressionRoots s) n h c (k a (omega arith) c) (set-none s table 32))
 
-pub two-operands : (s l m o : List ℕ) (d r : ℕ) {x : Operands} {a b : ℕ} → (d ≡ 0 → ⊥) → x ≡ operandsOf s r → x ≡ Operands.Two a b
-    → Adds (expressionRoots s (d - 1) a) l m → Adds (expressionRoots s (d - 1) b) m o → Adds (expressionRoots s d r) l o
+pub operand-two : (s table known m x : List ℕ) (r : ℕ) {o : Operands} {a b : ℕ} → o ≡ operandsOf s r → o ≡ Operands.Two a b → Joined (replicate 32 0) known a m
+    → Joined m known b x → ExpressionSet s table known r x
 unfolding operandRoots
-two-operands s l m o d r {x} {a} {b} h e f y z =
-    adds-both (expressionRoots s (d - 1) a) (expressionRoots s (d - 1) b) (expressionRoots s d r) y z (λ i. sym (parts-of s d r h e f i))
+operand-two s table known m x r {o} {a} {b} e f h j =
+    expression-by s table known x r e f (λ w t l k c n.
+    row-more s table m known x b r (expressionRoots s a) (expressionRoots s) n j (c .1) (k b (omega arith) (c .1))
+    (row-more s table (replicate 32 0) known m a r (λ i. false) (expressionRoots s) n h (c .0) (k a (omega arith) (c .0)) (set-none s table 32)))
 
-pub ruleset path-laws = (path-marked, path-unmarked)
+pub ruleset operand-laws = (operand-none, operand-path, operand-one, operand-two)
 
-pub ruleset expression-laws = (no-levels, no-operand, path-operand, one-operand, two-operands)
+-- The rows one after another.
+pub record Expressions (s table before known : List ℕ) (n r : ℕ) : Type 0 where
+  pub within : r ≤ n
+  pub size : length before ≡ 8192 → length known ≡ 8192
+  pub sets : length before ≡ 8192 → WellFormed s → Represented s table → n ≡ expressionCount s → SetsOf s table known (expressionRoots s) 0 r
+
+pub expressions-none : (s table known : List ℕ) (n : ℕ) → Expressions s table known known n 0
+expressions-none s table known n = record { within = omega arith; size = λ l. l; sets = λ l w t e j a b. absurd (omega arith) }
+
+pub expressions-more : (s table before known x after : List ℕ) (n r : ℕ) → Expressions s table before known n r → r < n → ExpressionSet s table known r x
+    → Stored known r x after → Expressions s table before after n (r + 1)
+expressions-more s table before known x after n r h l k m = record {
+  within = omega arith;
+  size = λ z. m .size (h .size z);
+  sets = λ z w t e.
+      let c = counts-kept s w in
+      store-row s table known after x r (expressionRoots s) 0 (r + 1) m (h .size z) (omega arith) (k .tells w t (omega arith) (h .sets z w t e))
+      (λ j n a b. h .sets z w t e j a (earlier j n b));
+}
+  where
+    earlier : (j : ℕ) → (j ≡ r → ⊥) → j < r + 1 → j < r
+    earlier j n b = omega (arith, n)
+
+pub expressions-all : (s table before known : List ℕ) (n r : ℕ) → Expressions s table before known n r → n ≤ r → n ≡ expressionCount s
+    → ExpressionSets s table before known
+expressions-all s table before known n r h l e = record { tells = λ z w t j a b. h .sets z w t e j a (omega arith) }
 
 -- ---- a row's own paths and expression
 
-pub own-nothing : (s l : List ℕ) {x y : Own} → y ≡ x → y ≡ Own.Nothing → Adds (ownRoots s x) l l
-unfolding ownRoots
-own-nothing s l {x} {y} e f = adds-none l (ownRoots s x) (λ i. ap (λ (z : Own). ownRoots s z i) (sym e ∙ f))
+own-as : (s table x : List ℕ) {o y : Own} → y ≡ o → SetOf s table x 0 (ownRoots s y) → SetOf s table x 0 (ownRoots s o)
+own-as s table x {o} {y} e h = subst (λ (z : Own). SetOf s table x 0 (ownRoots s z)) e h
 
-own-is : (s : List ℕ) {x y z : Own} → y ≡ x → y ≡ z → (i : ℕ) → ownRoots s z i ≡ ownRoots s x i
-own-is s e f i = ap (λ (w : Own). ownRoots s w i) (sym f ∙ e)
+-- What the row that was read names itself: one law for each way out.
+module _ (s table known x : List ℕ) {o y z : Own} (e : y ≡ o) (f : y ≡ z)
+    (h : WellFormed s → Represented s table → SetsOf s table known (expressionRoots s) 0 (expressionCount s) → OwnKept s z → expressionCount s ≤ 256
+    → SetOf s table x 0 (ownRoots s z)) where
+  pub own-set-by : OwnSet s table known o x
+  own-set-by = record {
+    tells = λ w t k c.
+        let n = counts-kept s w in
+        own-as s table x (sym f ∙ e) (h w t c (subst (OwnKept s) (sym e ∙ f) k) (omega arith));
+  }
 
-pub own-path : (s l o : List ℕ) {x y : Own} {p : ℕ} → y ≡ x → y ≡ Own.Path p → Adds (pathRoot s p) l o → Adds (ownRoots s x) l o
+pub own-nothing : (s table known : List ℕ) {o y : Own} → y ≡ o → y ≡ Own.Nothing → OwnSet s table known o (replicate 32 0)
 unfolding ownRoots
-own-path s l o {x} {y} {p} e f a = adds-as (pathRoot s p) (ownRoots s x) (own-is s e f) a
+own-nothing s table known e f = own-set-by s table known (replicate 32 0) e f (λ w t k c n. set-none s table 32)
 
-pub own-paths : (s l m o : List ℕ) {x y : Own} {p q : ℕ} → y ≡ x → y ≡ Own.Paths p q → Adds (pathRoot s p) l m → Adds (pathRoot s q) m o → Adds (ownRoots s x) l o
+pub own-path : (s table known x : List ℕ) {o y : Own} {p : ℕ} → y ≡ o → y ≡ Own.Path p → WithPath s table (replicate 32 0) p x → OwnSet s table known o x
 unfolding ownRoots
-own-paths s l m o {x} {y} {p} {q} e f a b = adds-both (pathRoot s p) (pathRoot s q) (ownRoots s x) a b (λ i. sym (own-is s e f i))
+own-path s table known x {o} {y} {p} e f h =
+    own-set-by s table known x e f (λ w t k c n. path-more s table (replicate 32 0) x p (λ i. false) w t c h (set-none s table 32))
 
-pub own-expression : (s l o : List ℕ) {x y : Own} {p : ℕ} → y ≡ x → y ≡ Own.Expression p → Adds (expressionRoots s 8 p) l o → Adds (ownRoots s x) l o
+pub own-paths : (s table known m x : List ℕ) {o y : Own} {p q : ℕ} → y ≡ o → y ≡ Own.Paths p q → WithPath s table (replicate 32 0) p m → WithPath s table m q x
+    → OwnSet s table known o x
 unfolding ownRoots
-own-expression s l o {x} {y} {p} e f a = adds-as (expressionRoots s 8 p) (ownRoots s x) (own-is s e f) a
+own-paths s table known m x {o} {y} {p} {q} e f h j =
+    own-set-by s table known x e f (λ w t k c n.
+    path-more s table m x q (pathRoot s p) w t (c .1) j (path-more s table (replicate 32 0) m p (λ i. false) w t (c .0) h (set-none s table 32)))
 
-pub own-both : (s l m o : List ℕ) {x y : Own} {p q : ℕ} → y ≡ x → y ≡ Own.Both p q → Adds (expressionRoots s 8 p) l m → Adds (pathRoot s q) m o → Adds (ownRoots s x) l o
+pub own-expression : (s table known x : List ℕ) {o y : Own} {a : ℕ} → y ≡ o → y ≡ Own.Expression a → Joined (replicate 32 0) known a x → OwnSet s table known o x
 unfolding ownRoots
-own-both s l m o {x} {y} {p} {q} e f a b = adds-both (expressionRoots s 8 p) (pathRoot s q) (ownRoots s x) a b (λ i. sym (own-is s e f i))
+own-expression s table known x {o} {y} {a} e f h =
+    own-set-by s table known x e f (λ w t k c n.
+    row-more s table (replicate 32 0) known x a (expressionCount s) (λ i. false) (expressionRoots s) n h c (k a (omega arith) c) (set-none s table 32))
+
+pub own-both : (s table known m x : List ℕ) {o y : Own} {a p : ℕ} → y ≡ o → y ≡ Own.Both a p → Joined (replicate 32 0) known a m → WithPath s table m p x
+    → OwnSet s table known o x
+unfolding ownRoots
+own-both s table known m x {o} {y} {a} {p} e f h j =
+    own-set-by s table known x e f (λ w t k c n.
+    path-more s table m x p (expressionRoots s a) w t (c .1) j
+    (row-more s table (replicate 32 0) known m a (expressionCount s) (λ i. false) (expressionRoots s) n h (c .0) (k a (omega arith) (c .0)) (set-none s table 32)))
 
 pub ruleset own-laws = (own-nothing, own-path, own-paths, own-expression, own-both)
 
--- ---- behaviours
-
-kind-parts : (s : List ℕ) (d r i : ℕ) (k : BehaviourKind) → occurs i (behaviourFrom s (behaviourTo s d) r (behaviourAt s r) k)
-    ≡ ownRoots s (ownIn (behaviourRowAs k (fieldA s (behaviourAt s r)) (fieldB s (behaviourAt s r)) (fieldC s (behaviourAt s r)) (fieldD s (behaviourAt s r)))) i
-    || subRoots s d (subsIn (behaviourRowAs k (fieldA s (behaviourAt s r)) (fieldB s (behaviourAt s r)) (fieldC s (behaviourAt s r)) (fieldD s (behaviourAt s r)))) i
-unfolding behaviourFrom occurs ownRoots subRoots behaviourRowAs expressionRoots behaviourRoots branchRoots pathRoot
-kind-parts s d r i BehaviourKind.Nil = refl
-kind-parts s d r i BehaviourKind.OneWay = or-false (isRoot i (pathOf s (fieldB s (behaviourAt s r))))
-kind-parts s d r i BehaviourKind.RequestResponse =
-    sym (or-assoc (isRoot i (pathOf s (fieldB s (behaviourAt s r)))) (isRoot i (pathOf s (fieldC s (behaviourAt s r)))) (occurs i (behaviourTo s d (fieldD s (behaviourAt s r)))))
-kind-parts s d r i BehaviourKind.Notification = or-false (occursIn i (expressionTo s 8 (fieldB s (behaviourAt s r))))
-kind-parts s d r i BehaviourKind.SolicitResponse =
-    or-false (occursIn i (expressionTo s 8 (fieldB s (behaviourAt s r))) || isRoot i (pathOf s (fieldC s (behaviourAt s r))))
-kind-parts s d r i BehaviourKind.If = refl
-kind-parts s d r i BehaviourKind.While = refl
-kind-parts s d r i BehaviourKind.Sequence = refl
-kind-parts s d r i BehaviourKind.Parallel = refl
-kind-parts s d r i BehaviourKind.Assign =
-    or-false (occursIn i (expressionTo s 8 (fieldB s (behaviourAt s r))) || isRoot i (pathOf s (fieldA s (behaviourAt s r))))
-kind-parts s d r i BehaviourKind.Choice = refl
-kind-parts s d r i BehaviourKind.Branch = refl
-kind-parts s d r i BehaviourKind.Unknown = refl
-
-behaviour-parts : (s : List ℕ) (d r i : ℕ) → behaviourRoots s (suc d) r i ≡ ownRoots s (ownOf s r) i || subRoots s d (subsOf s r) i
-unfolding behaviourRoots behaviourTo ownOf subsOf behaviourRowOf
-behaviour-parts s d r i = kind-parts s d r i (kindAt s r)
-
-subs-are : (s : List ℕ) (d r : ℕ) {x y : Subs} → (d ≡ 0 → ⊥) → x ≡ subsOf s r → x ≡ y → (i : ℕ)
-    → behaviourRoots s d r i ≡ ownRoots s (ownOf s r) i || subRoots s (d - 1) y i
-subs-are s d r h e f i =
-    ap (λ (z : ℕ). behaviourRoots s z r i) (one-less d h)
-    ∙ (behaviour-parts s (d - 1) r i ∙ ap (λ (z : Subs). ownRoots s (ownOf s r) i || subRoots s (d - 1) z i) (sym e ∙ f))
-
-pub no-rows : (s l : List ℕ) (d r : ℕ) → d ≡ 0 → Adds (behaviourRoots s d r) l l
-unfolding behaviourRoots behaviourTo occurs
-no-rows s l d r e = subst (λ (z : ℕ). Adds (behaviourRoots s z r) l l) (sym e) (adds-none l (behaviourRoots s 0 r) (λ i. refl))
-
-pub no-subs : (s l o : List ℕ) (d r : ℕ) {x : Subs} → (d ≡ 0 → ⊥) → Adds (ownRoots s (ownOf s r)) l o → x ≡ subsOf s r → x ≡ Subs.Nothing
-    → Adds (behaviourRoots s d r) l o
-unfolding subRoots
-no-subs s l o d r h a e f = adds-as (ownRoots s (ownOf s r)) (behaviourRoots s d r) (λ i. or-false (ownRoots s (ownOf s r) i) ∙ sym (subs-are s d r h e f i)) a
-
-pub one-sub : (s l m o : List ℕ) (d r : ℕ) {x : Subs} {a : ℕ} → (d ≡ 0 → ⊥) → Adds (ownRoots s (ownOf s r)) l m → x ≡ subsOf s r → x ≡ Subs.One a
-    → Adds (behaviourRoots s (d - 1) a) m o → Adds (behaviourRoots s d r) l o
-unfolding subRoots
-one-sub s l m o d r {x} {a} h y e f z = adds-both (ownRoots s (ownOf s r)) (behaviourRoots s (d - 1) a) (behaviourRoots s d r) y z (subs-are s d r h e f)
-
-pub two-subs : (s l m n o : List ℕ) (d r : ℕ) {x : Subs} {a b : ℕ} → (d ≡ 0 → ⊥) → Adds (ownRoots s (ownOf s r)) l m → x ≡ subsOf s r → x ≡ Subs.Two a b
-    → Adds (behaviourRoots s (d - 1) a) m n → Adds (behaviourRoots s (d - 1) b) n o → Adds (behaviourRoots s d r) l o
-unfolding subRoots
-two-subs s l m n o d r {x} {a} {b} h y e f z w =
-    adds-both (ownRoots s (ownOf s r)) (λ i. behaviourRoots s (d - 1) a i || behaviourRoots s (d - 1) b i) (behaviourRoots s d r) y
-    (adds-both (behaviourRoots s (d - 1) a) (behaviourRoots s (d - 1) b) (λ i. behaviourRoots s (d - 1) a i || behaviourRoots s (d - 1) b i) z w (λ i. refl))
-    (subs-are s d r h e f)
-
-pub run-subs : (s l m o : List ℕ) (d r at : ℕ) {x : Subs} {a n : ℕ} → (d ≡ 0 → ⊥) → Adds (ownRoots s (ownOf s r)) l m → x ≡ subsOf s r → x ≡ Subs.Run a n
-    → at ≡ behaviourAt s a → AddsBranches s at n (d - 1) m o → Adds (behaviourRoots s d r) l o
-unfolding subRoots
-run-subs s l m o d r at {x} {a} {n} h y e f g z =
-    adds-both (ownRoots s (ownOf s r)) (branchRoots s (d - 1) a n) (behaviourRoots s d r) y (z .adds a g) (subs-are s d r h e f)
-
--- What the row that was read names itself.
-pub row-own : (s l o : List ℕ) (r : ℕ) {x : BehaviourRow} {y : Own} → x ≡ behaviourRowOf s r → y ≡ ownIn x → Adds (ownRoots s y) l o → Adds (ownRoots s (ownOf s r)) l o
-row-own s l o r {x} {y} e f a = subst (λ (z : Own). Adds (ownRoots s z) l o) (own-are s r e f) a
-
-pub ruleset row-laws = (no-rows, no-subs, one-sub, two-subs, run-subs, row-own, subs-of-row)
-
 -- ---- branches
 
-pub no-branches : (s l : List ℕ) (at n d : ℕ) → n ≡ 0 → AddsBranches s at n d l l
+pub branches-none : (s sets set : List ℕ) (at n : ℕ) → n ≡ 0 → WithBranches s sets set at n set
 unfolding branchRoots branchesFrom occurs
-no-branches s l at n d e = record { adds = λ r g. subst (λ (z : ℕ). Adds (branchRoots s d r z) l l) (sym e) (adds-none l (branchRoots s d r 0) (λ i. refl)) }
+branches-none s sets set at n e = record {
+  tells = λ table f r first w t g k l m. subst (λ (z : ℕ). SetOf s table set 0 (λ i. f i || branchRoots s first z i)) (sym e)
+      (set-of s table set 0 f (λ i. f i || branchRoots s first 0 i) (λ i. or-false (f i)) m);
+}
 
-branch-parts : (s : List ℕ) (d r n i : ℕ) → branchRoots s d r (suc n) i
-    ≡ (behaviourRoots s d (fieldA s (behaviourAt s r)) i || behaviourRoots s d (fieldB s (behaviourAt s r)) i) || branchRoots s d (suc r) n i
+branch-parts : (s : List ℕ) (r n i : ℕ) → branchRoots s r (suc n) i
+    ≡ ((behaviourRoots s (fieldA s (behaviourAt s r)) i || behaviourRoots s (fieldB s (behaviourAt s r)) i) || branchRoots s (suc r) n i)
 unfolding branchRoots behaviourRoots branchesFrom occurs
-branch-parts s d r zero i =
-    or-false (occurs i (behaviourTo s d (fieldA s (behaviourAt s r))) || occurs i (behaviourTo s d (fieldB s (behaviourAt s r))))
-branch-parts s d r (suc n) i = refl
+branch-parts s r zero i = or-false (occurs i (behaviourOf s (fieldA s (behaviourAt s r))) || occurs i (behaviourOf s (fieldB s (behaviourAt s r))))
+branch-parts s r (suc n) i = refl
 
-pub more-branches : (s l m o p : List ℕ) (at n d a b : ℕ) → (n ≡ 0 → ⊥) → a ≡ u16At s (at + 2) → Adds (behaviourRoots s d a) l m
-    → b ≡ u16At s (at + 4) → Adds (behaviourRoots s d b) m o → AddsBranches s (at + 10) (n - 1) d o p → AddsBranches s at n d l p
-more-branches s l m o p at n d a b h e x f y z = record {
-  adds = λ r g.
-      let u = subst (λ (w : ℕ). Adds (behaviourRoots s d w) l m) (e ∙ ap (λ (w : ℕ). u16At s (w + 2)) g) x in
-      let v = subst (λ (w : ℕ). Adds (behaviourRoots s d w) m o) (f ∙ ap (λ (w : ℕ). u16At s (w + 4)) g) y in
-      let k : at + 10 ≡ behaviourAt s (suc r) = ap (λ (w : ℕ). w + 10) g ∙ next-at s r in
-      adds-both (both-of r) (branchRoots s d (suc r) (n - 1)) (branchRoots s d r n)
-      (adds-both (behaviourRoots s d (fieldA s (behaviourAt s r))) (behaviourRoots s d (fieldB s (behaviourAt s r))) (both-of r) u v (λ i. refl))
-      (z .adds (suc r) k) (λ i. ap (λ (w : ℕ). branchRoots s d r w i) (one-less n h) ∙ branch-parts s d r (n - 1) i);
+four : (f a b c : Bool) → (((f || a) || b) || c) ≡ (f || ((a || b) || c))
+four true a b c = refl
+four false a b c = refl
+
+pub branches-more : (s sets set m o x : List ℕ) (at n a b : ℕ) → (n ≡ 0 → ⊥) → a ≡ u16At s (at + 2) → Joined set sets a m → b ≡ u16At s (at + 4)
+    → Joined m sets b o → WithBranches s sets o (at + 10) (n - 1) x → WithBranches s sets set at n x
+branches-more s sets set m o x at n a b z e h g j k = record { tells = tells }
+  where
+    tells : (table : List ℕ) (f : ℕ → Bool) (r first : ℕ) → WellFormed s → Represented s table → at ≡ behaviourAt s first → LaterBranches s r first n
+        → LaterSets s table sets r → SetOf s table set 0 f → SetOf s table x 0 (λ i. f i || branchRoots s first n i)
+    tells table f r first w t q later l c =
+        let pa : a ≡ fieldA s (behaviourAt s first) = e ∙ ap (λ (y : ℕ). u16At s (y + 2)) q in
+        let pb : b ≡ fieldB s (behaviourAt s first) = g ∙ ap (λ (y : ℕ). u16At s (y + 4)) q in
+        let u = later first (omega arith) (omega (arith, z)) in
+        let v = counts-kept s w in
+        let la : LaterRow s r a = subst (LaterRow s r) (sym pa) (u .0) in
+        let lb : LaterRow s r b = subst (LaterRow s r) (sym pb) (u .1) in
+        let one = row-more s table set sets m a (behaviourCount s) f (behaviourRoots s) (v .behaviours) h (la .1) (l a (la .0) (la .1)) c in
+        let two = row-more s table m sets o b (behaviourCount s) (λ i. f i || behaviourRoots s a i) (behaviourRoots s) (v .behaviours) j (lb .1)
+        (l b (lb .0) (lb .1)) one in
+        let rest = k .tells table (λ i. (f i || behaviourRoots s a i) || behaviourRoots s b i) r (suc first) w t (ap (λ (y : ℕ). y + 10) q ∙ next-at s first)
+        (λ y c d. later y (omega arith) (omega arith)) l two in
+        set-of s table x 0 (λ i. ((f i || behaviourRoots s a i) || behaviourRoots s b i) || branchRoots s (suc first) (n - 1) i) (λ i. f i || branchRoots s first n i)
+        (λ i. four (f i) (behaviourRoots s a i) (behaviourRoots s b i) (branchRoots s (suc first) (n - 1) i)
+        ∙ ap (λ (y : Bool). f i || y) (ap (λ (y : ℕ). (behaviourRoots s y i || behaviourRoots s b i) || branchRoots s (suc first) (n - 1) i) pa
+        ∙ (ap (λ (y : ℕ). (behaviourRoots s (fieldA s (behaviourAt s first)) i || behaviourRoots s y i) || branchRoots s (suc first) (n - 1) i) pb
+        ∙ (sym (branch-parts s first (n - 1) i) ∙ ap (λ (y : ℕ). branchRoots s first y i) (sym (one-less n z)))))) rest
+
+pub ruleset branch-laws = (branches-none, branches-more)
+
+-- ---- sub-behaviours
+
+-- One law for each way out.
+module _ (s sets set x : List ℕ) {o y z : Subs} (e : y ≡ o) (g : y ≡ z)
+    (h : (table : List ℕ) (f : ℕ → Bool) (r : ℕ) → WellFormed s → Represented s table → LaterSets s table sets r → SubsKept s r z → behaviourCount s ≤ 256
+    → SetOf s table set 0 f → SetOf s table x 0 (λ i. f i || subRoots s z i)) where
+  pub subs-set-by : WithSubs s sets set o x
+  subs-set-by = record {
+    tells = λ table f r w t k l m.
+        let c = counts-kept s w in
+        subst (λ (u : Subs). SetOf s table x 0 (λ i. f i || subRoots s u i)) (sym g ∙ e)
+        (h table f r w t l (subst (SubsKept s r) (sym e ∙ g) k) (omega arith) m);
+  }
+
+pub subs-none : (s sets set : List ℕ) {o y : Subs} → y ≡ o → y ≡ Subs.Nothing → WithSubs s sets set o set
+unfolding subRoots
+subs-none s sets set e f = subs-set-by s sets set set e f (λ table f r w t l k c m. set-of s table set 0 f (λ i. f i || false) (λ i. or-false (f i)) m)
+
+pub subs-one : (s sets set x : List ℕ) {o y : Subs} {a : ℕ} → y ≡ o → y ≡ Subs.One a → Joined set sets a x → WithSubs s sets set o x
+unfolding subRoots
+subs-one s sets set x {o} {y} {a} e g h =
+    subs-set-by s sets set x e g (λ table f r w t l k c m. row-more s table set sets x a (behaviourCount s) f (behaviourRoots s) c h (k .1) (l a (k .0) (k .1)) m)
+
+pub subs-two : (s sets set n x : List ℕ) {o y : Subs} {a b : ℕ} → y ≡ o → y ≡ Subs.Two a b → Joined set sets a n → Joined n sets b x → WithSubs s sets set o x
+unfolding subRoots
+subs-two s sets set n x {o} {y} {a} {b} e g h j =
+    subs-set-by s sets set x e g (λ table f r w t l k c m.
+    set-of s table x 0 (λ i. (f i || behaviourRoots s a i) || behaviourRoots s b i) (λ i. f i || (behaviourRoots s a i || behaviourRoots s b i))
+    (λ i. or-assoc (f i) (behaviourRoots s a i) (behaviourRoots s b i))
+    (row-more s table n sets x b (behaviourCount s) (λ i. f i || behaviourRoots s a i) (behaviourRoots s) c j (k .1 .1) (l b (k .1 .0) (k .1 .1))
+    (row-more s table set sets n a (behaviourCount s) f (behaviourRoots s) c h (k .0 .1) (l a (k .0 .0) (k .0 .1)) m)))
+
+pub subs-run : (s sets set x : List ℕ) (at : ℕ) {o y : Subs} {a n : ℕ} → y ≡ o → y ≡ Subs.Run a n → at ≡ behaviourAt s a → WithBranches s sets set at n x
+    → WithSubs s sets set o x
+unfolding subRoots
+subs-run s sets set x at {o} {y} {a} {n} e g q h = subs-set-by s sets set x e g (λ table f r w t l k c m. h .tells table f r a w t q k l m)
+
+pub ruleset sub-laws = (subs-none, subs-one, subs-two, subs-run)
+
+-- ---- behaviours
+
+kind-parts : (s : List ℕ) (r i : ℕ) (k : BehaviourKind) → occurs i (behaviourFrom s (behaviourOf s) r (behaviourAt s r) k)
+    ≡ (ownRoots s (ownIn (behaviourRowAs k (fieldA s (behaviourAt s r)) (fieldB s (behaviourAt s r)) (fieldC s (behaviourAt s r)) (fieldD s (behaviourAt s r)))) i
+    || subRoots s (subsIn (behaviourRowAs k (fieldA s (behaviourAt s r)) (fieldB s (behaviourAt s r)) (fieldC s (behaviourAt s r)) (fieldD s (behaviourAt s r)))) i)
+unfolding behaviourFrom occurs ownRoots subRoots behaviourRowAs expressionRoots behaviourRoots branchRoots pathRoot
+kind-parts s r i BehaviourKind.Nil = refl
+kind-parts s r i BehaviourKind.OneWay = or-false (isRoot i (pathOf s (fieldB s (behaviourAt s r))))
+kind-parts s r i BehaviourKind.RequestResponse =
+    sym (or-assoc (isRoot i (pathOf s (fieldB s (behaviourAt s r)))) (isRoot i (pathOf s (fieldC s (behaviourAt s r)))) (occurs i (behaviourOf s (fieldD s (behaviourAt s r)))))
+kind-parts s r i BehaviourKind.Notification = or-false (occursIn i (expressionOf s (fieldB s (behaviourAt s r))))
+kind-parts s r i BehaviourKind.SolicitResponse =
+    or-false (occursIn i (expressionOf s (fieldB s (behaviourAt s r))) || isRoot i (pathOf s (fieldC s (behaviourAt s r))))
+kind-parts s r i BehaviourKind.If = refl
+kind-parts s r i BehaviourKind.While = refl
+kind-parts s r i BehaviourKind.Sequence = refl
+kind-parts s r i BehaviourKind.Parallel = refl
+kind-parts s r i BehaviourKind.Assign =
+    or-false (occursIn i (expressionOf s (fieldB s (behaviourAt s r))) || isRoot i (pathOf s (fieldA s (behaviourAt s r))))
+kind-parts s r i BehaviourKind.Choice = refl
+kind-parts s r i BehaviourKind.Branch = refl
+kind-parts s r i BehaviourKind.Unknown = refl
+
+behaviour-parts : (s : List ℕ) → WellFormed s → (r i : ℕ) → r < behaviourCount s → behaviourRoots s r i ≡ (ownRoots s (ownOf s r) i || subRoots s (subsOf s r) i)
+unfolding behaviourRoots ownOf subsOf behaviourRowOf
+behaviour-parts s w r i l = ap (occurs i) (behaviour-row s w r l) ∙ kind-parts s r i (kindAt s r)
+
+-- What a row's fields keep to, by its parts.
+branch-later : (s : List ℕ) → WellFormed s → (r j : ℕ) → BranchKept s r j → LaterRow s r (fieldA s (behaviourAt s j)) × LaterRow s r (fieldB s (behaviourAt s j))
+branch-later s w r j k =
+    let b = branch-kept s w r j k in
+    let l = k .child .later in
+    let x = b .0 .child in
+    let y = b .1 .child in
+    let u = x .later in
+    let v = y .later in
+    ((omega arith, x .exists), (omega arith, y .exists))
+
+own-kept : (s : List ℕ) (r at : ℕ) (k : BehaviourKind) → RowKept s r at k → OwnKept s (ownIn (behaviourRowAs k (fieldA s at) (fieldB s at) (fieldC s at) (fieldD s at)))
+unfolding behaviourRowAs
+own-kept s r at BehaviourKind.Nil k = tt
+own-kept s r at BehaviourKind.OneWay k = k .1
+own-kept s r at BehaviourKind.RequestResponse k = (k .1, k .2)
+own-kept s r at BehaviourKind.Notification k = k .1
+own-kept s r at BehaviourKind.SolicitResponse k = (k .1, k .2)
+own-kept s r at BehaviourKind.If k = k .0
+own-kept s r at BehaviourKind.While k = k .0
+own-kept s r at BehaviourKind.Sequence k = tt
+own-kept s r at BehaviourKind.Parallel k = tt
+own-kept s r at BehaviourKind.Assign k = (k .1, k .0)
+own-kept s r at BehaviourKind.Choice k = tt
+own-kept s r at BehaviourKind.Branch k = tt
+own-kept s r at BehaviourKind.Unknown k = tt
+
+subs-kept : (s : List ℕ) → WellFormed s → (r at : ℕ) (k : BehaviourKind) → RowKept s r at k
+    → SubsKept s r (subsIn (behaviourRowAs k (fieldA s at) (fieldB s at) (fieldC s at) (fieldD s at)))
+unfolding behaviourRowAs
+subs-kept s w r at BehaviourKind.Nil k = tt
+subs-kept s w r at BehaviourKind.OneWay k = tt
+subs-kept s w r at BehaviourKind.RequestResponse k = (k .3 .child .later, k .3 .child .exists)
+subs-kept s w r at BehaviourKind.Notification k = tt
+subs-kept s w r at BehaviourKind.SolicitResponse k = tt
+subs-kept s w r at BehaviourKind.If k = ((k .1 .child .later, k .1 .child .exists), (k .2 .child .later, k .2 .child .exists))
+subs-kept s w r at BehaviourKind.While k = (k .1 .child .later, k .1 .child .exists)
+subs-kept s w r at BehaviourKind.Sequence k = ((k .0 .child .later, k .0 .child .exists), (k .1 .child .later, k .1 .child .exists))
+subs-kept s w r at BehaviourKind.Parallel k = ((k .0 .child .later, k .0 .child .exists), (k .1 .child .later, k .1 .child .exists))
+subs-kept s w r at BehaviourKind.Assign k = tt
+subs-kept s w r at BehaviourKind.Choice k = λ j a b. branch-later s w r j (k .2 j a b)
+subs-kept s w r at BehaviourKind.Branch k = tt
+subs-kept s w r at BehaviourKind.Unknown k = tt
+
+row-own : (s : List ℕ) → WellFormed s → (r : ℕ) → RowKept s r (behaviourAt s r) (kindAt s r) → OwnKept s (ownOf s r)
+unfolding ownOf behaviourRowOf
+row-own s w r k = own-kept s r (behaviourAt s r) (kindAt s r) k
+
+row-subs : (s : List ℕ) → WellFormed s → (r : ℕ) → RowKept s r (behaviourAt s r) (kindAt s r) → SubsKept s r (subsOf s r)
+unfolding subsOf behaviourRowOf
+row-subs s w r k = subs-kept s w r (behaviourAt s r) (kindAt s r) k
+
+pub behaviour-set-is : (s table known sets o x : List ℕ) (r : ℕ) {row : BehaviourRow} {y : Own} {z : Subs} → row ≡ behaviourRowOf s r → y ≡ ownIn row
+    → OwnSet s table known y o → z ≡ subsIn row → WithSubs s sets o z x → BehaviourSet s table known sets r x
+behaviour-set-is s table known sets o x r {row} {y} {z} e f h g k = record {
+  tells = λ w t l c d.
+      let kept = behaviour-kept s w r l in
+      let own = h .tells w t (subst (OwnKept s) (sym (own-are s r e f)) (row-own s w r kept)) c in
+      let all = k .tells table (ownRoots s y) r w t (subst (SubsKept s r) (sym (subs-of-row s r e g)) (row-subs s w r kept)) d own in
+      set-of s table x 0 (λ i. ownRoots s y i || subRoots s z i) (behaviourRoots s r)
+      (λ i. ap (λ (u : Own). ownRoots s u i || subRoots s z i) (own-are s r e f)
+      ∙ (ap (λ (u : Subs). ownRoots s (ownOf s r) i || subRoots s u i) (subs-of-row s r e g) ∙ sym (behaviour-parts s w r i l))) all;
+}
+
+-- The rows one before another.
+pub record Behaviours (s table known before sets : List ℕ) (n r : ℕ) : Type 0 where
+  pub within : r ≤ n
+  pub size : length before ≡ 8192 → length sets ≡ 8192
+  pub each : length before ≡ 8192 → WellFormed s → Represented s table → SetsOf s table known (expressionRoots s) 0 (expressionCount s)
+      → SetsOf s table sets (behaviourRoots s) r (behaviourCount s)
+
+pub behaviours-none : (s table known sets : List ℕ) (n : ℕ) → n ≡ behaviourCount s → Behaviours s table known sets sets n n
+behaviours-none s table known sets n e = record { within = omega arith; size = λ l. l; each = λ l w t c j a b. absurd (omega arith) }
+
+pub behaviours-more : (s table known before sets x after : List ℕ) (n r q : ℕ) → n ≡ behaviourCount s → Behaviours s table known before sets n r → 0 < r
+    → q ≡ r - 1 → BehaviourSet s table known sets q x → Stored sets q x after → Behaviours s table known before after n q
+behaviours-more s table known before sets x after n r q e h l f k m = record {
+  within = (let a = h .within in omega arith);
+  size = λ z. m .size (h .size z);
+  each = λ z w t c.
+      let v = counts-kept s w in
+      let a = h .within in
+      store-row s table sets after x q (behaviourRoots s) q (behaviourCount s) m (h .size z) (omega arith)
+      (k .tells w t (omega arith) c (λ j a b. h .each z w t c j (omega arith) b)) (λ j n a b. h .each z w t c j (later j n a) b);
 }
   where
-    both-of : ℕ → ℕ → Bool
-    both-of r i = behaviourRoots s d (fieldA s (behaviourAt s r)) i || behaviourRoots s d (fieldB s (behaviourAt s r)) i
+    later : (j : ℕ) → (j ≡ q → ⊥) → q ≤ j → r ≤ j
+    later j n a = omega (arith, n)
 
-pub ruleset branch-laws = (no-branches, more-branches)
+pub behaviours-all : (s table known before sets : List ℕ) (n r : ℕ) → Behaviours s table known before sets n r → r ≤ 0 → BehaviourSets s table known before sets
+behaviours-all s table known before sets n r h l = record { tells = λ z w t c j a b. h .each z w t c j (omega arith) b }
 
--- ---- both sides
+-- ---- parallels
 
-pub shares-none : (a b : List ℕ) → Shares a b 0 false
-shares-none a b = record { found = λ e. absurd (let z : _≡_ {A = ℕ} 0 1 = cc in omega arith); none = λ e i h. absurd (omega arith) }
+-- The first r rows are no parallels.
+pub record Searched (s : List ℕ) (n r : ℕ) : Type 0 where
+  pub within : r ≤ n
+  pub none : (j a b : ℕ) → j < r → behaviourRowOf s j ≡ BehaviourRow.Parallel a b → ⊥
 
--- The mark i besides.
-pub shares-next : (a b : List ℕ) (i : ℕ) (x y z : Bool) → Shares a b i x → y ≡ (not (eqb (getD a i 0) 0) && not (eqb (getD b i 0) 0)) → z ≡ (x || y) → Shares a b (i + 1) z
-unfolding marked
-shares-next a b i x y z h e f = record { found = λ t. ⊎-elim old new (or-of x y (sym f ∙ t)); none = λ t k l u v. at k u v (neither t) (compare k i) l }
+pub searched-none : (s : List ℕ) (n : ℕ) → Searched s n 0
+searched-none s n = record { within = omega arith; none = λ j a b l. absurd (omega arith) }
+
+not-parallel : (k : BehaviourKind) (a b c d : ℕ) {x y : ℕ} → behaviourRowAs k a b c d ≡ BehaviourRow.Parallel x y → k ≡ BehaviourKind.Parallel
+unfolding behaviourRowAs
+not-parallel BehaviourKind.Nil a b c d e = let z : _≡_ {A = ℕ} 0 1 = cc in absurd (omega arith)
+not-parallel BehaviourKind.OneWay a b c d e = let z : _≡_ {A = ℕ} 0 1 = cc in absurd (omega arith)
+not-parallel BehaviourKind.RequestResponse a b c d e = let z : _≡_ {A = ℕ} 0 1 = cc in absurd (omega arith)
+not-parallel BehaviourKind.Notification a b c d e = let z : _≡_ {A = ℕ} 0 1 = cc in absurd (omega arith)
+not-parallel BehaviourKind.SolicitResponse a b c d e = let z : _≡_ {A = ℕ} 0 1 = cc in absurd (omega arith)
+not-parallel BehaviourKind.If a b c d e = let z : _≡_ {A = ℕ} 0 1 = cc in absurd (omega arith)
+not-parallel BehaviourKind.While a b c d e = let z : _≡_ {A = ℕ} 0 1 = cc in absurd (omega arith)
+not-parallel BehaviourKind.Sequence a b c d e = let z : _≡_ {A = ℕ} 0 1 = cc in absurd (omega arith)
+not-parallel BehaviourKind.Parallel a b c d e = refl
+not-parallel BehaviourKind.Assign a b c d e = let z : _≡_ {A = ℕ} 0 1 = cc in absurd (omega arith)
+not-parallel BehaviourKind.Choice a b c d e = let z : _≡_ {A = ℕ} 0 1 = cc in absurd (omega arith)
+not-parallel BehaviourKind.Branch a b c d e = let z : _≡_ {A = ℕ} 0 1 = cc in absurd (omega arith)
+not-parallel BehaviourKind.Unknown a b c d e = let z : _≡_ {A = ℕ} 0 1 = cc in absurd (omega arith)
+
+past-kinds : (n : ℕ) → 12 ≤ n → behaviourKind n ≡ BehaviourKind.Parallel → ⊥
+unfolding behaviourKind
+past-kinds n l e =
+    let f : BehaviourKind.Unknown ≡ BehaviourKind.Parallel = rw (ne-eqb n 0 (λ z. omega arith), ne-eqb n 1 (λ z. omega arith), ne-eqb n 2 (λ z. omega arith), ne-eqb n 3 (λ z. omega arith), ne-eqb n 4 (λ z. omega arith), ne-eqb n 5 (λ z. omega arith), ne-eqb n 6 (λ z. omega arith), ne-eqb n 7 (λ z. omega arith), ne-eqb n 8 (λ z. omega arith), ne-eqb n 9 (λ z. omega arith), ne-eqb n 10 (λ z. omega arith), ne-eqb n 11 (λ z. omega arith)) at e in
+    let z : _≡_ {A = ℕ} 0 1 = cc in omega arith
+
+parallel-byte : (n : ℕ) → behaviourKind n ≡ BehaviourKind.Parallel → n ≡ 8
+unfolding behaviourKind
+parallel-byte zero e = let z : _≡_ {A = ℕ} 0 1 = cc in absurd (omega arith)
+parallel-byte (suc zero) e = let z : _≡_ {A = ℕ} 0 1 = cc in absurd (omega arith)
+parallel-byte (suc (suc zero)) e = let z : _≡_ {A = ℕ} 0 1 = cc in absurd (omega arith)
+parallel-byte (suc (suc (suc zero))) e = let z : _≡_ {A = ℕ} 0 1 = cc in absurd (omega arith)
+parallel-byte (suc (suc (suc (suc zero)))) e = let z : _≡_ {A = ℕ} 0 1 = cc in absurd (omega arith)
+parallel-byte (suc (suc (suc (suc (suc zero))))) e = let z : _≡_ {A = ℕ} 0 1 = cc in absurd (omega arith)
+parallel-byte (suc (suc (suc (suc (suc (suc zero)))))) e = let z : _≡_ {A = ℕ} 0 1 = cc in absurd (omega arith)
+parallel-byte (suc (suc (suc (suc (suc (suc (suc zero))))))) e = let z : _≡_ {A = ℕ} 0 1 = cc in absurd (omega arith)
+parallel-byte (suc (suc (suc (suc (suc (suc (suc (suc zero)))))))) e = refl
+parallel-byte (suc (suc (suc (suc (suc (suc (suc (suc (suc zero))))))))) e = let z : _≡_ {A = ℕ} 0 1 = cc in absurd (omega arith)
+parallel-byte (suc (suc (suc (suc (suc (suc (suc (suc (suc (suc zero)))))))))) e = let z : _≡_ {A = ℕ} 0 1 = cc in absurd (omega arith)
+parallel-byte (suc (suc (suc (suc (suc (suc (suc (suc (suc (suc (suc zero))))))))))) e = let z : _≡_ {A = ℕ} 0 1 = cc in absurd (omega arith)
+parallel-byte (suc (suc (suc (suc (suc (suc (suc (suc (suc (suc (suc (suc n)))))))))))) e = absurd (past-kinds (suc (suc (suc (suc (suc (suc (suc (suc (suc (suc (suc (suc n)))))))))))) (omega arith) e)
+
+row-byte : (s : List ℕ) (j : ℕ) {a b : ℕ} → behaviourRowOf s j ≡ BehaviourRow.Parallel a b → byteAt s (behaviourAt s j) ≡ 8
+unfolding behaviourRowOf kindAt
+row-byte s j e = parallel-byte (byteAt s (behaviourAt s j)) (not-parallel (kindAt s j) _ _ _ _ e)
+
+pub searched-more : (s : List ℕ) (n r at v : ℕ) → Searched s n r → r < n → at ≡ behaviourAt s r → v ≡ byteAt s at → (v ≡ 8 → ⊥) → Searched s n (r + 1)
+searched-more s n r at v h l e f g = record { within = omega arith; none = λ j a b k p. by j a b k p (compare j r) }
   where
-    old : x ≡ true → (k : ℕ) × (k < i + 1) × (marked a k ≡ true) × (marked b k ≡ true)
-    old t = let w = h .found t in (w .0, (let q = w .1 in omega arith), w .2, w .3)
+    by : (j a b : ℕ) → j < r + 1 → behaviourRowOf s j ≡ BehaviourRow.Parallel a b → Compare j r → ⊥
+    by j a b k p (lt q) = h .none j a b q p
+    by j a b k p (gt q) = omega arith
+    by j a b k p (eq q) = g (f ∙ (ap (byteAt s) (e ∙ ap (behaviourAt s) (sym q)) ∙ row-byte s j p))
 
-    new : y ≡ true → (k : ℕ) × (k < i + 1) × (marked a k ≡ true) × (marked b k ≡ true)
-    new t = let w = and-of (not (eqb (getD a i 0) 0)) (not (eqb (getD b i 0) 0)) (sym e ∙ t) in (i, omega arith, w .0, w .1)
+pub searched-all : (s : List ℕ) (n r : ℕ) → Searched s n r → n ≤ r → n ≡ behaviourCount s → NoParallel s false
+searched-all s n r h l e = record { none = λ f j a b k. h .none j a b (omega arith) }
 
-    neither : z ≡ false → (x ≡ false) × (y ≡ false)
-    neither t = by x y refl refl (sym f ∙ t)
+pub found-one : (s : List ℕ) → NoParallel s true
+found-one s = record { none = λ f. absurd (clash refl f) }
+
+pub none-filled : (s sets : List ℕ) {x : Bool} → NoParallel s x → x ≡ false → Fills s sets sets
+none-filled s sets h e = record { tells = λ z. record { tells = λ w r a b x l p y. absurd (h .none e r a b l p) } }
+
+parallel-kept : (s : List ℕ) → WellFormed s → (r : ℕ) → r < behaviourCount s → {a b : ℕ} → behaviourRowOf s r ≡ BehaviourRow.Parallel a b
+    → LaterRow s r a × LaterRow s r b
+unfolding behaviourRowOf
+parallel-kept s w r l e = subst (SubsKept s r) (ap subsIn e) (subs-kept s w r (behaviourAt s r) (kindAt s r) (behaviour-kept s w r l))
+
+roots-to : (s : List ℕ) (j i : ℕ) → behaviourRoots s j i ≡ true → T (occurs i (behaviourOf s j))
+unfolding behaviourRoots
+roots-to s j i m = T-of m
+
+roots-from : (s : List ℕ) (j i : ℕ) → T (occurs i (behaviourOf s j)) → behaviourRoots s j i ≡ true
+unfolding behaviourRoots
+roots-from s j i m = of-T (occurs i (behaviourOf s j)) m
+
+pub filled : (s no-table table none known before sets : List ℕ) → length no-table ≡ 65536 → Represents s no-table table → length none ≡ 8192
+    → ExpressionSets s table none known → BehaviourSets s table known before sets → Fills s before sets
+filled s no-table table none known before sets z-table u z-known e h = record { tells = λ z. record { tells = tells z } }
+  where
+    t : Represented s table
+    t = u .tells z-table
+
+    tells : length before ≡ 8192 → WellFormed s → (r a b : ℕ) (x : Bool) → r < behaviourCount s → behaviourRowOf s r ≡ BehaviourRow.Parallel a b
+        → Apart sets a b x → x ≡ noSharedRoot (behaviourOf s a) (behaviourOf s b)
+    tells z w r a b x l p y = by x refl
       where
-        by : (p q : Bool) → x ≡ p → y ≡ q → p || q ≡ false → (x ≡ false) × (y ≡ false)
-        by true q m n o = absurd (let z : _≡_ {A = ℕ} 0 1 = cc in omega arith)
-        by false true m n o = absurd (let z : _≡_ {A = ℕ} 0 1 = cc in omega arith)
-        by false false m n o = (m, n)
+        k : LaterRow s r a × LaterRow s r b
+        k = parallel-kept s w r l p
 
-    at : (k : ℕ) → marked a k ≡ true → marked b k ≡ true → (x ≡ false) × (y ≡ false) → Compare k i → k < i + 1 → ⊥
-    at k u v w (lt j) l = h .none (w .0) k j u v
-    at k u v w (gt j) l = omega arith
-    at k u v w (eq j) l = clash (e ∙ both-true (subst (λ (q : ℕ). marked a q ≡ true) j u) (subst (λ (q : ℕ). marked b q ≡ true) j v)) (w .1)
+        c : behaviourCount s ≤ 256
+        c = counts-kept s w .behaviours
 
-pub shares-all : (a b : List ℕ) (i n : ℕ) (x : Bool) → Shares a b i x → i ≤ n → n ≤ i → Shares a b n x
-shares-all a b i n x h p q = let e : i ≡ n = omega arith in subst (λ (k : ℕ). Shares a b k x) e h
+        set-at : (j : ℕ) → j < behaviourCount s → SetOf s table sets (32 * j) (behaviourRoots s j)
+        set-at j m = h .tells z w t (e .tells z-known w t) j (omega arith) m
 
--- ---- the test
-
-zero-at : (n i : ℕ) → _≡_ {A = ℕ} (getD (replicate n 0) i 0) 0
-zero-at zero i = refl
-zero-at (suc n) zero = refl
-zero-at (suc n) (suc i) = zero-at n i
-
-clear : (n i : ℕ) → marked (replicate n 0) i ≡ false
-unfolding marked
-clear n i = rw (zero-at n i) refl
-
-roots-of : (s : List ℕ) (n r i : ℕ) → n ≡ behaviourCount s → behaviourRoots s n r i ≡ occurs i (behaviourOf s r)
-unfolding behaviourRoots behaviourOf
-roots-of s n r i e = ap (λ (d : ℕ). occurs i (behaviourTo s d r)) e
-
--- Both sides marked, each from no mark.
-module _ (s o p : List ℕ) (n a b c m : ℕ) (room : m ≡ suc c) (e : n ≡ behaviourCount s) (f : Adds (behaviourRoots s n a) (replicate m 0) o)
-    (g : Adds (behaviourRoots s n b) (replicate m 0) p) (x : Bool) (h : Shares o p c x) where
-  from : {o : List ℕ} (r : ℕ) → Adds (behaviourRoots s n r) (replicate m 0) o → Added c (behaviourRoots s n r) (replicate m 0) o
-  from r d = d .adds c (length-replicate m 0 ∙ room)
-
-  side : {o : List ℕ} (r : ℕ) → Adds (behaviourRoots s n r) (replicate m 0) o → (i : ℕ) → i < c → marked o i ≡ occurs i (behaviourOf s r)
-  side {o} r d i k =
-      from r d .near i k ∙ (ap (λ (z : Bool). z || behaviourRoots s n r i) (clear m i) ∙ roots-of s n r i e)
-
-  beyond : {o : List ℕ} (r : ℕ) → Adds (behaviourRoots s n r) (replicate m 0) o → (i : ℕ) → c ≤ i → T (occurs i (behaviourOf s r)) → marked o c ≡ true
-  beyond {o} r d i k t = from r d .far i k (roots-of s n r i e ∙ of-T (occurs i (behaviourOf s r)) t)
-
-  pub found-shared : x ≡ true → false ≡ noSharedRoot (behaviourOf s a) (behaviourOf s b)
-  found-shared k =
-      let w = h .found k in
-      sym (not-T-false (noSharedRoot (behaviourOf s a) (behaviourOf s b)) (λ t.
-      no-shared-sound (behaviourOf s a) (behaviourOf s b) t (w .0) (T-of (sym (side a f (w .0) (w .1)) ∙ w .2)) (T-of (sym (side b g (w .0) (w .1)) ∙ w .3))))
-
-  none-shared : x ≡ false → ((i : ℕ) → c ≤ i → T (occurs i (behaviourOf s a)) → T (occurs i (behaviourOf s b)) → ⊥) → true ≡ noSharedRoot (behaviourOf s a) (behaviourOf s b)
-  none-shared k far = sym (of-T (noSharedRoot (behaviourOf s a) (behaviourOf s b)) (no-shared-complete (behaviourOf s a) (behaviourOf s b) (λ i u v. by i u v (compare i c))))
-    where
-      by : (i : ℕ) → T (occurs i (behaviourOf s a)) → T (occurs i (behaviourOf s b)) → Compare i c → ⊥
-      by i u v (lt j) = h .none k i j (side a f i j ∙ of-T (occurs i (behaviourOf s a)) u) (side b g i j ∙ of-T (occurs i (behaviourOf s b)) v)
-      by i u v (eq j) = far i (omega arith) u v
-      by i u v (gt j) = far i (omega arith) u v
-
-  unmarked : (l : List ℕ) → getD l c 0 ≡ 0 → marked l c ≡ true → ⊥
-  unfolding marked
-  unmarked l z t = clash t (rw (eq-eqb (getD l c 0) 0 z) refl)
-
-  pub left-near : x ≡ false → getD o c 0 ≡ 0 → true ≡ noSharedRoot (behaviourOf s a) (behaviourOf s b)
-  left-near k z = none-shared k (λ i j u v. unmarked o z (beyond a f i j u))
-
-  pub right-near : x ≡ false → getD p c 0 ≡ 0 → true ≡ noSharedRoot (behaviourOf s a) (behaviourOf s b)
-  right-near k z = none-shared k (λ i j u v. unmarked p z (beyond b g i j v))
-
-  pub all-marked : 65536 ≤ c → not x ≡ noSharedRoot (behaviourOf s a) (behaviourOf s b)
-  all-marked q = by x refl
-    where
-      by : (y : Bool) → x ≡ y → not y ≡ noSharedRoot (behaviourOf s a) (behaviourOf s b)
-      by true k = found-shared k
-      by false k = none-shared k (λ i j u v. clash (from a f .full q (beyond a f i j u)) (clear m c))
+        by : (c : Bool) → x ≡ c → c ≡ noSharedRoot (behaviourOf s a) (behaviourOf s b)
+        by false m =
+            let v = y .common (let q = k .0 .1 in let u = c in omega arith) (let q = k .1 .1 in let u = c in omega arith) m in
+            sym (not-T-false (noSharedRoot (behaviourOf s a) (behaviourOf s b)) (λ u.
+            no-shared-sound (behaviourOf s a) (behaviourOf s b) u (rootAt s (v .0)) (roots-to s a (rootAt s (v .0)) (set-at a (k .0 .1) .only (v .0) (v .1) (v .2)))
+            (roots-to s b (rootAt s (v .0)) (set-at b (k .1 .1) .only (v .0) (v .1) (v .3)))))
+        by true m =
+            sym (of-T (noSharedRoot (behaviourOf s a) (behaviourOf s b)) (no-shared-complete (behaviourOf s a) (behaviourOf s b) (λ i u v.
+            y .none (let q = k .0 .1 in let u = c in omega arith) (let q = k .1 .1 in let u = c in omega arith) m (rowFor table i) (rowFor-below i)
+            (set-at a (k .0 .1) .has i (roots-from s a i u)) (set-at b (k .1 .1) .has i (roots-from s b i v)))))
+          where
+            rowFor-below : (i : ℕ) → rowFor table i < 256
+            rowFor-below i = omega arith

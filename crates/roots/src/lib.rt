@@ -1,12 +1,10 @@
-// Root ids that occur in expressions and behaviours, and refusal 11: "Parallel sides share a root". One walk over each side marks the
-// root ids that occur there. Every function is exact on any bytes.
+// Root ids that occur in expressions and behaviours, and refusal 11: "Parallel sides share a root". One table for the file has a set of
+// root ids for each B row, 32 bytes with a bit for each P row: one P row stands for all that have its root id. Rows are filled after those
+// that they name, so no row is walked twice.
 ghost use mathlib.Core.Path.{_≡_};
-ghost use Prim.Native.Nat.{ℕ, _+_, _*_, _<_, _≤_};
-ghost use lib.ListN.{length};
-ghost use Rattle.network.specs.Decode.{behaviourOf};
-ghost use Rattle.typing.specs.Occurs.{noSharedRoot};
+ghost use Prim.Native.Nat.{_+_, _*_, _^_, _<_};
 ghost use Rattle.roots.specs.Parts.{operandsIn, operandsOf, ownIn, ownOf, subsIn, subsOf};
-ghost use Rattle.roots.specs.Marks.{Adds, pathRoot, expressionRoots, ownRoots, behaviourRoots, AddsBranches, Shares};
+ghost use Rattle.roots.specs.Sets.{Represents, WithPath, Joined, Stored, ExpressionSet, ExpressionSets, OwnSet, WithBranches, WithSubs, BehaviourSet, BehaviourSets, NoParallel, Apart, Fills};
 use rows::BehaviourRow;
 use rows::ExpressionRow;
 
@@ -111,161 +109,207 @@ pub fn subs_of(s: &[u8], r: u16) -> Subs
     subs_in(rows::behaviour_row(s, r))
 }
 
-// Marks the root id of the path p: each id below the number of the last mark has a mark, all others share the last.
-fn mark_path(s: &[u8], marks: &mut [u8], p: u16)
-    ensures { λ _. ⌜ Adds (pathRoot (now (s .entry)) p) (now (marks .entry)) (now (marks .exit)) ⌝ }
+// For each root id of a P row one P row that has it.
+fn represent(s: &[u8], table: &mut [u8; 65536])
+    ensures { λ _. ⌜ Represents (now (s .entry)) (now (table .entry)) (now (table .exit)) ⌝ }
 {
-    if marks.len() == 0 {
-        return;
+    let mut p = layout::smaller(wire::index(layout::path_count(s)), 256);
+    let from = layout::path_at(s, 0);
+    while 0 < p {
+        p -= 1;
+        let id = wire::index(wire::u16_at(s, from + 8 * p));
+        table[id] = (p % 256) as u8;
     }
-    let i = wire::index(wire::u16_at(s, layout::path_at(s, p)));
-    let j = layout::smaller(i, marks.len() - 1);
-    marks[j] = 1;
 }
 
-// Marks the root ids of E row r, to so many levels.
-fn mark_expression(s: &[u8], marks: &mut [u8], r: u16, levels: u8)
-    ensures { λ _. ⌜ Adds (expressionRoots (now (s .entry)) levels r) (now (marks .entry)) (now (marks .exit)) ⌝ }
+// The bit k of a byte.
+fn power(k: usize) -> u8
+    requires { ⌜ k < 8 ⌝ }
+    ensures { λ x. ⌜ x ≡ 2 ^ k ⌝ }
 {
-    if levels == 0 {
+    1u8 << k
+}
+
+// The set and the root id of the path p.
+fn with_path(s: &[u8], table: &[u8; 65536], set: [u8; 32], p: u16) -> [u8; 32]
+    ensures { λ x. ⌜ WithPath (now (s .entry)) (now (table .entry)) set p x ⌝ }
+{
+    let id = wire::index(wire::u16_at(s, layout::path_at(s, p)));
+    let k = wire::wide(table[id]);
+    let at = k / 8;
+    let mut more = set;
+    more[at] = more[at] | power(k % 8);
+    more
+}
+
+// The set and that of row r.
+fn join(set: [u8; 32], sets: &[u8; 8192], r: u16) -> [u8; 32]
+    ensures { λ x. ⌜ Joined set (now (sets .entry)) r x ⌝ }
+{
+    if 255 < r {
+        return set;
+    }
+    let from = 32 * wire::index(r);
+    let mut more = set;
+    let mut k: usize = 0;
+    while k < 32 {
+        more[k] = more[k] | sets[from + k];
+        k += 1;
+    }
+    more
+}
+
+// The set becomes that of row r.
+fn store(sets: &mut [u8; 8192], r: u16, set: [u8; 32])
+    ensures { λ _. ⌜ Stored (now (sets .entry)) r set (now (sets .exit)) ⌝ }
+{
+    if 255 < r {
         return;
     }
+    let from = 32 * wire::index(r);
+    let mut k: usize = 0;
+    while k < 32 {
+        sets[from + k] = set[k];
+        k += 1;
+    }
+}
+
+// The set of E row r, from those of the rows before it.
+fn expression_set(s: &[u8], table: &[u8; 65536], known: &[u8; 8192], r: u16) -> [u8; 32]
+    ensures { λ x. ⌜ ExpressionSet (now (s .entry)) (now (table .entry)) (now (known .entry)) r x ⌝ }
+{
+    let none = [0u8; 32];
     match operands_of(s, r) {
-        Operands::Nothing => {
-            return;
-        }
-        Operands::Path(p) => {
-            mark_path(s, marks, p);
-            return;
-        }
-        Operands::One(a) => {
-            mark_expression(s, marks, a, levels - 1);
-            return;
-        }
-        Operands::Two(a, b) => {
-            mark_expression(s, marks, a, levels - 1);
-            mark_expression(s, marks, b, levels - 1);
-            return;
-        }
+        Operands::Nothing => none,
+        Operands::Path(p) => with_path(s, table, none, p),
+        Operands::One(a) => join(none, known, a),
+        Operands::Two(a, b) => join(join(none, known, a), known, b),
     }
 }
 
-// Marks the root ids that a B row names itself.
-fn mark_own(s: &[u8], marks: &mut [u8], own: Own)
-    ensures { λ _. ⌜ Adds (ownRoots (now (s .entry)) own) (now (marks .entry)) (now (marks .exit)) ⌝ }
+fn expression_sets(s: &[u8], table: &[u8; 65536], known: &mut [u8; 8192])
+    ensures { λ _. ⌜ ExpressionSets (now (s .entry)) (now (table .entry)) (now (known .entry)) (now (known .exit)) ⌝ }
 {
+    let n = layout::expression_count(s);
+    let mut r: u16 = 0;
+    while r < n {
+        let set = expression_set(s, table, known, r);
+        store(known, r, set);
+        r += 1;
+    }
+}
+
+// The set of the root ids that a B row names itself.
+fn own_set(s: &[u8], table: &[u8; 65536], known: &[u8; 8192], own: Own) -> [u8; 32]
+    ensures { λ x. ⌜ OwnSet (now (s .entry)) (now (table .entry)) (now (known .entry)) own x ⌝ }
+{
+    let none = [0u8; 32];
     match own {
-        Own::Nothing => {
-            return;
-        }
-        Own::Path(p) => {
-            mark_path(s, marks, p);
-            return;
-        }
-        Own::Paths(p, q) => {
-            mark_path(s, marks, p);
-            mark_path(s, marks, q);
-            return;
-        }
-        Own::Expression(e) => {
-            mark_expression(s, marks, e, 8);
-            return;
-        }
-        Own::Both(e, p) => {
-            mark_expression(s, marks, e, 8);
-            mark_path(s, marks, p);
-            return;
-        }
+        Own::Nothing => none,
+        Own::Path(p) => with_path(s, table, none, p),
+        Own::Paths(p, q) => with_path(s, table, with_path(s, table, none, p), q),
+        Own::Expression(e) => join(none, known, e),
+        Own::Both(e, p) => with_path(s, table, join(none, known, e), p),
     }
 }
 
-// Marks the root ids of the behaviour of B row r; so many rows are left for its sub-behaviours.
-fn mark_row(s: &[u8], marks: &mut [u8], r: u16, left: u16)
-    ensures { λ _. ⌜ Adds (behaviourRoots (now (s .entry)) left r) (now (marks .entry)) (now (marks .exit)) ⌝ }
-{
-    if left == 0 {
-        return;
-    }
-    let row = rows::behaviour_row(s, r);
-    mark_own(s, marks, own_in(row));
-    match subs_in(row) {
-        Subs::Nothing => {
-            return;
-        }
-        Subs::One(a) => {
-            mark_row(s, marks, a, left - 1);
-            return;
-        }
-        Subs::Two(a, b) => {
-            mark_row(s, marks, a, left - 1);
-            mark_row(s, marks, b, left - 1);
-            return;
-        }
-        Subs::Run(first, n) => {
-            mark_branches(s, marks, layout::behaviour_at(s, first), n, left - 1);
-            return;
-        }
-    }
-}
-
-// Marks the root ids of the n branches whose rows stand from `at` on.
-fn mark_branches(s: &[u8], marks: &mut [u8], at: usize, n: u16, left: u16)
+// The set and those of the n branches whose rows stand from `at` on.
+fn with_branches(s: &[u8], sets: &[u8; 8192], set: [u8; 32], at: usize, n: u16) -> [u8; 32]
     requires { ⌜ at + 10 * n < 2000000 ⌝ }
-    ensures { λ _. ⌜ AddsBranches (now (s .entry)) at n left (now (marks .entry)) (now (marks .exit)) ⌝ }
+    ensures { λ x. ⌜ WithBranches (now (s .entry)) (now (sets .entry)) set at n x ⌝ }
 {
     if n == 0 {
+        return set;
+    }
+    let input = join(set, sets, wire::u16_at(s, at + 2));
+    let both = join(input, sets, wire::u16_at(s, at + 4));
+    with_branches(s, sets, both, at + 10, n - 1)
+}
+
+// The set and those of a row's sub-behaviours, which are later rows.
+fn with_subs(s: &[u8], sets: &[u8; 8192], set: [u8; 32], subs: Subs) -> [u8; 32]
+    ensures { λ x. ⌜ WithSubs (now (s .entry)) (now (sets .entry)) set subs x ⌝ }
+{
+    match subs {
+        Subs::Nothing => set,
+        Subs::One(a) => join(set, sets, a),
+        Subs::Two(a, b) => join(join(set, sets, a), sets, b),
+        Subs::Run(first, n) => with_branches(s, sets, set, layout::behaviour_at(s, first), n),
+    }
+}
+
+// The set of B row r, from those of the E rows and of the later B rows.
+fn behaviour_set(
+    s: &[u8],
+    table: &[u8; 65536],
+    known: &[u8; 8192],
+    sets: &[u8; 8192],
+    r: u16,
+) -> [u8; 32]
+    ensures { λ x. ⌜ BehaviourSet (now (s .entry)) (now (table .entry)) (now (known .entry)) (now (sets .entry)) r x ⌝ }
+{
+    let row = rows::behaviour_row(s, r);
+    let own = own_set(s, table, known, own_in(row));
+    with_subs(s, sets, own, subs_in(row))
+}
+
+fn behaviour_sets(s: &[u8], table: &[u8; 65536], known: &[u8; 8192], sets: &mut [u8; 8192])
+    ensures { λ _. ⌜ BehaviourSets (now (s .entry)) (now (table .entry)) (now (known .entry)) (now (sets .entry)) (now (sets .exit)) ⌝ }
+{
+    let mut r = layout::behaviour_count(s);
+    while 0 < r {
+        r -= 1;
+        let set = behaviour_set(s, table, known, sets, r);
+        store(sets, r, set);
+    }
+}
+
+// Is a B row a parallel?
+fn any_parallel(s: &[u8]) -> bool
+    ensures { λ x. ⌜ NoParallel (now (s .entry)) x ⌝ }
+{
+    let n = layout::behaviour_count(s);
+    let mut r: u16 = 0;
+    while r < n {
+        if wire::byte_at(s, layout::behaviour_at(s, r)) == 8 {
+            return true;
+        }
+        r += 1;
+    }
+    false
+}
+
+// The sets of the B rows, by which the sides of each parallel are told apart; they are not asked for where there is none.
+pub fn fill(s: &[u8], sets: &mut [u8; 8192])
+    ensures { λ _. ⌜ Fills (now (s .entry)) (now (sets .entry)) (now (sets .exit)) ⌝ }
+{
+    if !any_parallel(s) {
         return;
     }
-    mark_row(s, marks, wire::u16_at(s, at + 2), left);
-    mark_row(s, marks, wire::u16_at(s, at + 4), left);
-    mark_branches(s, marks, at + 10, n - 1, left);
+    let mut table = [0u8; 65536];
+    represent(s, &mut table);
+    let mut known = [0u8; 8192];
+    expression_sets(s, &table, &mut known);
+    behaviour_sets(s, &table, &known, sets);
 }
 
-// Is one of the first n marks set on both sides? No way out of the loop, so that many marks are compared at once.
-fn shares(a: &[u8], b: &[u8], n: usize) -> bool
-    requires { ⌜ (n ≤ length (now a)) × (n ≤ length (now b)) ⌝ }
-    ensures { λ x. ⌜ Shares (now (a .entry)) (now (b .entry)) n x ⌝ }
+// Have the sets of the rows a and b no P row in common? No way out of the loop, so that many bytes are compared at once.
+pub fn apart(sets: &[u8; 8192], a: u16, b: u16) -> bool
+    ensures { λ x. ⌜ Apart (now (sets .entry)) a b x ⌝ }
 {
-    let mut found = false;
-    let mut i: usize = 0;
-    while i < n {
-        let two = layout::both(a[i] != 0, b[i] != 0);
-        found = layout::either(found, two);
-        i += 1;
-    }
-    found
-}
-
-// The same for all ids, with a mark for each.
-fn no_shared_far(file: &[u8], a: u16, b: u16) -> bool
-    ensures { λ x. ⌜ x ≡ noSharedRoot (behaviourOf (now (file .entry)) a) (behaviourOf (now (file .entry)) b) ⌝ }
-{
-    let rows = layout::behaviour_count(file);
-    let mut left = [0u8; 65537];
-    mark_row(file, &mut left, a, rows);
-    let mut right = [0u8; 65537];
-    mark_row(file, &mut right, b, rows);
-    !shares(&left, &right, 65536)
-}
-
-// "no root id (a path's first id) occurs on both sides": of the behaviours of the rows a and b. Ids below 1024 have a mark each; only
-// where others occur on both sides is it done with a mark for each id.
-pub fn no_shared_root(file: &[u8], a: u16, b: u16) -> bool
-    ensures { λ x. ⌜ x ≡ noSharedRoot (behaviourOf (now (file .entry)) a) (behaviourOf (now (file .entry)) b) ⌝ }
-{
-    let rows = layout::behaviour_count(file);
-    let mut left = [0u8; 1025];
-    mark_row(file, &mut left, a, rows);
-    let mut right = [0u8; 1025];
-    mark_row(file, &mut right, b, rows);
-    if shares(&left, &right, 1024) {
-        return false;
-    }
-    if left[1024] == 0 {
+    if 255 < a {
         return true;
     }
-    if right[1024] == 0 {
+    if 255 < b {
         return true;
     }
-    no_shared_far(file, a, b)
+    let p = 32 * wire::index(a);
+    let q = 32 * wire::index(b);
+    let mut common: usize = 0;
+    let mut k: usize = 0;
+    while k < 32 {
+        common = common | wire::wide(sets[p + k] & sets[q + k]);
+        k += 1;
+    }
+    common == 0
 }

@@ -2,6 +2,7 @@
 // environment is their union." Each branch is checked once, and its environment united with those before it. Only where a root has two types
 // or the union passes the limit are the branches checked again and compared two by two, for 10 comes before 12.
 ghost use Prim.Native.Nat.{ℕ, _+_, _*_, _<_};
+ghost use Rattle.roots.specs.Sets.{Separates};
 ghost use Rattle.starters.specs.Starters.{Gives, Each, Against, OneEach, UnitesAll, Joins, Gathers, Starts, Clients};
 use environments::Environment;
 use environments::Step;
@@ -15,12 +16,13 @@ pub struct Gathered {
 }
 
 // The branch whose row stands at `at`, from the empty environment.
-fn branch(file: &[u8], q: u16, at: usize, left: u16) -> Step
-    requires { ⌜ at < 2000000 ⌝ }
+fn branch(file: &[u8], sets: &[u8; 8192], q: u16, at: usize, left: u16) -> Step
+    requires { ⌜ (at < 2000000) × Separates (now file) (now sets) ⌝ }
     ensures { λ s. ⌜ Gives (now (file .entry)) q at left s ⌝ }
 {
     behaviours::sequence(
         file,
+        sets,
         q,
         wire::u16_at(file, at + 2),
         wire::u16_at(file, at + 4),
@@ -30,62 +32,79 @@ fn branch(file: &[u8], q: u16, at: usize, left: u16) -> Step
 }
 
 // The n branches whose rows stand from `at` on, one after the other: the first refusal.
-fn each(file: &[u8], q: u16, at: usize, n: u16, left: u16) -> Verdict
-    requires { ⌜ at + 10 * n < 2000000 ⌝ }
+fn each(file: &[u8], sets: &[u8; 8192], q: u16, at: usize, n: u16, left: u16) -> Verdict
+    requires { ⌜ (at + 10 * n < 2000000) × Separates (now file) (now sets) ⌝ }
     ensures { λ v. ⌜ Each (now (file .entry)) q at n left v ⌝ }
 {
     if n == 0 {
         return Verdict::Done;
     }
-    let one = branch(file, q, at, left);
+    let one = branch(file, sets, q, at, left);
     let v = one.verdict;
     let Verdict::Done = v else {
         return v;
     };
-    each(file, q, at + 10, n - 1, left)
+    each(file, sets, q, at + 10, n - 1, left)
 }
 
 // Has each root of d one type in all of the n branches?
-fn against(file: &[u8], q: u16, d: Environment, at: usize, n: u16, left: u16) -> bool
-    requires { ⌜ at + 10 * n < 2000000 ⌝ }
+fn against(
+    file: &[u8],
+    sets: &[u8; 8192],
+    q: u16,
+    d: Environment,
+    at: usize,
+    n: u16,
+    left: u16,
+) -> bool
+    requires { ⌜ (at + 10 * n < 2000000) × Separates (now file) (now sets) ⌝ }
     ensures { λ x. ⌜ Against (now (file .entry)) q d at n left x ⌝ }
 {
     if n == 0 {
         return true;
     }
-    let one = branch(file, q, at, left);
+    let one = branch(file, sets, q, at, left);
     let e = one.environment;
     if !environments::one_type(d, e) {
         return false;
     }
-    against(file, q, d, at + 10, n - 1, left)
+    against(file, sets, q, d, at + 10, n - 1, left)
 }
 
 // Has each root one type in the n branches?
-fn one_each(file: &[u8], q: u16, at: usize, n: u16, left: u16) -> bool
-    requires { ⌜ at + 10 * n < 2000000 ⌝ }
+fn one_each(file: &[u8], sets: &[u8; 8192], q: u16, at: usize, n: u16, left: u16) -> bool
+    requires { ⌜ (at + 10 * n < 2000000) × Separates (now file) (now sets) ⌝ }
     ensures { λ x. ⌜ OneEach (now (file .entry)) q at n left x ⌝ }
 {
     if n == 0 {
         return true;
     }
-    let one = branch(file, q, at, left);
+    let one = branch(file, sets, q, at, left);
     let d = one.environment;
-    if !against(file, q, d, at + 10, n - 1, left) {
+    if !against(file, sets, q, d, at + 10, n - 1, left) {
         return false;
     }
-    one_each(file, q, at + 10, n - 1, left)
+    one_each(file, sets, q, at + 10, n - 1, left)
 }
 
 // The union of u and the environments of the n branches, or 12 at the row.
-fn unite_all(file: &[u8], q: u16, row: u16, at: usize, n: u16, left: u16, u: Environment) -> Step
-    requires { ⌜ at + 10 * n < 2000000 ⌝ }
+fn unite_all(
+    file: &[u8],
+    sets: &[u8; 8192],
+    q: u16,
+    row: u16,
+    at: usize,
+    n: u16,
+    left: u16,
+    u: Environment,
+) -> Step
+    requires { ⌜ (at + 10 * n < 2000000) × Separates (now file) (now sets) ⌝ }
     ensures { λ s. ⌜ UnitesAll (now (file .entry)) q row at n left u s ⌝ }
 {
     if n == 0 {
         return environments::pass(u);
     }
-    let one = branch(file, q, at, left);
+    let one = branch(file, sets, q, at, left);
     let d = one.environment;
     let both = environments::unite(d, u, row);
     let v = both.verdict;
@@ -93,23 +112,32 @@ fn unite_all(file: &[u8], q: u16, row: u16, at: usize, n: u16, left: u16, u: Env
         return both;
     };
     let more = both.environment;
-    unite_all(file, q, row, at + 10, n - 1, left, more)
+    unite_all(file, sets, q, row, at + 10, n - 1, left, more)
 }
 
 // The n branches pass: 10 and then 12 at the starter's row.
-fn join(file: &[u8], q: u16, row: u16, at: usize, n: u16, left: u16) -> Step
-    requires { ⌜ at + 10 * n < 2000000 ⌝ }
+fn join(file: &[u8], sets: &[u8; 8192], q: u16, row: u16, at: usize, n: u16, left: u16) -> Step
+    requires { ⌜ (at + 10 * n < 2000000) × Separates (now file) (now sets) ⌝ }
     ensures { λ s. ⌜ Joins (now (file .entry)) q row at n left s ⌝ }
 {
-    if !one_each(file, q, at, n, left) {
+    if !one_each(file, sets, q, at, n, left) {
         return environments::refuse(Refusal::EnvironmentsDiffer(row));
     }
-    unite_all(file, q, row, at, n, left, environments::empty())
+    unite_all(file, sets, q, row, at, n, left, environments::empty())
 }
 
 // The n branches whose rows stand from `at` on, after those whose union is u: not sure where a root has two types or the union is too large.
-fn gather(file: &[u8], q: u16, row: u16, at: usize, n: u16, left: u16, u: Environment) -> Gathered
-    requires { ⌜ at + 10 * n < 2000000 ⌝ }
+fn gather(
+    file: &[u8],
+    sets: &[u8; 8192],
+    q: u16,
+    row: u16,
+    at: usize,
+    n: u16,
+    left: u16,
+    u: Environment,
+) -> Gathered
+    requires { ⌜ (at + 10 * n < 2000000) × Separates (now file) (now sets) ⌝ }
     ensures { λ x. ⌜ Gathers (now (file .entry)) q row at n left u x ⌝ }
 {
     if n == 0 {
@@ -118,7 +146,7 @@ fn gather(file: &[u8], q: u16, row: u16, at: usize, n: u16, left: u16, u: Enviro
             step: environments::pass(u),
         };
     }
-    let one = branch(file, q, at, left);
+    let one = branch(file, sets, q, at, left);
     let v = one.verdict;
     let Verdict::Done = v else {
         return Gathered {
@@ -142,11 +170,12 @@ fn gather(file: &[u8], q: u16, row: u16, at: usize, n: u16, left: u16, u: Enviro
         };
     };
     let more = both.environment;
-    gather(file, q, row, at + 10, n - 1, left, more)
+    gather(file, sets, q, row, at + 10, n - 1, left, more)
 }
 
 // The starter of the service row q, whose row r is a choice.
-pub fn check_starter(file: &[u8], q: u16, r: u16) -> Step
+pub fn check_starter(file: &[u8], sets: &[u8; 8192], q: u16, r: u16) -> Step
+    requires { ⌜ Separates (now file) (now sets) ⌝ }
     ensures { λ s. ⌜ Starts (now (file .entry)) q r s ⌝ }
 {
     let left = layout::behaviour_count(file);
@@ -154,23 +183,25 @@ pub fn check_starter(file: &[u8], q: u16, r: u16) -> Step
     let first = wire::u16_at(file, row + 2);
     let n = wire::u16_at(file, row + 4);
     let at = layout::behaviour_at(file, first);
-    let all = gather(file, q, r, at, n, left, environments::empty());
+    let all = gather(file, sets, q, r, at, n, left, environments::empty());
     if all.sure {
         let s = all.step;
         return s;
     }
-    match each(file, q, at, n, left) {
+    match each(file, sets, q, at, n, left) {
         Verdict::Refused(why) => environments::refuse(why),
-        Verdict::Done => join(file, q, r, at, n, left),
+        Verdict::Done => join(file, sets, q, r, at, n, left),
     }
 }
 
 // The client of the service row q.
-pub fn check_client(file: &[u8], q: u16, r: u16) -> Step
+pub fn check_client(file: &[u8], sets: &[u8; 8192], q: u16, r: u16) -> Step
+    requires { ⌜ Separates (now file) (now sets) ⌝ }
     ensures { λ s. ⌜ Clients (now (file .entry)) q r s ⌝ }
 {
     behaviours::check_row(
         file,
+        sets,
         q,
         r,
         layout::behaviour_count(file),

@@ -43,7 +43,7 @@ use Rattle.environments.proofs.refuse.Reads as refuse-reads
 use Rattle.environments.proofs.same.Reads as same-reads
 use Rattle.layout.proofs.behaviour_at.Reads as behaviour-at-reads
 use Rattle.layout.proofs.both.Reads as both-reads
-use Rattle.roots.proofs.no_shared_root.Reads as no-shared-root-reads
+use Rattle.roots.proofs.apart.Reads as apart-reads
 use Rattle.rows.proofs.behaviour_row.Reads as behaviour-row-reads
 use Rattle.rows.proofs.reply_type.Reads as reply-type-reads
 use Rattle.wire.proofs.u16_at.Reads as u16-at-reads
@@ -54,98 +54,98 @@ use Rattle.behaviours.proofs.+branches+check_row+choice+if_then_else+pa
   close,
 }
 
-abbrev μ-branches : Measures 1 branches-kinds.ps ℕ
-μ-branches κs a = 70000 * a .1 .1 .1 .1 .1 .0 + a .1 .1 .1 .1 .0 + 2
+abbrev μ-branches : Measures 2 branches-kinds.ps ℕ
+μ-branches κs a = 70000 * a .1 .1 .1 .1 .1 .1 .0 + a .1 .1 .1 .1 .1 .0 + 2
 
-abbrev μ-check-row : Measures 1 check-row-kinds.ps ℕ
-μ-check-row κs a = 70000 * a .1 .1 .1 .0
+abbrev μ-check-row : Measures 2 check-row-kinds.ps ℕ
+μ-check-row κs a = 70000 * a .1 .1 .1 .1 .0
 
-abbrev μ-choice : Measures 1 choice-kinds.ps ℕ
-μ-choice κs a = 70000 * a .1 .1 .1 .1 .1 .0 + 65540
+abbrev μ-choice : Measures 2 choice-kinds.ps ℕ
+μ-choice κs a = 70000 * a .1 .1 .1 .1 .1 .1 .0 + 65540
 
-abbrev μ-if-then-else : Measures 1 if-then-else-kinds.ps ℕ
-μ-if-then-else κs a = 70000 * a .1 .1 .1 .1 .1 .1 .0 + 1
+abbrev μ-if-then-else : Measures 2 if-then-else-kinds.ps ℕ
+μ-if-then-else κs a = 70000 * a .1 .1 .1 .1 .1 .1 .1 .0 + 1
 
-abbrev μ-parallel : Measures 1 parallel-kinds.ps ℕ
-μ-parallel κs a = 70000 * a .1 .1 .1 .1 .1 .0 + 2
+abbrev μ-parallel : Measures 2 parallel-kinds.ps ℕ
+μ-parallel κs a = 70000 * a .1 .1 .1 .1 .1 .1 .0 + 2
 
-abbrev μ-request-response : Measures 1 request-response-kinds.ps ℕ
-μ-request-response κs a = 70000 * a .1 .1 .1 .1 .1 .1 .1 .0 + 1
+abbrev μ-request-response : Measures 2 request-response-kinds.ps ℕ
+μ-request-response κs a = 70000 * a .1 .1 .1 .1 .1 .1 .1 .1 .0 + 1
 
-abbrev μ-sequence : Measures 1 sequence-kinds.ps ℕ
-μ-sequence κs a = 70000 * a .1 .1 .1 .1 .0 + 1
+abbrev μ-sequence : Measures 2 sequence-kinds.ps ℕ
+μ-sequence κs a = 70000 * a .1 .1 .1 .1 .1 .0 + 1
 
-abbrev μ-while-do : Measures 1 while-do-kinds.ps ℕ
-μ-while-do κs a = 70000 * a .1 .1 .1 .1 .1 .0 + 1
+abbrev μ-while-do : Measures 2 while-do-kinds.ps ℕ
+μ-while-do κs a = 70000 * a .1 .1 .1 .1 .1 .1 .0 + 1
 
-abbrev branches-at : ℕ → In 1 branches-kinds.ps
-branches-at t = and 1 branches-kinds.ps (is 1 branches-kinds.ps μ-branches t) branches.Pre
+abbrev branches-at : ℕ → In 2 branches-kinds.ps
+branches-at t = and 2 branches-kinds.ps (is 2 branches-kinds.ps μ-branches t) branches.Pre
 
-abbrev branches-below : ℕ → In 1 branches-kinds.ps
+abbrev branches-below : ℕ → In 2 branches-kinds.ps
 branches-below t =
-    and 1 branches-kinds.ps (falls 1 branches-kinds.ps _<_ μ-branches t) branches.Pre
+    and 2 branches-kinds.ps (falls 2 branches-kinds.ps _<_ μ-branches t) branches.Pre
 
-abbrev check-row-at : ℕ → In 1 check-row-kinds.ps
-check-row-at t = and 1 check-row-kinds.ps (is 1 check-row-kinds.ps μ-check-row t) check-row.Pre
+abbrev check-row-at : ℕ → In 2 check-row-kinds.ps
+check-row-at t = and 2 check-row-kinds.ps (is 2 check-row-kinds.ps μ-check-row t) check-row.Pre
 
-abbrev check-row-below : ℕ → In 1 check-row-kinds.ps
+abbrev check-row-below : ℕ → In 2 check-row-kinds.ps
 check-row-below t =
-    and 1 check-row-kinds.ps (falls 1 check-row-kinds.ps _<_ μ-check-row t) check-row.Pre
+    and 2 check-row-kinds.ps (falls 2 check-row-kinds.ps _<_ μ-check-row t) check-row.Pre
 
-abbrev choice-at : ℕ → In 1 choice-kinds.ps
-choice-at t = and 1 choice-kinds.ps (is 1 choice-kinds.ps μ-choice t) choice.Pre
+abbrev choice-at : ℕ → In 2 choice-kinds.ps
+choice-at t = and 2 choice-kinds.ps (is 2 choice-kinds.ps μ-choice t) choice.Pre
 
-abbrev choice-below : ℕ → In 1 choice-kinds.ps
-choice-below t = and 1 choice-kinds.ps (falls 1 choice-kinds.ps _<_ μ-choice t) choice.Pre
+abbrev choice-below : ℕ → In 2 choice-kinds.ps
+choice-below t = and 2 choice-kinds.ps (falls 2 choice-kinds.ps _<_ μ-choice t) choice.Pre
 
-abbrev if-then-else-at : ℕ → In 1 if-then-else-kinds.ps
+abbrev if-then-else-at : ℕ → In 2 if-then-else-kinds.ps
 if-then-else-at t =
-    and 1 if-then-else-kinds.ps (is 1 if-then-else-kinds.ps μ-if-then-else t) if-then-else.Pre
+    and 2 if-then-else-kinds.ps (is 2 if-then-else-kinds.ps μ-if-then-else t) if-then-else.Pre
 
-abbrev if-then-else-below : ℕ → In 1 if-then-else-kinds.ps
+abbrev if-then-else-below : ℕ → In 2 if-then-else-kinds.ps
 if-then-else-below t =
     and
-    1
+    2
     if-then-else-kinds.ps
-    (falls 1 if-then-else-kinds.ps _<_ μ-if-then-else t)
+    (falls 2 if-then-else-kinds.ps _<_ μ-if-then-else t)
     if-then-else.Pre
 
-abbrev parallel-at : ℕ → In 1 parallel-kinds.ps
-parallel-at t = and 1 parallel-kinds.ps (is 1 parallel-kinds.ps μ-parallel t) parallel.Pre
+abbrev parallel-at : ℕ → In 2 parallel-kinds.ps
+parallel-at t = and 2 parallel-kinds.ps (is 2 parallel-kinds.ps μ-parallel t) parallel.Pre
 
-abbrev parallel-below : ℕ → In 1 parallel-kinds.ps
+abbrev parallel-below : ℕ → In 2 parallel-kinds.ps
 parallel-below t =
-    and 1 parallel-kinds.ps (falls 1 parallel-kinds.ps _<_ μ-parallel t) parallel.Pre
+    and 2 parallel-kinds.ps (falls 2 parallel-kinds.ps _<_ μ-parallel t) parallel.Pre
 
-abbrev request-response-at : ℕ → In 1 request-response-kinds.ps
+abbrev request-response-at : ℕ → In 2 request-response-kinds.ps
 request-response-at t =
     and
-    1
+    2
     request-response-kinds.ps
-    (is 1 request-response-kinds.ps μ-request-response t)
+    (is 2 request-response-kinds.ps μ-request-response t)
     request-response.Pre
 
-abbrev request-response-below : ℕ → In 1 request-response-kinds.ps
+abbrev request-response-below : ℕ → In 2 request-response-kinds.ps
 request-response-below t =
     and
-    1
+    2
     request-response-kinds.ps
-    (falls 1 request-response-kinds.ps _<_ μ-request-response t)
+    (falls 2 request-response-kinds.ps _<_ μ-request-response t)
     request-response.Pre
 
-abbrev sequence-at : ℕ → In 1 sequence-kinds.ps
-sequence-at t = and 1 sequence-kinds.ps (is 1 sequence-kinds.ps μ-sequence t) sequence.Pre
+abbrev sequence-at : ℕ → In 2 sequence-kinds.ps
+sequence-at t = and 2 sequence-kinds.ps (is 2 sequence-kinds.ps μ-sequence t) sequence.Pre
 
-abbrev sequence-below : ℕ → In 1 sequence-kinds.ps
+abbrev sequence-below : ℕ → In 2 sequence-kinds.ps
 sequence-below t =
-    and 1 sequence-kinds.ps (falls 1 sequence-kinds.ps _<_ μ-sequence t) sequence.Pre
+    and 2 sequence-kinds.ps (falls 2 sequence-kinds.ps _<_ μ-sequence t) sequence.Pre
 
-abbrev while-do-at : ℕ → In 1 while-do-kinds.ps
-while-do-at t = and 1 while-do-kinds.ps (is 1 while-do-kinds.ps μ-while-do t) while-do.Pre
+abbrev while-do-at : ℕ → In 2 while-do-kinds.ps
+while-do-at t = and 2 while-do-kinds.ps (is 2 while-do-kinds.ps μ-while-do t) while-do.Pre
 
-abbrev while-do-below : ℕ → In 1 while-do-kinds.ps
+abbrev while-do-below : ℕ → In 2 while-do-kinds.ps
 while-do-below t =
-    and 1 while-do-kinds.ps (falls 1 while-do-kinds.ps _<_ μ-while-do t) while-do.Pre
+    and 2 while-do-kinds.ps (falls 2 while-do-kinds.ps _<_ μ-while-do t) while-do.Pre
 
 branches-settle-requires : (t : ℕ) → branches-lts.Need-settle-requires (settle-reads.Asked, settle-reads.Learnt, u16-at-reads.Asked, u16-at-reads.Learnt, sequence-below t, sequence.Post, same-reads.Asked, same-reads.Learnt, both-reads.Asked, both-reads.Learnt, branches-below t, branches.Post) (branches-at t) branches.Post
 branches-settle-requires t c κs = search needs
@@ -426,19 +426,19 @@ if-then-else-agree-requires t c κs = search needs
 if-then-else-returns-4 : (t : ℕ) → if-then-else-lts.Need-returns-4 (condition-reads.Asked, condition-reads.Learnt, check-row-below t, check-row.Post, agree-reads.Asked, agree-reads.Learnt) (if-then-else-at t) if-then-else.Post
 if-then-else-returns-4 t c = search if-laws depth 12
 
-parallel-no-shared-root-requires : (t : ℕ) → parallel-lts.Need-no-shared-root-requires (no-shared-root-reads.Asked, no-shared-root-reads.Learnt, refuse-reads.Asked, refuse-reads.Learnt, sequence-below t, sequence.Post) (parallel-at t) parallel.Post
-parallel-no-shared-root-requires t c κs = search needs
+parallel-apart-requires : (t : ℕ) → parallel-lts.Need-apart-requires (apart-reads.Asked, apart-reads.Learnt, refuse-reads.Asked, refuse-reads.Learnt, sequence-below t, sequence.Post) (parallel-at t) parallel.Post
+parallel-apart-requires t c κs = search needs
 
-parallel-refuse-requires : (t : ℕ) → parallel-lts.Need-refuse-requires (no-shared-root-reads.Asked, no-shared-root-reads.Learnt, refuse-reads.Asked, refuse-reads.Learnt, sequence-below t, sequence.Post) (parallel-at t) parallel.Post
+parallel-refuse-requires : (t : ℕ) → parallel-lts.Need-refuse-requires (apart-reads.Asked, apart-reads.Learnt, refuse-reads.Asked, refuse-reads.Learnt, sequence-below t, sequence.Post) (parallel-at t) parallel.Post
 parallel-refuse-requires t c κs = search needs
 
-parallel-returns : (t : ℕ) → parallel-lts.Need-returns (no-shared-root-reads.Asked, no-shared-root-reads.Learnt, refuse-reads.Asked, refuse-reads.Learnt, sequence-below t, sequence.Post) (parallel-at t) parallel.Post
+parallel-returns : (t : ℕ) → parallel-lts.Need-returns (apart-reads.Asked, apart-reads.Learnt, refuse-reads.Asked, refuse-reads.Learnt, sequence-below t, sequence.Post) (parallel-at t) parallel.Post
 parallel-returns t c = search parallel-laws depth 12
 
-parallel-sequence-requires : (t : ℕ) → parallel-lts.Need-sequence-requires (no-shared-root-reads.Asked, no-shared-root-reads.Learnt, refuse-reads.Asked, refuse-reads.Learnt, sequence-below t, sequence.Post) (parallel-at t) parallel.Post
+parallel-sequence-requires : (t : ℕ) → parallel-lts.Need-sequence-requires (apart-reads.Asked, apart-reads.Learnt, refuse-reads.Asked, refuse-reads.Learnt, sequence-below t, sequence.Post) (parallel-at t) parallel.Post
 parallel-sequence-requires t c κs = (omega arith, search needs)
 
-parallel-returns-2 : (t : ℕ) → parallel-lts.Need-returns-2 (no-shared-root-reads.Asked, no-shared-root-reads.Learnt, refuse-reads.Asked, refuse-reads.Learnt, sequence-below t, sequence.Post) (parallel-at t) parallel.Post
+parallel-returns-2 : (t : ℕ) → parallel-lts.Need-returns-2 (apart-reads.Asked, apart-reads.Learnt, refuse-reads.Asked, refuse-reads.Learnt, sequence-below t, sequence.Post) (parallel-at t) parallel.Post
 parallel-returns-2 t c = search parallel-laws depth 12
 
 request-response-receive-requires : (t : ℕ) → request-response-lts.Need-receive-requires (receive-reads.Asked, receive-reads.Learnt, check-row-below t, check-row.Post, reply-type-reads.Asked, reply-type-reads.Learnt, ask-reads.Asked, ask-reads.Learnt) (request-response-at t) request-response.Post
@@ -707,8 +707,8 @@ pub +branches+check-row+choice+if-then-else+parallel+request-response+sequence+w
     (if-then-else-agree-requires t)
     (if-then-else-returns-4 t))
     (λ t. parallel-lts.spec (
-      no-shared-root-reads.Asked,
-      no-shared-root-reads.Learnt,
+      apart-reads.Asked,
+      apart-reads.Learnt,
       refuse-reads.Asked,
       refuse-reads.Learnt,
       sequence-below t,
@@ -716,7 +716,7 @@ pub +branches+check-row+choice+if-then-else+parallel+request-response+sequence+w
     )
     (parallel-at t)
     parallel.Post
-    (parallel-no-shared-root-requires t)
+    (parallel-apart-requires t)
     (parallel-refuse-requires t)
     (parallel-returns t)
     (parallel-sequence-requires t)

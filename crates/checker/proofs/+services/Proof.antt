@@ -13,15 +13,15 @@ use Rattle.checker.proofs.with_first.Reads as with-first-reads
 use Rattle.checker.proofs.+services.{statement}
 use Rattle.checker.proofs.+services.Tie.{close}
 
-abbrev μ-services : Measures 1 services-kinds.ps ℕ
-μ-services κs a = a .1 .1 .0
+abbrev μ-services : Measures 2 services-kinds.ps ℕ
+μ-services κs a = a .1 .1 .1 .0
 
-abbrev services-at : ℕ → In 1 services-kinds.ps
-services-at t = and 1 services-kinds.ps (is 1 services-kinds.ps μ-services t) services.Pre
+abbrev services-at : ℕ → In 2 services-kinds.ps
+services-at t = and 2 services-kinds.ps (is 2 services-kinds.ps μ-services t) services.Pre
 
-abbrev services-below : ℕ → In 1 services-kinds.ps
+abbrev services-below : ℕ → In 2 services-kinds.ps
 services-below t =
-    and 1 services-kinds.ps (falls 1 services-kinds.ps _<_ μ-services t) services.Pre
+    and 2 services-kinds.ps (falls 2 services-kinds.ps _<_ μ-services t) services.Pre
 
 services-verdict-only-requires : (t : ℕ) → services-lts.Need-verdict-only-requires (verdict-only-reads.Asked, verdict-only-reads.Learnt, service-reads.Asked, service-reads.Learnt, services-below t, services.Post, with-first-reads.Asked, with-first-reads.Learnt) (services-at t) services.Post
 services-verdict-only-requires t c κs = search needs

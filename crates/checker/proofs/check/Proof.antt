@@ -5,10 +5,9 @@ use Rattle.checker.proofs.check.Statement.{statement}
 use Rattle.checker.proofs.check.Tie as tie
 use Rattle.checker.proofs.check.Reads as reads
 use Rattle.checker.proofs.check.Lts as lts
-use Rattle.checker.proofs.services.Reads as services-reads
+use Rattle.checker.proofs.all_services.Reads as all-services-reads
 use Rattle.checker.proofs.verdict_only.Reads as verdict-only-reads
 use Rattle.form.proofs.form_of.Reads as form-of-reads
-use Rattle.layout.proofs.service_count.Reads as service-count-reads
 use Rattle.outputs.proofs.check_outputs.Reads as check-outputs-reads
 
 form-of-requires : tie.Need-form-of-requires
@@ -26,11 +25,8 @@ verdict-only-requires c κs = search needs
 returns : tie.Need-returns
 returns c = (search file-laws depth 12, search shape-laws depth 12)
 
-service-count-requires : tie.Need-service-count-requires
-service-count-requires c κs = search needs
-
-services-requires : tie.Need-services-requires
-services-requires c κs = search needs
+all-services-requires : tie.Need-all-services-requires
+all-services-requires c κs = search needs
 
 enum-told-3 : tie.Need-enum-told-3
 enum-told-3 c = search needs
@@ -71,8 +67,7 @@ check-spec =
     enum-told-2
     verdict-only-requires
     returns
-    service-count-requires
-    services-requires
+    all-services-requires
     enum-told-3
     enum-told-4
     verdict-only-requires-2

@@ -12,14 +12,14 @@ use Rattle.starters.proofs.branch.Reads as branch-reads
 use Rattle.starters.proofs.+against.{statement}
 use Rattle.starters.proofs.+against.Tie.{close}
 
-abbrev μ-against : Measures 1 against-kinds.ps ℕ
-μ-against κs a = a .1 .1 .1 .1 .0
+abbrev μ-against : Measures 2 against-kinds.ps ℕ
+μ-against κs a = a .1 .1 .1 .1 .1 .0
 
-abbrev against-at : ℕ → In 1 against-kinds.ps
-against-at t = and 1 against-kinds.ps (is 1 against-kinds.ps μ-against t) against.Pre
+abbrev against-at : ℕ → In 2 against-kinds.ps
+against-at t = and 2 against-kinds.ps (is 2 against-kinds.ps μ-against t) against.Pre
 
-abbrev against-below : ℕ → In 1 against-kinds.ps
-against-below t = and 1 against-kinds.ps (falls 1 against-kinds.ps _<_ μ-against t) against.Pre
+abbrev against-below : ℕ → In 2 against-kinds.ps
+against-below t = and 2 against-kinds.ps (falls 2 against-kinds.ps _<_ μ-against t) against.Pre
 
 against-returns : (t : ℕ) → against-lts.Need-returns (branch-reads.Asked, branch-reads.Learnt, one-type-reads.Asked, one-type-reads.Learnt, against-below t, against.Post) (against-at t) against.Post
 against-returns t c = search against-laws depth 12

@@ -11,14 +11,14 @@ use Rattle.starters.proofs.branch.Reads as branch-reads
 use Rattle.starters.proofs.+each.{statement}
 use Rattle.starters.proofs.+each.Tie.{close}
 
-abbrev μ-each : Measures 1 each-kinds.ps ℕ
-μ-each κs a = a .1 .1 .1 .0
+abbrev μ-each : Measures 2 each-kinds.ps ℕ
+μ-each κs a = a .1 .1 .1 .1 .0
 
-abbrev each-at : ℕ → In 1 each-kinds.ps
-each-at t = and 1 each-kinds.ps (is 1 each-kinds.ps μ-each t) each.Pre
+abbrev each-at : ℕ → In 2 each-kinds.ps
+each-at t = and 2 each-kinds.ps (is 2 each-kinds.ps μ-each t) each.Pre
 
-abbrev each-below : ℕ → In 1 each-kinds.ps
-each-below t = and 1 each-kinds.ps (falls 1 each-kinds.ps _<_ μ-each t) each.Pre
+abbrev each-below : ℕ → In 2 each-kinds.ps
+each-below t = and 2 each-kinds.ps (falls 2 each-kinds.ps _<_ μ-each t) each.Pre
 
 each-returns : (t : ℕ) → each-lts.Need-returns (branch-reads.Asked, branch-reads.Learnt, each-below t, each.Post) (each-at t) each.Post
 each-returns t c = search each-laws depth 12

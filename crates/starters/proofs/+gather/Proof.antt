@@ -14,14 +14,14 @@ use Rattle.starters.proofs.branch.Reads as branch-reads
 use Rattle.starters.proofs.+gather.{statement}
 use Rattle.starters.proofs.+gather.Tie.{close}
 
-abbrev μ-gather : Measures 1 gather-kinds.ps ℕ
-μ-gather κs a = a .1 .1 .1 .1 .0
+abbrev μ-gather : Measures 2 gather-kinds.ps ℕ
+μ-gather κs a = a .1 .1 .1 .1 .1 .0
 
-abbrev gather-at : ℕ → In 1 gather-kinds.ps
-gather-at t = and 1 gather-kinds.ps (is 1 gather-kinds.ps μ-gather t) gather.Pre
+abbrev gather-at : ℕ → In 2 gather-kinds.ps
+gather-at t = and 2 gather-kinds.ps (is 2 gather-kinds.ps μ-gather t) gather.Pre
 
-abbrev gather-below : ℕ → In 1 gather-kinds.ps
-gather-below t = and 1 gather-kinds.ps (falls 1 gather-kinds.ps _<_ μ-gather t) gather.Pre
+abbrev gather-below : ℕ → In 2 gather-kinds.ps
+gather-below t = and 2 gather-kinds.ps (falls 2 gather-kinds.ps _<_ μ-gather t) gather.Pre
 
 gather-pass-requires : (t : ℕ) → gather-lts.Need-pass-requires (pass-reads.Asked, pass-reads.Learnt, branch-reads.Asked, branch-reads.Learnt, one-type-reads.Asked, one-type-reads.Learnt, unite-reads.Asked, unite-reads.Learnt, gather-below t, gather.Post) (gather-at t) gather.Post
 gather-pass-requires t c κs = search needs

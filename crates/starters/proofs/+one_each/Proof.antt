@@ -12,15 +12,15 @@ use Rattle.starters.proofs.branch.Reads as branch-reads
 use Rattle.starters.proofs.+one_each.{statement}
 use Rattle.starters.proofs.+one_each.Tie.{close}
 
-abbrev μ-one-each : Measures 1 one-each-kinds.ps ℕ
-μ-one-each κs a = a .1 .1 .1 .0
+abbrev μ-one-each : Measures 2 one-each-kinds.ps ℕ
+μ-one-each κs a = a .1 .1 .1 .1 .0
 
-abbrev one-each-at : ℕ → In 1 one-each-kinds.ps
-one-each-at t = and 1 one-each-kinds.ps (is 1 one-each-kinds.ps μ-one-each t) one-each.Pre
+abbrev one-each-at : ℕ → In 2 one-each-kinds.ps
+one-each-at t = and 2 one-each-kinds.ps (is 2 one-each-kinds.ps μ-one-each t) one-each.Pre
 
-abbrev one-each-below : ℕ → In 1 one-each-kinds.ps
+abbrev one-each-below : ℕ → In 2 one-each-kinds.ps
 one-each-below t =
-    and 1 one-each-kinds.ps (falls 1 one-each-kinds.ps _<_ μ-one-each t) one-each.Pre
+    and 2 one-each-kinds.ps (falls 2 one-each-kinds.ps _<_ μ-one-each t) one-each.Pre
 
 one-each-returns : (t : ℕ) → one-each-lts.Need-returns (branch-reads.Asked, branch-reads.Learnt, against-reads.Asked, against-reads.Learnt, one-each-below t, one-each.Post) (one-each-at t) one-each.Post
 one-each-returns t c = search one-laws depth 12

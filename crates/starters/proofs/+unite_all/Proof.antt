@@ -13,15 +13,15 @@ use Rattle.starters.proofs.branch.Reads as branch-reads
 use Rattle.starters.proofs.+unite_all.{statement}
 use Rattle.starters.proofs.+unite_all.Tie.{close}
 
-abbrev μ-unite-all : Measures 1 unite-all-kinds.ps ℕ
-μ-unite-all κs a = a .1 .1 .1 .1 .0
+abbrev μ-unite-all : Measures 2 unite-all-kinds.ps ℕ
+μ-unite-all κs a = a .1 .1 .1 .1 .1 .0
 
-abbrev unite-all-at : ℕ → In 1 unite-all-kinds.ps
-unite-all-at t = and 1 unite-all-kinds.ps (is 1 unite-all-kinds.ps μ-unite-all t) unite-all.Pre
+abbrev unite-all-at : ℕ → In 2 unite-all-kinds.ps
+unite-all-at t = and 2 unite-all-kinds.ps (is 2 unite-all-kinds.ps μ-unite-all t) unite-all.Pre
 
-abbrev unite-all-below : ℕ → In 1 unite-all-kinds.ps
+abbrev unite-all-below : ℕ → In 2 unite-all-kinds.ps
 unite-all-below t =
-    and 1 unite-all-kinds.ps (falls 1 unite-all-kinds.ps _<_ μ-unite-all t) unite-all.Pre
+    and 2 unite-all-kinds.ps (falls 2 unite-all-kinds.ps _<_ μ-unite-all t) unite-all.Pre
 
 unite-all-pass-requires : (t : ℕ) → unite-all-lts.Need-pass-requires (pass-reads.Asked, pass-reads.Learnt, branch-reads.Asked, branch-reads.Learnt, unite-reads.Asked, unite-reads.Learnt, unite-all-below t, unite-all.Post) (unite-all-at t) unite-all.Post
 unite-all-pass-requires t c κs = search needs

@@ -1,3 +1,4 @@
+use Rattle.starters.proofs.StarterLaws.{starts-joined}
 use Rattle.starters.proofs.StarterLaws.{start-laws}
 use borrow.Author.Needs.{needs}
 use Rattle.starters.proofs.check_starter.Statement.{statement}
@@ -62,7 +63,12 @@ returns-2 : tie.Need-returns-2
 returns-2 c = search start-laws depth 12
 
 returns-3 : tie.Need-returns-3
-returns-3 c = search start-laws depth 12
+returns-3 c =
+    let tried = c .before .before .before in
+    let at = tried .before .before .before .before in
+    let row = at .before .before .before in
+    starts-joined _ _ _ (row .before .behaviour-count .ensures) (row .behaviour-at .ensures .0) (at .before .before .u16-at .ensures) (at .before .u16-at2 .ensures)
+    (at .behaviour-at2 .ensures .0) (tried .each .ensures) (search (c .before .enum-told .given)) (c .join .ensures)
 
 pub check-starter-spec : {M : Type 1} → statement M
 check-starter-spec =
