@@ -113,8 +113,7 @@ fn main() {
     let mut buf = [0u8; 32769];
     let file = console::read(0, &mut buf);
     if file.failed {
-        os::fail(b"standard input");
-        console::finish(true, console::FAILED);
+        console::finish(true, console::unreadable());
         return;
     }
     let n = file.len;

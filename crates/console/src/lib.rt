@@ -99,6 +99,18 @@ pub fn wrong(line: u64, why: Fault) {
     reason(why);
 }
 
+// Says why standard input cannot be read, and gives the status.
+pub fn unreadable() -> u8 {
+    os::fail(b"standard input");
+    FAILED
+}
+
+// Says that the turns are used up, and gives the status.
+pub fn spent() -> u8 {
+    io::write_all(STDERR_FILENO, b"standard input: too long\n");
+    FAILED
+}
+
 // Reads a file to its end or until the buffer is full.
 pub fn read(fd: i32, buf: &mut [u8]) -> File
     ensures { λ r. ⌜ Counts (r .len) (now (buf .exit)) ⌝ }
