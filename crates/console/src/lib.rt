@@ -68,7 +68,7 @@ fn byte(ok: &mut bool, x: u8) {
     }
 }
 
-// 01: "`refused N P`".
+// The line `refused N P` of 01.
 pub fn refused(ok: &mut bool, n: u8, place: usize) {
     write(ok, b"refused ");
     number(ok, n as u64);

@@ -23,6 +23,11 @@ pub record HexPair (a b r : ℕ) : Type 0 where
   pub high : 15 < a → r ≡ 256
   pub low : 15 < b → r ≡ 256
 
+-- `r` is the value with one more decimal digit, or 2 ^ 32 where that is past 32 bits.
+pub record Longer (value digit r : ℕ) : Type 0 where
+  pub fits : 10 * value + digit ≤ 4294967295 → r ≡ 10 * value + digit
+  pub large : 4294967295 < 10 * value + digit → r ≡ 4294967296
+
 -- x is a blank or a tab.
 abbrev pub blank : ℕ → Bool
 blank x = cond (eqb x 32) true (eqb x 9)

@@ -3,7 +3,7 @@ ghost use Prim.Native.Nat.{_+_, _*_, _≤_, _<_};
 ghost use mathlib.Core.Path.{_≡_};
 ghost use mathlib.Core.Bool.{true, false};
 ghost use lib.ListN.{length};
-ghost use Rattle.lines.specs.Text.{HexDigit, HexPair, Run, blank};
+ghost use Rattle.lines.specs.Text.{HexDigit, HexPair, Longer, Run, blank};
 
 // Why a line is no line of its program.
 pub enum Fault {
@@ -87,7 +87,7 @@ pub fn without_return(line: &[u8]) -> usize
 }
 
 // The value of a hexadecimal digit, or 16.
-pub fn digit(x: u8) -> u8
+fn digit(x: u8) -> u8
     ensures { λ r. ⌜ HexDigit x r ⌝ }
 {
     match x {
@@ -99,7 +99,7 @@ pub fn digit(x: u8) -> u8
 }
 
 // The byte of two hexadecimal digits with these values, or 256.
-pub fn pair(high: u8, low: u8) -> usize
+fn pair(high: u8, low: u8) -> usize
     ensures { λ r. ⌜ HexPair high low r ⌝ }
 {
     if 15 < high {
@@ -126,7 +126,7 @@ fn pair_at(s: &[u8], at: usize) -> usize
 
 // The value with one more digit, or 4294967296 where that is past 32 bits.
 fn longer(value: u64, digit: u8) -> u64
-    ensures { λ r. ⌜ (429496729 < value → r ≡ 4294967296) × (r ≤ 4294967296) ⌝ }
+    ensures { λ r. ⌜ Longer value digit r ⌝ }
 {
     if 429496729 < value {
         return 4294967296;
@@ -181,7 +181,7 @@ fn number_judged(value: u64, most: u64) -> Judged {
     Judged::Good
 }
 
-// Reads bytes in hexadecimal, with blanks before, between and after them, as many as there is room for.
+// Reads bytes in hexadecimal, with blanks before, between and after them. More of them than there is room for are a fault.
 pub fn read_bytes(s: &[u8], bytes: &mut [u8]) -> Bytes
     ensures { λ r. ⌜ r .len ≤ length (now (bytes .exit)) ⌝ }
 {
