@@ -1,7 +1,5 @@
 // A program's input and output: standard input by lines or a file whole, standard output with a flag that a failed write clears for good,
 // errors on standard error, and the status.
-ghost use Prim.Native.Nat.{_≤_};
-ghost use lib.ListN.{length};
 ghost use Rattle.io.specs.Counts.{Counts};
 
 mod input;
