@@ -1,64 +1,57 @@
 // The program `check`: reads a network file from standard input and prints the environments of its services, or the refusal. 01, end of
 // Proved cases: "`accepted`, then per node in preorder, by service, S(tarter) first: service row, S or C(lient), path, `!` (mandatory) or
-// `?`, basic type", otherwise "`refused N P`".
+// `?`, basic type", otherwise "`refused N P`". Its status is 0, 1 where the file is refused, 2 where reading or writing failed.
 ghost use Prim.Native.Nat.{_<_};
 use checker::Pair;
+use console::number;
+use console::write;
 use environments::Environment;
-use libc::STDOUT_FILENO;
-use refusal::Refusal;
 use refusal::Verdict;
 
-fn write(text: &[u8]) {
-    io::write_all(STDOUT_FILENO, text);
-}
-
-fn number(n: u64) {
-    io::print_decimal(STDOUT_FILENO, n);
-}
-
-fn refused(why: Refusal) {
-    write(b"refused ");
-    number(refusal::number_of(why) as u64);
-    write(b" ");
-    number(refusal::place_of(why) as u64);
-    write(b"\n");
-}
-
-fn word(basic: u8) {
+fn word(ok: &mut bool, basic: u8) {
     match basic {
-        0 => write(b"bool\n"),
-        1 => write(b"int\n"),
-        2 => write(b"double\n"),
-        3 => write(b"long\n"),
-        4 => write(b"string\n"),
-        5 => write(b"raw\n"),
-        _ => write(b"void\n"),
+        0 => write(ok, b"bool\n"),
+        1 => write(ok, b"int\n"),
+        2 => write(ok, b"double\n"),
+        3 => write(ok, b"long\n"),
+        4 => write(ok, b"string\n"),
+        5 => write(ok, b"raw\n"),
+        _ => write(ok, b"void\n"),
     }
 }
 
 // A path's ids down to the node, each in its place by level.
-fn print_path(ids: [u16; 8], level: usize)
+fn print_path(ok: &mut bool, ids: [u16; 8], level: usize)
     requires { ⌜ level < 8 ⌝ }
 {
     let mut i: usize = 0;
     while i < level {
-        number(wire::index(ids[i]) as u64);
-        write(b".");
+        number(ok, wire::index(ids[i]) as u64);
+        write(ok, b".");
         i += 1;
     }
-    number(wire::index(ids[level]) as u64);
+    number(ok, wire::index(ids[level]) as u64);
 }
 
-fn mark(mandatory: bool) {
+fn mark(ok: &mut bool, mandatory: bool) {
     if mandatory {
-        write(b" ! ");
+        write(ok, b" ! ");
         return;
     }
-    write(b" ? ");
+    write(ok, b" ? ");
 }
 
 // The n siblings at `at`, whose path's ids above are the first `level` of `ids`; gives the place past them.
-fn nodes(s: &[u8], q: u64, role: &[u8], ids: [u16; 8], level: usize, at: usize, n: u8) -> usize {
+fn nodes(
+    ok: &mut bool,
+    s: &[u8],
+    q: u64,
+    role: &[u8],
+    ids: [u16; 8],
+    level: usize,
+    at: usize,
+    n: u8,
+) -> usize {
     if n == 0 {
         return at;
     }
@@ -71,51 +64,60 @@ fn nodes(s: &[u8], q: u64, role: &[u8], ids: [u16; 8], level: usize, at: usize, 
     };
     let mut down = ids;
     down[level] = id;
-    number(q);
-    write(role);
-    print_path(down, level);
-    mark(mandatory);
-    word(basic);
-    let end = nodes(s, q, role, down, level + 1, mid, count);
-    nodes(s, q, role, ids, level, end, n - 1)
+    number(ok, q);
+    write(ok, role);
+    print_path(ok, down, level);
+    mark(ok, mandatory);
+    word(ok, basic);
+    let end = nodes(ok, s, q, role, down, level + 1, mid, count);
+    nodes(ok, s, q, role, ids, level, end, n - 1)
 }
 
-fn environment(q: u64, role: &[u8], e: Environment) {
+fn environment(ok: &mut bool, q: u64, role: &[u8], e: Environment) {
     let s = e.bytes;
     let tree::Head::Node(_, _, count, mid) = tree::head_at(&s, 0) else {
         return;
     };
-    nodes(&s, q, role, [0u16; 8], 0, mid, count);
+    nodes(ok, &s, q, role, [0u16; 8], 0, mid, count);
 }
 
-fn service(q: u64, p: Pair) {
+fn service(ok: &mut bool, q: u64, p: Pair) {
     let a = p.starter;
-    environment(q, b" S ", a);
+    environment(ok, q, b" S ", a);
     let b = p.client;
-    environment(q, b" C ", b);
+    environment(ok, q, b" C ", b);
 }
 
-fn answer(file: &[u8]) {
+// Gives the status.
+fn answer(ok: &mut bool, file: &[u8]) -> u8 {
     let x = checker::check(file);
     let v = x.verdict;
     if let Verdict::Refused(why) = v {
-        refused(why);
-        return;
+        console::refused(ok, refusal::number_of(why), refusal::place_of(why));
+        return console::REFUSED;
     }
-    write(b"accepted\n");
+    write(ok, b"accepted\n");
     let a = x.first;
-    service(0, a);
+    service(ok, 0, a);
     let b = x.second;
-    service(1, b);
+    service(ok, 1, b);
     let c = x.third;
-    service(2, c);
+    service(ok, 2, c);
     let d = x.fourth;
-    service(3, d);
+    service(ok, 3, d);
+    console::DONE
 }
 
 // One byte more than a file may have tells a long one.
 fn main() {
     let mut buf = [0u8; 32769];
-    let n = io::read_full(0, &mut buf);
-    answer(&buf[..n]);
+    let file = console::read(0, &mut buf);
+    if file.failed {
+        console::finish(true, console::unreadable());
+        return;
+    }
+    let n = file.len;
+    let mut ok = true;
+    let status = answer(&mut ok, &buf[..n]);
+    console::finish(ok, status);
 }

@@ -1,4 +1,4 @@
-use Prim.Native.Nat.{_+_, _-_, _*_, _≤_}
+use Prim.Native.Nat.{_+_, _-_, _*_}
 use native.Mathlib.Omega.{arith}
 use borrow.Author.Needs.{needs}
 use Prim.Native.Nat.{ℕ, _<_}
@@ -8,22 +8,22 @@ use Rattle.check_main.proofs.nodes.Reads as nodes
 use Rattle.check_main.proofs.nodes.Kinds as nodes-kinds
 use Rattle.check_main.proofs.+nodes.Lts-nodes as nodes-lts
 use Rattle.check_main.proofs.mark.Reads as mark-reads
-use Rattle.check_main.proofs.number.Reads as number-reads
 use Rattle.check_main.proofs.print_path.Reads as print-path-reads
 use Rattle.check_main.proofs.word.Reads as word-reads
-use Rattle.check_main.proofs.write.Reads as write-reads
+use Rattle.console.proofs.number.Reads as number-reads
+use Rattle.console.proofs.write.Reads as write-reads
 use Rattle.types.proofs.type_head.Reads as type-head-reads
 use Rattle.check_main.proofs.+nodes.{statement}
 use Rattle.check_main.proofs.+nodes.Tie.{close}
 
-abbrev μ-nodes : Measures 2 nodes-kinds.ps ℕ
-μ-nodes κs a = 256 * (8 - a .1 .1 .1 .1 .0) + a .1 .1 .1 .1 .1 .1 .0
+abbrev μ-nodes : Measures 3 nodes-kinds.ps ℕ
+μ-nodes κs a = 256 * (8 - a .1 .1 .1 .1 .1 .0) + a .1 .1 .1 .1 .1 .1 .1 .0
 
-abbrev nodes-at : ℕ → In 2 nodes-kinds.ps
-nodes-at t = and 2 nodes-kinds.ps (is 2 nodes-kinds.ps μ-nodes t) nodes.Pre
+abbrev nodes-at : ℕ → In 3 nodes-kinds.ps
+nodes-at t = and 3 nodes-kinds.ps (is 3 nodes-kinds.ps μ-nodes t) nodes.Pre
 
-abbrev nodes-below : ℕ → In 2 nodes-kinds.ps
-nodes-below t = and 2 nodes-kinds.ps (falls 2 nodes-kinds.ps _<_ μ-nodes t) nodes.Pre
+abbrev nodes-below : ℕ → In 3 nodes-kinds.ps
+nodes-below t = and 3 nodes-kinds.ps (falls 3 nodes-kinds.ps _<_ μ-nodes t) nodes.Pre
 
 nodes-returns : (t : ℕ) → nodes-lts.Need-returns (type-head-reads.Asked, type-head-reads.Learnt, number-reads.Asked, number-reads.Learnt, write-reads.Asked, write-reads.Learnt, print-path-reads.Asked, print-path-reads.Learnt, mark-reads.Asked, mark-reads.Learnt, word-reads.Asked, word-reads.Learnt, nodes-below t, nodes.Post) (nodes-at t) nodes.Post
 nodes-returns t c = search needs

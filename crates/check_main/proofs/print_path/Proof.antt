@@ -1,19 +1,21 @@
-use Prim.Native.Nat.{_+_, _-_, _*_, _≤_}
 use native.Mathlib.Omega.{arith}
 use borrow.Author.Needs.{needs}
+use mathlib.Core.Path.{_≡_}
+use lib.ListN.{length}
+use Prim.Native.Nat.{ℕ, _+_, _-_, _*_, _≤_, _<_}
 use Rattle.check_main.proofs.print_path.Statement.{statement}
 use Rattle.check_main.proofs.print_path.Tie as tie
 use Rattle.check_main.proofs.print_path.Reads as reads
 use Rattle.check_main.proofs.print_path.Lts as lts
-use Rattle.check_main.proofs.number.Reads as number-reads
-use Rattle.check_main.proofs.write.Reads as write-reads
+use Rattle.console.proofs.number.Reads as number-reads
+use Rattle.console.proofs.write.Reads as write-reads
 use Rattle.wire.proofs.index.Reads as index-reads
 
 abbrev Inv-loop : tie.InvT-loop
-Inv-loop level ids i₀ t5 i = i ≤ level
+Inv-loop ok₀ level ids i₀ t6 ok i = i ≤ level
 
 abbrev μ-loop : tie.MeasureT-loop
-μ-loop level ids i₀ t5 i = level - i
+μ-loop ok₀ level ids i₀ t6 ok i = level - i
 
 loop-holds : tie.Need-loop-holds Inv-loop μ-loop
 loop-holds c = search needs

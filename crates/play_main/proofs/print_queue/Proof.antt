@@ -2,24 +2,24 @@ use native.Mathlib.Omega.{arith}
 use borrow.Author.Needs.{needs}
 use mathlib.Core.Path.{_≡_}
 use lib.ListN.{length}
-use Prim.Native.Nat.{_≤_, _-_}
+use Prim.Native.Nat.{ℕ, _+_, _-_, _*_, _≤_, _<_}
 use Rattle.play_main.proofs.print_queue.Statement.{statement}
 use Rattle.play_main.proofs.print_queue.Tie as tie
 use Rattle.play_main.proofs.print_queue.Reads as reads
 use Rattle.play_main.proofs.print_queue.Lts as lts
-use Rattle.play_main.proofs.print.Reads as print-reads
-use Rattle.play_main.proofs.print_bytes.Reads as print-bytes-reads
+use Rattle.console.proofs.bytes.Reads as bytes-reads
+use Rattle.console.proofs.number.Reads as number-reads
+use Rattle.console.proofs.write.Reads as write-reads
 use Rattle.play_main.proofs.print_label.Reads as print-label-reads
-use Rattle.play_main.proofs.write.Reads as write-reads
 use Rattle.wire.proofs.index.Reads as index-reads
 use Rattle.wire.proofs.u16_at.Reads as u16-at-reads
 use Rattle.wire.proofs.wide.Reads as wide-reads
 
 abbrev Inv-loop : tie.InvT-loop
-Inv-loop state q n queue i₀ t9 t10 t11 i = i ≤ 4
+Inv-loop ok₀ state q n queue i₀ t10 t11 t12 ok i = i ≤ 4
 
 abbrev μ-loop : tie.MeasureT-loop
-μ-loop state q n queue i₀ t9 t10 t11 i = 4 - i
+μ-loop ok₀ state q n queue i₀ t10 t11 t12 ok i = 4 - i
 
 loop-holds : tie.Need-loop-holds Inv-loop μ-loop
 loop-holds c = search needs
@@ -51,11 +51,11 @@ slice-aggregate-print-label c = search needs
 print-label-requires : tie.Need-print-label-requires Inv-loop μ-loop
 print-label-requires c κs = search needs
 
-sub-print : tie.Need-sub-print Inv-loop μ-loop
-sub-print c = search needs
+sub-number : tie.Need-sub-number Inv-loop μ-loop
+sub-number c = search needs
 
-print-requires : tie.Need-print-requires Inv-loop μ-loop
-print-requires c κs = search needs
+number-requires : tie.Need-number-requires Inv-loop μ-loop
+number-requires c κs = search needs
 
 slice-aggregate-write : tie.Need-slice-aggregate-write Inv-loop μ-loop
 slice-aggregate-write c = search needs
@@ -63,26 +63,26 @@ slice-aggregate-write c = search needs
 write-requires : tie.Need-write-requires Inv-loop μ-loop
 write-requires c κs = search needs
 
-add-print-bytes : tie.Need-add-print-bytes Inv-loop μ-loop
-add-print-bytes c = search needs
+add-bytes : tie.Need-add-bytes Inv-loop μ-loop
+add-bytes c = search needs
 
-add-print-bytes-2 : tie.Need-add-print-bytes-2 Inv-loop μ-loop
-add-print-bytes-2 c = search needs
+add-bytes-2 : tie.Need-add-bytes-2 Inv-loop μ-loop
+add-bytes-2 c = search needs
 
-add-print-bytes-3 : tie.Need-add-print-bytes-3 Inv-loop μ-loop
-add-print-bytes-3 c = search needs
+add-bytes-3 : tie.Need-add-bytes-3 Inv-loop μ-loop
+add-bytes-3 c = search needs
 
-sub-print-bytes : tie.Need-sub-print-bytes Inv-loop μ-loop
-sub-print-bytes c = search needs
+sub-bytes : tie.Need-sub-bytes Inv-loop μ-loop
+sub-bytes c = search needs
 
-part-print-bytes-start : tie.Need-part-print-bytes-start Inv-loop μ-loop
-part-print-bytes-start c = search needs
+part-bytes-start : tie.Need-part-bytes-start Inv-loop μ-loop
+part-bytes-start c = search needs
 
-part-print-bytes-end : tie.Need-part-print-bytes-end Inv-loop μ-loop
-part-print-bytes-end c = search needs
+part-bytes-end : tie.Need-part-bytes-end Inv-loop μ-loop
+part-bytes-end c = search needs
 
-print-bytes-requires : tie.Need-print-bytes-requires Inv-loop μ-loop
-print-bytes-requires c κs = search needs
+bytes-requires : tie.Need-bytes-requires Inv-loop μ-loop
+bytes-requires c κs = search needs
 
 slice-aggregate-write-2 : tie.Need-slice-aggregate-write-2 Inv-loop μ-loop
 slice-aggregate-write-2 c = search needs
@@ -118,17 +118,17 @@ print-queue-spec =
     index-requires
     slice-aggregate-print-label
     print-label-requires
-    sub-print
-    print-requires
+    sub-number
+    number-requires
     slice-aggregate-write
     write-requires
-    add-print-bytes
-    add-print-bytes-2
-    add-print-bytes-3
-    sub-print-bytes
-    part-print-bytes-start
-    part-print-bytes-end
-    print-bytes-requires
+    add-bytes
+    add-bytes-2
+    add-bytes-3
+    sub-bytes
+    part-bytes-start
+    part-bytes-end
+    bytes-requires
     slice-aggregate-write-2
     write-requires-2
     add-i

@@ -1,19 +1,21 @@
 use native.Mathlib.Omega.{arith}
 use borrow.Author.Needs.{needs}
-use Prim.Native.Nat.{_≤_, _-_}
+use mathlib.Core.Path.{_≡_}
+use lib.ListN.{length}
+use Prim.Native.Nat.{ℕ, _+_, _-_, _*_, _≤_, _<_}
 use Rattle.play_main.proofs.print_rows.Statement.{statement}
 use Rattle.play_main.proofs.print_rows.Tie as tie
 use Rattle.play_main.proofs.print_rows.Reads as reads
 use Rattle.play_main.proofs.print_rows.Lts as lts
-use Rattle.play_main.proofs.print.Reads as print-reads
+use Rattle.console.proofs.number.Reads as number-reads
 use Rattle.play_main.proofs.print_label.Reads as print-label-reads
 use Rattle.play_main.proofs.print_progress.Reads as print-progress-reads
 
 abbrev Inv-loop : tie.InvT-loop
-Inv-loop state q n rows r₀ t8 r = r ≤ 256
+Inv-loop ok₀ state q n rows r₀ t9 ok r = r ≤ 256
 
 abbrev μ-loop : tie.MeasureT-loop
-μ-loop state q n rows r₀ t8 r = 256 - r
+μ-loop ok₀ state q n rows r₀ t9 ok r = 256 - r
 
 loop-holds : tie.Need-loop-holds Inv-loop μ-loop
 loop-holds c = search needs
@@ -33,8 +35,8 @@ slice-aggregate-print-label c = search needs
 print-label-requires : tie.Need-print-label-requires Inv-loop μ-loop
 print-label-requires c κs = search needs
 
-print-requires : tie.Need-print-requires Inv-loop μ-loop
-print-requires c κs = search needs
+number-requires : tie.Need-number-requires Inv-loop μ-loop
+number-requires c κs = search needs
 
 add-print-progress : tie.Need-add-print-progress Inv-loop μ-loop
 add-print-progress c = search needs
@@ -69,7 +71,7 @@ print-rows-spec =
     shared-slice-read-progress
     slice-aggregate-print-label
     print-label-requires
-    print-requires
+    number-requires
     add-print-progress
     shared-slice-read-print-progress
     print-progress-requires

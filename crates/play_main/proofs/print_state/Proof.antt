@@ -1,8 +1,8 @@
-use mathlib.Core.Path.{_≡_}
-use lib.ListN.{length}
-use Prim.Native.Nat.{_≤_, _-_}
 use native.Mathlib.Omega.{arith}
 use borrow.Author.Needs.{needs}
+use mathlib.Core.Path.{_≡_}
+use lib.ListN.{length}
+use Prim.Native.Nat.{ℕ, _+_, _-_, _*_, _≤_, _<_}
 use Rattle.play_main.proofs.print_state.Statement.{statement}
 use Rattle.play_main.proofs.print_state.Tie as tie
 use Rattle.play_main.proofs.print_state.Reads as reads
@@ -10,10 +10,10 @@ use Rattle.play_main.proofs.print_state.Lts as lts
 use Rattle.play_main.proofs.print_slot.Reads as print-slot-reads
 
 abbrev Inv-loop : tie.InvT-loop
-Inv-loop state slot₀ slot = slot ≤ 16
+Inv-loop ok₀ state slot₀ ok slot = slot ≤ 16
 
 abbrev μ-loop : tie.MeasureT-loop
-μ-loop state slot₀ slot = 16 - slot
+μ-loop ok₀ state slot₀ ok slot = 16 - slot
 
 loop-holds : tie.Need-loop-holds Inv-loop μ-loop
 loop-holds c = search needs
