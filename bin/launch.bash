@@ -127,7 +127,7 @@ prepare() {
     for tool in rt flock; do
         command -v "$tool" > /dev/null 2>&1 || fail "$what is not built from these sources yet, and '$tool', which that needs, is not installed"
     done
-    { mkdir -p "$root/target/launch" && : >> "$stamp.lock"; } 2> /dev/null \
+    { mkdir -p "$root/target/launch" && : >> "$root/target/launch/lock"; } 2> /dev/null \
         || fail "$what is not built from these sources yet, and $root/target cannot be written"
     prove_once
 }
