@@ -56,7 +56,8 @@ pub fn assemble(text: &str) -> Result<Assembled, Error> {
         Ok(_) => Ok(Assembled { file, origins }),
         Err(refusal) => {
             let spot = origin(&file, &origins, &refusal).unwrap_or(0);
-            Err(Error::at(text, spot, format!("{refusal}: {}", refusal.cause.sentence())))
+            let error = Error::at(text, spot, format!("{refusal}: {}", refusal.cause.sentence()));
+            Err(Error { refusal: Some(refusal), ..error })
         }
     }
 }
