@@ -57,8 +57,8 @@ const KEYWORDS: [&str; 44] = [
 ];
 
 /// Statements, expressions and types stand inside each other at most so deep. A file's 256 rows of
-/// statements need 256 levels, and an expression in the innermost one, of at most 8 levels, some more.
-pub const LEVELS: usize = 300;
+/// statements, each in braces of its own, need 512 levels, and an expression of 8 levels some more.
+pub const LEVELS: usize = 600;
 
 /// Reads a whole text.
 pub fn parse(text: &str) -> Result<Vec<Item>, Error> {

@@ -235,16 +235,16 @@ fn endless_texts_are_errors_with_line_and_column() {
     let value = |text: String| client(format!("set 5 = {text}"));
     let types: String = (1..100).map(|k| format!("type A{k} = void {{ 1: A{}, 2: A{} }}\n", k - 1, k - 1)).collect();
     for (text, part) in [
-        (client("{".repeat(many)), "line 2, column 308: more than 300 levels"),
+        (client("{".repeat(many)), "line 2, column 608: more than 600 levels"),
         (client("while true do ".repeat(many)), "line 2, column 3598: there are at most 256 E rows"),
-        (client("while $x do ".repeat(many)), "line 2, column 3608: more than 300 levels"),
+        (client("while $x do {".repeat(many)), "line 2, column 3908: more than 600 levels"),
         (client("choice { on receive 1 into 1 then ".repeat(many)), "there are at most 256 B rows"),
-        (client("parallel { ".repeat(many)), "more than 300 levels"),
+        (client("parallel { ".repeat(many)), "more than 600 levels"),
         (client("parallel ".to_string() + &"{} ".repeat(many)), "there are at most 256 B rows"),
         (client("{ ".to_string() + &"nil; ".repeat(many)), "there are at most 256 B rows"),
-        (value("(".repeat(many)), "more than 300 levels"),
-        (value("-".repeat(many)), "more than 300 levels"),
-        (value("not ".repeat(many)), "more than 300 levels"),
+        (value("(".repeat(many)), "more than 600 levels"),
+        (value("-".repeat(many)), "more than 600 levels"),
+        (value("not ".repeat(many)), "more than 600 levels"),
         (value("$x + ".repeat(many)), "there are at most 256 E rows"),
         (value("true and ".repeat(many)), "there are at most 256 E rows"),
         (format!("type A = {}", "void { 1: ".repeat(many)), "line 1, column 2570: there are at most 256 T rows"),

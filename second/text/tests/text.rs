@@ -123,6 +123,21 @@ fn row_numbers_survive_the_round_trip() {
     }
 }
 
+/// 256 rows of statements, each inside the one before it, and an expression of 8 levels.
+#[test]
+fn the_deepest_file_survives_the_round_trip() {
+    let around = ["while $yes do ", "choice { on receive 1 into 1 then ", "parallel {} { ", "{ nil; "];
+    for (around, rows, end) in [(around[0], 1, ""), (around[1], 3, " }"), (around[2], 2, " }"), (around[3], 2, " }")] {
+        let deep = 255 / rows;
+        let inner = "set 5 = -(-(-(-(-(-(-int 1))))))";
+        let statement = [around.repeat(deep), inner.to_string(), end.repeat(deep)].concat();
+        let text = format!("expression $yes = true service 1 {{ input 1: int client {statement} }}");
+        let file = assemble(&text).unwrap_or_else(|error| panic!("{around}: {error}")).file;
+        let back = disassemble(&file).expect("a file that passes 2 to 5");
+        assert!(assemble(&back).unwrap_or_else(|error| panic!("{around}: {error}")).file == file, "{around}");
+    }
+}
+
 #[test]
 fn files_that_break_rules_are_not_disassembled() {
     assert_eq!(disassemble(&[0; 28]).expect_err("no service").number, 3);
