@@ -88,13 +88,22 @@ closure() {
         END { visit(wanted) }' "$root/crates.txt"
 }
 
-# Whether $built is missing, or a source of $crates is newer than its last build here (where there was none, than $built itself).
+# sources WORD..: `find` with these words over the sources of $crates and the folders that they stand in.
+sources() {
+    cd "$root" && find crates.txt "${crates[@]/#/crates/}" \( -type d -o -name '*.rt' -o -name '*.antt' -o -name crates.txt \) "$@"
+} 2> /dev/null
+digest() {
+    sources -type f -exec sha256sum {} + | sort | sha256sum
+}
+
+# Whether $built is missing or made of other sources: some are newer than its last build here, and they are not those of that build.
 stale() {
-    local since=$stamp
     [ -f "$built" ] || return 0
-    [ -e "$since" ] || since=$built
-    [ -n "$(cd "$root" && find crates.txt "${crates[@]/#/crates/}" -newer "$since" \
-        \( -type d -o -name '*.rt' -o -name '*.antt' -o -name crates.txt \) -print -quit 2> /dev/null)" ]
+    if [ -f "$stamp" ]; then
+        [ -n "$(sources -newer "$stamp" -print -quit)" ] && [ "$(digest)" != "$(< "$stamp")" ]
+    else
+        [ -n "$(sources -newer "$built" -print -quit)" ]
+    fi
 }
 
 # Prints `[12/28] typing` for each crate that rt has proved now; keeps all that rt says in a file.
@@ -138,8 +147,8 @@ prove_once() {
     exec {lock}>> "$root/target/launch/lock"
     flock -n "$lock" || { say 'another run is proving; waiting for it'; in_group flock "$lock"; }
     if stale; then
-        say "proving and building $what, ${#crates[@]} crates; this takes some minutes, once, and an ended run is taken up again"
-        : > "$stamp.begun"
+        say "proving and building $what, ${#crates[@]} crates; this takes some minutes, once; a run that is ended is taken up again"
+        digest > "$stamp.begun"
         in_group build && [ -f "$built" ] || { cat "$stamp.log" >&2; fail "$what could not be built"; }
         mv "$stamp.begun" "$stamp"
     fi
