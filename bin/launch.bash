@@ -43,9 +43,9 @@ arguments() {
 # Ends what runs in the background, its whole group where $group is -, and then the launcher by the same signal.
 stop() {
     trap - HUP INT QUIT TERM
-    kill -TERM -- "$group$!"
-    wait "$!"
-    [ -z "$group" ] || kill -KILL -- "-$!"
+    kill -TERM -- "$group${!:-}"
+    wait "${!:-}"
+    [ -z "$group" ] || kill -KILL -- "-${!:-}"
     kill "-$1" "$$"
 } 2> /dev/null
 
@@ -85,22 +85,23 @@ closure() {
         }
         { sub(/#.*/, "") }
         NF == 2 { needs[$1] = $2 }
-        END { visit(wanted) }' "$root/crates.txt"
+        END { visit(wanted) }' "$root/crates.txt" 2> /dev/null
 }
 
-# sources WORD..: `find` with these words over the sources of $crates and the folders that they stand in.
+# sources WORD..: `find` with these words over the sources of $crates.
 sources() {
-    cd "$root" && find crates.txt "${crates[@]/#/crates/}" \( -type d -o -name '*.rt' -o -name '*.antt' -o -name crates.txt \) "$@"
-} 2> /dev/null
+    cd "$root" && find crates.txt "${crates[@]/#/crates/}" \( -name '*.rt' -o -name '*.antt' -o -name crates.txt \) "$@"
+}
 digest() {
-    sources -type f -exec sha256sum {} + | sort | sha256sum
+    sources -exec sha256sum {} + | sort | sha256sum
 }
 
-# Whether $built is missing or made of other sources: some are newer than its last build here, and they are not those of that build.
+# Whether $built is missing or made of other sources: the last build here left a digest of both; where none was here, times tell.
 stale() {
     [ -f "$built" ] || return 0
+    [ -f "$root/crates.txt" ] || return 1
     if [ -f "$stamp" ]; then
-        [ -n "$(sources -newer "$stamp" -print -quit)" ] && [ "$(digest)" != "$(< "$stamp")" ]
+        [ "$(digest; sha256sum < "$built")" != "$(< "$stamp")" ]
     else
         [ -n "$(sources -newer "$built" -print -quit)" ]
     fi
@@ -149,7 +150,7 @@ prove_once() {
     if stale; then
         say "proving and building $what, ${#crates[@]} crates; this takes some minutes, once; a run that is ended is taken up again"
         digest > "$stamp.begun"
-        in_group build && [ -f "$built" ] || { cat "$stamp.log" >&2; fail "$what could not be built"; }
+        in_group build && sha256sum < "$built" >> "$stamp.begun" || { cat "$stamp.log" >&2; fail "$what could not be built"; }
         mv "$stamp.begun" "$stamp"
     fi
     exec {lock}>&-
