@@ -121,13 +121,7 @@ impl Parser<'_> {
         self.scanner.takes_word(word);
         Ok(Some(match word {
             "id" | "location" => {
-                let name = self.name()?;
-                self.scanner.expect("=")?;
-                let number = self.not_zero()?;
-                let names = if word == "id" { &mut self.ids } else { &mut self.locations };
-                if names.insert(name, number).is_some() {
-                    return self.error(spot, "this name is declared already");
-                }
+                self.number_name(spot, word)?;
                 return Ok(None);
             }
             "path" => Item::Path { spot, ids: self.path_ids()? },
@@ -157,6 +151,18 @@ impl Parser<'_> {
             }
             _ => return self.error(spot, "id, location, path, type, node, expression, data or service expected"),
         }))
+    }
+
+    /// `id` or `location`, after that word.
+    fn number_name(&mut self, spot: Spot, word: &str) -> Result<(), Error> {
+        let name = self.name()?;
+        self.scanner.expect("=")?;
+        let number = self.not_zero()?;
+        let names = if word == "id" { &mut self.ids } else { &mut self.locations };
+        if names.insert(name, number).is_some() {
+            return self.error(spot, "this name is declared already");
+        }
+        Ok(())
     }
 
     fn name(&mut self) -> Result<String, Error> {
