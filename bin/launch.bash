@@ -1,10 +1,10 @@
 # What bin/check, bin/part, bin/play and bin/compare share: options, building what is not built yet, running a program for its status.
-# A launcher sets `usage` and `about`, the lines of its --help. Statuses: 0 accepted or done, 1 refused (bin/compare: a difference),
-# 2 usage, unreadable input, missing tool or failed write. A launcher that a signal ends dies of that signal.
+# A launcher sets `usage` and `about`, the lines of its --help, and `self`, its own path. Statuses: 0 accepted or done, 1 refused
+# (bin/compare: a difference), 2 usage, unreadable input, missing tool or failed write. A launcher that a signal ends dies of that signal.
 set +o posix -uo pipefail
 version=0.1.0
-self=bin/$(basename "$(readlink -f "$0")")
-root=$(dirname "$(dirname "$(readlink -f "${BASH_SOURCE[0]}")")")
+root=${self%/*/*}
+self=bin/${self##*/}
 trap 'trap "" PIPE; fail "standard output was closed"' PIPE
 
 say() {
