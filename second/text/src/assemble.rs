@@ -56,7 +56,8 @@ pub fn assemble(text: &str) -> Result<Assembled, Error> {
         Ok(_) => Ok(Assembled { file, origins }),
         Err(refusal) => {
             let spot = origin(&file, &origins, &refusal).unwrap_or(0);
-            Err(Error::at(text, spot, format!("{refusal}: {}", refusal.cause.sentence())))
+            let error = Error::at(text, spot, format!("{refusal}: {}", refusal.cause.sentence()));
+            Err(Error { refusal: Some(refusal), ..error })
         }
     }
 }
@@ -285,20 +286,7 @@ impl Assembler<'_> {
         let mut pending = PendingService { starter: None, client: None };
         for part in parts {
             match part {
-                Part::Operation { spot, label, id, location, request, reply } => {
-                    let slot = self.operations.reserve(spot, label, Section::Operations.limit());
-                    let slot = slot.or_else(|message| self.error(spot, message))?;
-                    let request = self.type_use(&request)?;
-                    let (two_way, reply) = match reply {
-                        Some(reply) => (1, self.type_use(&reply)?),
-                        None => (0, 0),
-                    };
-                    let (direction, location) = location.map_or((0, 0), |location| (1, location));
-                    let service = row as u8;
-                    let operation =
-                        OperationRow { service, direction, two_way, unused: 0, id, location, request, reply };
-                    self.operations.set(slot, operation);
-                }
+                Part::Operation { .. } => self.operation_row(row as u8, part)?,
                 Part::Starter(statement) => {
                     if !matches!(statement.kind, StatementKind::Choice(_)) {
                         return self.error(statement.spot, "a starter is a choice");
@@ -317,6 +305,21 @@ impl Assembler<'_> {
             }
         }
         self.services.push(pending);
+        Ok(())
+    }
+
+    fn operation_row(&mut self, service: u8, part: Part) -> Result<(), Error> {
+        let Part::Operation { spot, label, id, location, request, reply } = part else { return Ok(()) };
+        let slot = self.operations.reserve(spot, label, Section::Operations.limit());
+        let slot = slot.or_else(|message| self.error(spot, message))?;
+        let request = self.type_use(&request)?;
+        let (two_way, reply) = match reply {
+            Some(reply) => (1, self.type_use(&reply)?),
+            None => (0, 0),
+        };
+        let (direction, location) = location.map_or((0, 0), |location| (1, location));
+        let operation = OperationRow { service, direction, two_way, unused: 0, id, location, request, reply };
+        self.operations.set(slot, operation);
         Ok(())
     }
 
@@ -353,23 +356,10 @@ impl Assembler<'_> {
         let row = self.reserve(statement.spot, statement.label)?;
         let (kind, fields) = match &statement.kind {
             StatementKind::Nil => (0, [0; 4]),
-            StatementKind::Receive { operation, into } => {
-                (1, [self.operation(service, operation)?, self.path(into)?, 0, 0])
-            }
-            StatementKind::Answer { operation, into, body, reply } => {
-                let operation = self.operation(service, operation)?;
-                let into = self.path(into)?;
-                let body = self.statement(service, body)?;
-                (2, [operation, into, self.path(reply)?, body])
-            }
-            StatementKind::Send { operation, expression } => {
-                (3, [self.operation(service, operation)?, self.expression(expression)?, 0, 0])
-            }
-            StatementKind::Ask { operation, expression, into } => {
-                let operation = self.operation(service, operation)?;
-                let expression = self.expression(expression)?;
-                (4, [operation, expression, self.path(into)?, 0])
-            }
+            StatementKind::Receive { .. }
+            | StatementKind::Answer { .. }
+            | StatementKind::Send { .. }
+            | StatementKind::Ask { .. } => self.exchange(service, &statement.kind)?,
             StatementKind::If { condition, then, otherwise } => {
                 let condition = self.expression(condition)?;
                 let then = self.statement(service, then)?;
@@ -398,6 +388,30 @@ impl Assembler<'_> {
         };
         self.behaviours.set(row, BehaviourRow { kind, unused: 0, fields });
         Ok(row)
+    }
+
+    /// Kind and fields of a statement that names an operation.
+    fn exchange(&mut self, service: usize, kind: &StatementKind) -> Result<(u8, [u16; 4]), Error> {
+        Ok(match kind {
+            StatementKind::Receive { operation, into } => {
+                (1, [self.operation(service, operation)?, self.path(into)?, 0, 0])
+            }
+            StatementKind::Answer { operation, into, body, reply } => {
+                let operation = self.operation(service, operation)?;
+                let into = self.path(into)?;
+                let body = self.statement(service, body)?;
+                (2, [operation, into, self.path(reply)?, body])
+            }
+            StatementKind::Send { operation, expression } => {
+                (3, [self.operation(service, operation)?, self.expression(expression)?, 0, 0])
+            }
+            StatementKind::Ask { operation, expression, into } => {
+                let operation = self.operation(service, operation)?;
+                let expression = self.expression(expression)?;
+                (4, [operation, expression, self.path(into)?, 0])
+            }
+            _ => unreachable!("no operation is named"),
+        })
     }
 
     /// Branches are consecutive rows; the first one's number.

@@ -1,6 +1,7 @@
 //! From a network file to a text that assembles to exactly that file.
 
 use std::fmt::Write;
+use std::ops::Range;
 
 use second::network::{Behaviour, Direction, Expression};
 use second::tables::Tables;
@@ -375,82 +376,83 @@ impl Printer<'_> {
         }
     }
 
+    fn put(&mut self, text: impl AsRef<str>) {
+        self.text.push_str(text.as_ref());
+    }
+
     fn statement(&mut self, row: usize) {
         use Behaviour::*;
-        let label = self.label(row);
-        self.text.push_str(&label);
+        self.put(self.label(row));
         match self.network.behaviours[row].clone() {
-            Nil => self.text.push_str("nil"),
-            OneWay { operation, into } => {
-                let text = format!("receive {} into {}", self.input(operation), self.path(into));
-                self.text.push_str(&text);
+            Nil | OneWay { .. } | Notification { .. } | SolicitResponse { .. } | Assign { .. } => {
+                self.put(self.single(row))
             }
             RequestResponse { operation, into, reply, body } => {
-                let text = format!("answer {} into {} do ", self.input(operation), self.path(into));
-                self.text.push_str(&text);
+                self.put(format!("answer {} into {} do ", self.input(operation), self.path(into)));
                 self.group(body);
-                let text = format!(" reply {}", self.path(reply));
-                self.text.push_str(&text);
-            }
-            Notification { operation, expression } => {
-                let text = format!("send {} with {}", self.output(operation), self.expression(expression));
-                self.text.push_str(&text);
-            }
-            SolicitResponse { operation, expression, into } => {
-                let text = format!(
-                    "ask {} with {} into {}",
-                    self.output(operation),
-                    self.expression(expression),
-                    self.path(into)
-                );
-                self.text.push_str(&text);
+                self.put(format!(" reply {}", self.path(reply)));
             }
             If { condition, then, otherwise } => {
-                let text = format!("if {} then ", self.expression(condition));
-                self.text.push_str(&text);
+                self.put(format!("if {} then ", self.expression(condition)));
                 self.group(then);
-                self.text.push_str(" else ");
+                self.put(" else ");
                 self.group(otherwise);
             }
             While { condition, body } => {
-                let text = format!("while {} do ", self.expression(condition));
-                self.text.push_str(&text);
+                self.put(format!("while {} do ", self.expression(condition)));
                 self.group(body);
             }
             Sequence(left, right) => self.sequence(left, right),
-            Parallel(left, right) => {
-                self.text.push_str("parallel");
-                self.side(left);
-                let mut right = right;
-                while let (Parallel(left, next), false) = (&self.network.behaviours[right], self.detail.behaviours) {
-                    self.side(*left);
-                    right = *next;
-                }
-                self.side(right);
-            }
-            Assign { path, expression } => {
-                let text = format!("set {} = {}", self.path(path), self.expression(expression));
-                self.text.push_str(&text);
-            }
-            Choice { branches } => {
-                self.text.push_str("choice {\n");
-                self.depth += 1;
-                for branch in branches {
-                    self.indent();
-                    self.statement(branch);
-                    self.text.push('\n');
-                }
-                self.depth -= 1;
-                self.indent();
-                self.text.push('}');
-            }
+            Parallel(left, right) => self.parallel(left, right),
+            Choice { branches } => self.choice(branches),
             Branch { input, then } => {
-                self.text.push_str("on ");
+                self.put("on ");
                 self.statement(input);
-                self.text.push_str(" then ");
+                self.put(" then ");
                 self.group(then);
             }
         }
+    }
+
+    /// A statement that holds no other.
+    fn single(&self, row: usize) -> String {
+        use Behaviour::*;
+        match self.network.behaviours[row] {
+            OneWay { operation, into } => format!("receive {} into {}", self.input(operation), self.path(into)),
+            Notification { operation, expression } => {
+                format!("send {} with {}", self.output(operation), self.expression(expression))
+            }
+            SolicitResponse { operation, expression, into } => {
+                let (output, expression) = (self.output(operation), self.expression(expression));
+                format!("ask {output} with {expression} into {}", self.path(into))
+            }
+            Assign { path, expression } => format!("set {} = {}", self.path(path), self.expression(expression)),
+            _ => "nil".to_string(),
+        }
+    }
+
+    /// Without labels a parallel to the right goes on with its sides.
+    fn parallel(&mut self, left: usize, mut right: usize) {
+        self.put("parallel");
+        self.side(left);
+        while let (Behaviour::Parallel(left, next), false) = (&self.network.behaviours[right], self.detail.behaviours) {
+            self.side(*left);
+            right = *next;
+        }
+        self.side(right);
+    }
+
+    fn choice(&mut self, branches: Range<usize>) {
+        self.put("choice {\n");
+        self.depth += 1;
+        for branch in branches {
+            self.indent();
+            self.statement(branch);
+            self.put("\n");
+        }
+        self.depth -= 1;
+        self.indent();
+        self.put("}");
     }
 
     /// Without labels a sequence to the right goes on in the same braces.

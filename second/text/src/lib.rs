@@ -11,4 +11,4 @@ pub mod syntax;
 pub use assemble::{assemble, Assembled};
 pub use disassemble::disassemble;
 pub use rows::rows;
-pub use source::Error;
+pub use source::{decode, Error};

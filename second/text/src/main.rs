@@ -1,66 +1,125 @@
-//! `net`: networks as text.
-//!
-//! net assemble TEXT FILE      makes a network file of a text
-//! net disassemble FILE        prints the text of a network file
-//! net check TEXT              assembles and checks; names the line of a refusal
-//! net rows FILE               lists services, operations and behaviours with their row numbers
+//! `net`: networks as text. Statuses: 0 accepted or done, 1 refused, 2 anything else that is wrong.
 
+mod files;
+
+use std::ffi::{OsStr, OsString};
+use std::io::Write;
 use std::process::ExitCode;
 
-use net::{assemble, disassemble, rows};
+use files::Input;
+use net::{assemble, decode, disassemble, rows, Error};
+use second::tables::LONGEST;
+use second::Refusal;
+
+const USAGE: &str = "net assemble TEXT FILE | net disassemble FILE | net check TEXT | net rows FILE";
+
+const HELP: &str = "
+net assemble TEXT FILE      makes a network file of a text
+net disassemble FILE        prints the text of a network file
+net check TEXT              assembles and checks; names the line of a refusal
+net rows FILE               lists services, operations and behaviours with their row numbers
+
+- is standard input or output. Status: 0 accepted or done, 1 refused, 2 anything else that is wrong.
+";
+
+/// No text is so long.
+const LONGEST_TEXT: usize = 1 << 24;
+
+const ACCEPTED: u8 = 0;
+const REFUSED: u8 = 1;
+const WRONG: u8 = 2;
+
+/// A status and what goes to standard error.
+struct Failure(u8, String);
+
+impl From<String> for Failure {
+    fn from(message: String) -> Failure {
+        Failure(WRONG, message)
+    }
+}
 
 fn main() -> ExitCode {
-    let arguments: Vec<String> = std::env::args().skip(1).collect();
-    let words: Vec<&str> = arguments.iter().map(String::as_str).collect();
-    let result = match words[..] {
-        ["assemble", text, file] => run_assemble(text, file),
-        ["disassemble", file] => run_disassemble(file),
-        ["check", text] => run_check(text),
-        ["rows", file] => run_rows(file),
-        _ => Err("net assemble TEXT FILE | net disassemble FILE | net check TEXT | net rows FILE".to_string()),
+    let status = run(std::env::args_os().skip(1)).unwrap_or_else(|Failure(status, message)| {
+        let _ = writeln!(std::io::stderr(), "{message}");
+        status
+    });
+    ExitCode::from(status)
+}
+
+fn run(mut arguments: impl Iterator<Item = OsString>) -> Result<u8, Failure> {
+    let mut words = Vec::new();
+    while let Some(word) = arguments.next() {
+        match word.to_str() {
+            Some("--") => words.extend(arguments.by_ref()),
+            Some("--help") => return tell(&format!("usage: {USAGE}\n{HELP}")),
+            Some("--version") => return tell(concat!("net ", env!("CARGO_PKG_VERSION"), "\n")),
+            _ if word != "-" && word.as_encoded_bytes().starts_with(b"-") => {
+                let word = word.to_string_lossy();
+                return Err(format!("net: unknown option '{word}'\nusage: {USAGE}").into());
+            }
+            _ => words.push(word),
+        }
+    }
+    let words: Vec<&OsStr> = words.iter().map(OsString::as_os_str).collect();
+    match words.split_first().map(|(command, names)| (command.to_str(), names)) {
+        Some((Some("assemble"), [text, file])) => run_assemble(text, file),
+        Some((Some("disassemble"), [file])) => print_of(file, disassemble),
+        Some((Some("check"), [text])) => run_check(text),
+        Some((Some("rows"), [file])) => print_of(file, rows),
+        _ => Err(format!("net: a command and its files expected\nusage: {USAGE}").into()),
+    }
+}
+
+/// Prints what is made of no input.
+fn tell(text: &str) -> Result<u8, Failure> {
+    files::write(OsStr::new("-"), text.as_bytes(), &Input::default())?;
+    Ok(ACCEPTED)
+}
+
+fn read_text(name: &OsStr) -> Result<Input, Failure> {
+    let input = files::read(name, LONGEST_TEXT)?;
+    if input.bytes.len() > LONGEST_TEXT {
+        return Err(format!("{}: a text has at most {LONGEST_TEXT} bytes", input.name).into());
+    }
+    Ok(input)
+}
+
+fn in_text(input: &Input, error: Error) -> Failure {
+    let status = if error.refusal.is_some() { REFUSED } else { WRONG };
+    Failure(status, format!("{}: {error}", input.name))
+}
+
+fn run_assemble(name: &OsStr, file: &OsStr) -> Result<u8, Failure> {
+    let input = read_text(name)?;
+    let made = decode(&input.bytes).and_then(assemble).map_err(|error| in_text(&input, error))?;
+    files::write(file, &made.file, &input)?;
+    Ok(ACCEPTED)
+}
+
+fn print_of(name: &OsStr, make: fn(&[u8]) -> Result<String, Refusal>) -> Result<u8, Failure> {
+    let input = files::read(name, LONGEST)?;
+    let text = make(&input.bytes)
+        .map_err(|refusal| Failure(REFUSED, format!("{}: {refusal}: {}", input.name, refusal.cause.sentence())))?;
+    files::write(OsStr::new("-"), text.as_bytes(), &input)?;
+    Ok(ACCEPTED)
+}
+
+fn run_check(name: &OsStr) -> Result<u8, Failure> {
+    let input = read_text(name)?;
+    let text = decode(&input.bytes).map_err(|error| in_text(&input, error))?;
+    let (verdict, place) = match assemble(text) {
+        Ok(made) => {
+            let verdict = second::check(&made.file);
+            let place = verdict.as_ref().err().and_then(|refusal| made.origin(text, refusal));
+            (verdict, place)
+        }
+        Err(Error { refusal: Some(refusal), line, column, .. }) => (Err(refusal), Some((line, column))),
+        Err(error) => return Err(in_text(&input, error)),
     };
-    match result {
-        Ok(true) => ExitCode::SUCCESS,
-        Ok(false) => ExitCode::FAILURE,
-        Err(message) => {
-            eprintln!("{message}");
-            ExitCode::from(2)
-        }
+    let mut report = second::report(&verdict);
+    if let (Err(refusal), Some((line, column))) = (&verdict, place) {
+        report += &format!("{}: line {line}, column {column}: {}\n", input.name, refusal.cause.sentence());
     }
-}
-
-fn read_text(name: &str) -> Result<String, String> {
-    std::fs::read_to_string(name).map_err(|error| format!("{name}: {error}"))
-}
-
-fn run_assemble(name: &str, file: &str) -> Result<bool, String> {
-    let text = read_text(name)?;
-    let made = assemble(&text).map_err(|error| format!("{name}: {error}"))?;
-    std::fs::write(file, made.file).map_err(|error| format!("{file}: {error}"))?;
-    Ok(true)
-}
-
-fn run_disassemble(name: &str) -> Result<bool, String> {
-    let file = std::fs::read(name).map_err(|error| format!("{name}: {error}"))?;
-    print!("{}", disassemble(&file).map_err(|refusal| format!("{name}: {refusal}: {}", refusal.cause.sentence()))?);
-    Ok(true)
-}
-
-fn run_rows(name: &str) -> Result<bool, String> {
-    let file = std::fs::read(name).map_err(|error| format!("{name}: {error}"))?;
-    print!("{}", rows(&file).map_err(|refusal| format!("{name}: {refusal}: {}", refusal.cause.sentence()))?);
-    Ok(true)
-}
-
-fn run_check(name: &str) -> Result<bool, String> {
-    let text = read_text(name)?;
-    let made = assemble(&text).map_err(|error| format!("{name}: {error}"))?;
-    let verdict = second::check(&made.file);
-    print!("{}", second::report(&verdict));
-    if let Err(refusal) = &verdict {
-        if let Some((line, column)) = made.origin(&text, refusal) {
-            println!("{name}: line {line}, column {column}: {}", refusal.cause.sentence());
-        }
-    }
-    Ok(verdict.is_ok())
+    files::write(OsStr::new("-"), report.as_bytes(), &input)?;
+    Ok(if verdict.is_ok() { ACCEPTED } else { REFUSED })
 }

@@ -2,6 +2,7 @@
 
 use std::collections::HashMap;
 
+use second::tables::Section;
 use second::value::LONGEST;
 use second::Basic;
 
@@ -55,10 +56,20 @@ const KEYWORDS: [&str; 44] = [
     "void",
 ];
 
+/// Statements, expressions and types stand inside each other at most so deep. A file's 256 rows of
+/// statements, each in braces of its own, need 512 levels, and an expression of 8 levels some more.
+pub const LEVELS: usize = 600;
+
 /// Reads a whole text.
 pub fn parse(text: &str) -> Result<Vec<Item>, Error> {
-    let mut parser =
-        Parser { scanner: Scanner::new(text), ids: HashMap::new(), locations: HashMap::new(), types: HashMap::new() };
+    let mut parser = Parser {
+        scanner: Scanner::new(text),
+        ids: HashMap::new(),
+        locations: HashMap::new(),
+        types: HashMap::new(),
+        level: 0,
+        rows: [0; 7],
+    };
     let mut items = Vec::new();
     while !parser.scanner.ended() {
         items.extend(parser.item()?);
@@ -72,11 +83,36 @@ struct Parser<'a> {
     locations: HashMap<String, u16>,
     /// Types that a child may copy.
     types: HashMap<String, Tree>,
+    /// How deep the next token stands.
+    level: usize,
+    /// How many rows of T, E and B the text makes so far.
+    rows: [usize; 7],
 }
 
 impl Parser<'_> {
     fn error<T>(&self, spot: Spot, message: impl Into<String>) -> Result<T, Error> {
         self.scanner.error(spot, message)
+    }
+
+    /// Reads something that stands inside something else.
+    fn inside<T>(&mut self, read: fn(&mut Self) -> Result<T, Error>) -> Result<T, Error> {
+        if self.level == LEVELS {
+            let spot = self.scanner.spot();
+            return self.error(spot, format!("more than {LEVELS} levels inside each other"));
+        }
+        self.level += 1;
+        let result = read(self);
+        self.level -= 1;
+        result
+    }
+
+    /// Counts rows that the text makes. A text that makes more than a file can have is read no further.
+    fn count(&mut self, section: Section, spot: Spot, rows: usize) -> Result<(), Error> {
+        self.rows[section as usize] += rows;
+        if self.rows[section as usize] > section.limit() {
+            return self.error(spot, format!("there are at most {} {} rows", section.limit(), section.letter()));
+        }
+        Ok(())
     }
 
     fn item(&mut self) -> Result<Option<Item>, Error> {
@@ -85,13 +121,7 @@ impl Parser<'_> {
         self.scanner.takes_word(word);
         Ok(Some(match word {
             "id" | "location" => {
-                let name = self.name()?;
-                self.scanner.expect("=")?;
-                let number = self.not_zero()?;
-                let names = if word == "id" { &mut self.ids } else { &mut self.locations };
-                if names.insert(name, number).is_some() {
-                    return self.error(spot, "this name is declared already");
-                }
+                self.number_name(spot, word)?;
                 return Ok(None);
             }
             "path" => Item::Path { spot, ids: self.path_ids()? },
@@ -121,6 +151,18 @@ impl Parser<'_> {
             }
             _ => return self.error(spot, "id, location, path, type, node, expression, data or service expected"),
         }))
+    }
+
+    /// `id` or `location`, after that word.
+    fn number_name(&mut self, spot: Spot, word: &str) -> Result<(), Error> {
+        let name = self.name()?;
+        self.scanner.expect("=")?;
+        let number = self.not_zero()?;
+        let names = if word == "id" { &mut self.ids } else { &mut self.locations };
+        if names.insert(name, number).is_some() {
+            return self.error(spot, "this name is declared already");
+        }
+        Ok(())
     }
 
     fn name(&mut self) -> Result<String, Error> {
@@ -185,7 +227,7 @@ impl Parser<'_> {
     }
 
     /// `X#n`: row n of section X.
-    fn row(&mut self, section: &str) -> Result<Option<u16>, Error> {
+    fn row_named(&mut self, section: &str) -> Result<Option<u16>, Error> {
         if self.scanner.takes(&format!("{section}#")) {
             return self.scanner.expect_number().map(Some);
         }
@@ -193,7 +235,7 @@ impl Parser<'_> {
     }
 
     fn path(&mut self) -> Result<PathUse, Error> {
-        if let Some(row) = self.row("P")? {
+        if let Some(row) = self.row_named("P")? {
             return Ok(PathUse::Row(row));
         }
         let spot = self.scanner.spot();
@@ -214,28 +256,12 @@ impl Parser<'_> {
                 "" => return self.error(spot, "a basic type or the name of a type expected"),
                 _ => self.name()?,
             };
-            return match self.types.get(&name) {
-                Some(tree) => Ok(Tree { spot, ..tree.clone() }),
-                None => self.error(spot, format!("no type `{name}` is declared")),
-            };
+            return self.copied_tree(spot, &name);
         };
+        self.count(Section::Types, spot, 1)?;
         let mut children = Vec::new();
         if self.scanner.takes("{") {
-            while !self.scanner.takes("}") {
-                let id_spot = self.scanner.spot();
-                let id = self.id()?;
-                if children.iter().any(|child: &Child| child.id == id) {
-                    return self.error(id_spot, "this child id stands here already");
-                }
-                let optional = self.scanner.takes("?");
-                self.scanner.expect(":")?;
-                let tree = Tree { spot: id_spot, ..self.tree()? };
-                children.push(Child { id, optional, tree });
-                if !self.scanner.takes(",") {
-                    self.scanner.expect("}")?;
-                    break;
-                }
-            }
+            children = self.children()?;
             if children.is_empty() {
                 return self.error(spot, "a list of children is not empty");
             }
@@ -244,7 +270,37 @@ impl Parser<'_> {
         Ok(Tree { spot, basic, children })
     }
 
+    fn copied_tree(&mut self, spot: Spot, name: &str) -> Result<Tree, Error> {
+        let Some(rows) = self.types.get(name).map(Tree::rows) else {
+            return self.error(spot, format!("no type `{name}` is declared"));
+        };
+        self.count(Section::Types, spot, rows)?;
+        Ok(Tree { spot, ..self.types[name].clone() })
+    }
+
+    /// The children of a type up to the closing brace.
+    fn children(&mut self) -> Result<Vec<Child>, Error> {
+        let mut children: Vec<Child> = Vec::new();
+        while !self.scanner.takes("}") {
+            let spot = self.scanner.spot();
+            let id = self.id()?;
+            if children.iter().any(|child| child.id == id) {
+                return self.error(spot, "this child id stands here already");
+            }
+            let optional = self.scanner.takes("?");
+            self.scanner.expect(":")?;
+            let tree = Tree { spot, ..self.inside(Self::tree)? };
+            children.push(Child { id, optional, tree });
+            if !self.scanner.takes(",") {
+                self.scanner.expect("}")?;
+                break;
+            }
+        }
+        Ok(children)
+    }
+
     fn node(&mut self, spot: Spot) -> Result<Item, Error> {
+        self.count(Section::Types, spot, 1)?;
         let name = self.name()?;
         self.scanner.expect("=")?;
         // The only row whose id may be 0 by number: a root, or a row that nothing names.
@@ -259,7 +315,7 @@ impl Parser<'_> {
         let (mut first_child, mut child_count) = (0, 0);
         if self.scanner.takes_word("children") {
             let row_spot = self.scanner.spot();
-            let Some(row) = self.row("T")? else { return self.error(row_spot, "`T#` and a row number expected") };
+            let Some(row) = self.row_named("T")? else { return self.error(row_spot, "`T#` and a row number expected") };
             (first_child, child_count) = (row, self.scanner.expect_number()?);
         }
         Ok(Item::Node { spot, name, id, optional, basic, first_child, child_count })
@@ -321,7 +377,7 @@ impl Parser<'_> {
 
     fn type_use(&mut self) -> Result<TypeUse, Error> {
         let spot = self.scanner.spot();
-        if let Some(row) = self.row("T")? {
+        if let Some(row) = self.row_named("T")? {
             return Ok(TypeUse::Row(row));
         }
         let word = self.scanner.peek_word();
@@ -332,6 +388,10 @@ impl Parser<'_> {
     }
 
     fn statement(&mut self) -> Result<Statement, Error> {
+        self.inside(Self::statement_here)
+    }
+
+    fn statement_here(&mut self) -> Result<Statement, Error> {
         let spot = self.scanner.spot();
         let label = self.label()?;
         if self.scanner.comes("{") {
@@ -340,70 +400,81 @@ impl Parser<'_> {
         let word_spot = self.scanner.spot();
         let word = self.scanner.peek_word();
         self.scanner.takes_word(word);
-        let kind =
-            match word {
-                "nil" => StatementKind::Nil,
-                "receive" => {
-                    let operation = self.input_use()?;
-                    self.scanner.expect_word("into")?;
-                    StatementKind::Receive { operation, into: self.path()? }
-                }
-                "answer" => {
-                    let operation = self.input_use()?;
-                    self.scanner.expect_word("into")?;
-                    let into = self.path()?;
-                    self.scanner.expect_word("do")?;
-                    let body = Box::new(self.statement()?);
-                    self.scanner.expect_word("reply")?;
-                    StatementKind::Answer { operation, into, body, reply: self.path()? }
-                }
-                "send" => {
-                    let operation = self.output_use()?;
-                    self.scanner.expect_word("with")?;
-                    StatementKind::Send { operation, expression: self.expression()? }
-                }
-                "ask" => {
-                    let operation = self.output_use()?;
-                    self.scanner.expect_word("with")?;
-                    let expression = self.expression()?;
-                    self.scanner.expect_word("into")?;
-                    StatementKind::Ask { operation, expression, into: self.path()? }
-                }
-                "if" => {
-                    let condition = self.expression()?;
-                    self.scanner.expect_word("then")?;
-                    let then = Box::new(self.statement()?);
-                    self.scanner.expect_word("else")?;
-                    StatementKind::If { condition, then, otherwise: Box::new(self.statement()?) }
-                }
-                "while" => {
-                    let condition = self.expression()?;
-                    self.scanner.expect_word("do")?;
-                    StatementKind::While { condition, body: Box::new(self.statement()?) }
-                }
-                "parallel" => return self.parallel(spot, label),
-                "set" => {
-                    let path = self.path()?;
-                    self.scanner.expect("=")?;
-                    StatementKind::Assign { path, expression: self.expression()? }
-                }
-                "choice" => {
-                    self.scanner.expect("{")?;
-                    let mut branches = Vec::new();
-                    while !self.scanner.takes("}") {
-                        branches.push(self.branch()?);
-                    }
-                    if !(1..=8).contains(&branches.len()) {
-                        return self.error(word_spot, "a choice has 1 to 8 branches");
-                    }
-                    StatementKind::Choice(branches)
-                }
-                _ => return self.error(
-                    word_spot,
-                    "a statement expected: nil, receive, answer, send, ask, if, while, parallel, set, choice or `{`",
-                ),
-            };
+        let kind = match word {
+            "nil" => StatementKind::Nil,
+            "receive" | "answer" => self.input(word)?,
+            "send" | "ask" => self.output(word)?,
+            "if" | "while" => self.conditional(word)?,
+            "parallel" => return self.parallel(spot, label),
+            "set" => {
+                let path = self.path()?;
+                self.scanner.expect("=")?;
+                StatementKind::Assign { path, expression: self.expression()? }
+            }
+            "choice" => self.choice(word_spot)?,
+            _ => {
+                let words = "nil, receive, answer, send, ask, if, while, parallel, set, choice or `{`";
+                return self.error(word_spot, format!("a statement expected: {words}"));
+            }
+        };
+        self.statement_row(spot, label, kind)
+    }
+
+    /// A statement that is a row.
+    fn statement_row(&mut self, spot: Spot, label: Option<u16>, kind: StatementKind) -> Result<Statement, Error> {
+        self.count(Section::Behaviours, spot, 1)?;
         Ok(Statement { spot, label, kind })
+    }
+
+    /// `receive` or `answer`, after that word.
+    fn input(&mut self, word: &str) -> Result<StatementKind, Error> {
+        let operation = self.input_use()?;
+        self.scanner.expect_word("into")?;
+        let into = self.path()?;
+        if word == "receive" {
+            return Ok(StatementKind::Receive { operation, into });
+        }
+        self.scanner.expect_word("do")?;
+        let body = Box::new(self.statement()?);
+        self.scanner.expect_word("reply")?;
+        Ok(StatementKind::Answer { operation, into, body, reply: self.path()? })
+    }
+
+    /// `send` or `ask`, after that word.
+    fn output(&mut self, word: &str) -> Result<StatementKind, Error> {
+        let operation = self.output_use()?;
+        self.scanner.expect_word("with")?;
+        let expression = self.expression()?;
+        if word == "send" {
+            return Ok(StatementKind::Send { operation, expression });
+        }
+        self.scanner.expect_word("into")?;
+        Ok(StatementKind::Ask { operation, expression, into: self.path()? })
+    }
+
+    /// `if` or `while`, after that word.
+    fn conditional(&mut self, word: &str) -> Result<StatementKind, Error> {
+        let condition = self.expression()?;
+        if word == "while" {
+            self.scanner.expect_word("do")?;
+            return Ok(StatementKind::While { condition, body: Box::new(self.statement()?) });
+        }
+        self.scanner.expect_word("then")?;
+        let then = Box::new(self.statement()?);
+        self.scanner.expect_word("else")?;
+        Ok(StatementKind::If { condition, then, otherwise: Box::new(self.statement()?) })
+    }
+
+    fn choice(&mut self, spot: Spot) -> Result<StatementKind, Error> {
+        self.scanner.expect("{")?;
+        let mut branches = Vec::new();
+        while !self.scanner.takes("}") {
+            branches.push(self.branch()?);
+        }
+        if !(1..=8).contains(&branches.len()) {
+            return self.error(spot, "a choice has 1 to 8 branches");
+        }
+        Ok(StatementKind::Choice(branches))
     }
 
     fn branch(&mut self) -> Result<Branch, Error> {
@@ -416,6 +487,7 @@ impl Parser<'_> {
             return self.error(input_spot, "receive or answer expected");
         }
         self.scanner.expect_word("then")?;
+        self.count(Section::Behaviours, spot, 1)?;
         Ok(Branch { spot, label, input, then: self.statement()? })
     }
 
@@ -448,7 +520,7 @@ impl Parser<'_> {
     }
 
     fn join(
-        &self,
+        &mut self,
         spot: Spot,
         label: Option<u16>,
         mut statements: Vec<Statement>,
@@ -458,21 +530,17 @@ impl Parser<'_> {
             return self.error(spot, "a row label stands before exactly two statements");
         }
         let Some(mut joined) = statements.pop() else {
-            return Ok(Statement { spot, label: None, kind: StatementKind::Nil });
+            return self.statement_row(spot, None, StatementKind::Nil);
         };
         while let Some(before) = statements.pop() {
-            let outermost = statements.is_empty();
-            joined = Statement {
-                spot: if outermost { spot } else { before.spot },
-                label: if outermost { label } else { None },
-                kind: pair(Box::new(before), Box::new(joined)),
-            };
+            let (spot, label) = if statements.is_empty() { (spot, label) } else { (before.spot, None) };
+            joined = self.statement_row(spot, label, pair(Box::new(before), Box::new(joined)))?;
         }
         Ok(joined)
     }
 
     fn input_use(&mut self) -> Result<OperationUse, Error> {
-        if let Some(row) = self.row("O")? {
+        if let Some(row) = self.row_named("O")? {
             return Ok(OperationUse::Row(row));
         }
         let spot = self.scanner.spot();
@@ -480,7 +548,7 @@ impl Parser<'_> {
     }
 
     fn output_use(&mut self) -> Result<OperationUse, Error> {
-        if let Some(row) = self.row("O")? {
+        if let Some(row) = self.row_named("O")? {
             return Ok(OperationUse::Row(row));
         }
         let spot = self.scanner.spot();
@@ -494,7 +562,7 @@ impl Parser<'_> {
         let mut left = self.negation()?;
         while self.scanner.takes_word("and") {
             let right = self.negation()?;
-            left = binary(9, left, right);
+            left = self.binary(9, left, right)?;
         }
         Ok(left)
     }
@@ -502,8 +570,8 @@ impl Parser<'_> {
     fn negation(&mut self) -> Result<Expression, Error> {
         let spot = self.scanner.spot();
         if self.scanner.takes_word("not") {
-            let operand = Box::new(self.negation()?);
-            return Ok(Expression { spot, kind: ExpressionKind::Unary(3, operand) });
+            let operand = Box::new(self.inside(Self::negation)?);
+            return self.expression_row(spot, ExpressionKind::Unary(3, operand));
         }
         self.comparison()
     }
@@ -518,7 +586,7 @@ impl Parser<'_> {
             return Ok(left);
         };
         let right = self.sum()?;
-        Ok(binary(kind, left, right))
+        self.binary(kind, left, right)
     }
 
     fn sum(&mut self) -> Result<Expression, Error> {
@@ -532,15 +600,15 @@ impl Parser<'_> {
                 return Ok(left);
             };
             let right = self.signed()?;
-            left = binary(kind, left, right);
+            left = self.binary(kind, left, right)?;
         }
     }
 
     fn signed(&mut self) -> Result<Expression, Error> {
         let spot = self.scanner.spot();
         if self.scanner.takes("-") {
-            let operand = Box::new(self.signed()?);
-            return Ok(Expression { spot, kind: ExpressionKind::Unary(4, operand) });
+            let operand = Box::new(self.inside(Self::signed)?);
+            return self.expression_row(spot, ExpressionKind::Unary(4, operand));
         }
         self.primary()
     }
@@ -548,7 +616,7 @@ impl Parser<'_> {
     fn primary(&mut self) -> Result<Expression, Error> {
         let spot = self.scanner.spot();
         if self.scanner.takes("(") {
-            let inner = self.expression()?;
+            let inner = self.inside(Self::expression)?;
             self.scanner.expect(")")?;
             return Ok(inner);
         }
@@ -556,17 +624,29 @@ impl Parser<'_> {
             return Ok(Expression { spot, kind: ExpressionKind::Named(self.name()?) });
         }
         if self.scanner.takes_word("present") {
-            return Ok(Expression { spot, kind: ExpressionKind::Present(self.path()?) });
+            let path = self.path()?;
+            return self.expression_row(spot, ExpressionKind::Present(path));
         }
         if let Some((basic, bytes)) = self.constant()? {
             let start = if self.scanner.takes_word("at") { Some(self.scanner.expect_number()?) } else { None };
-            return Ok(Expression { spot, kind: ExpressionKind::Constant { basic, bytes, start } });
+            return self.expression_row(spot, ExpressionKind::Constant { basic, bytes, start });
         }
         let next = self.scanner.rest().chars().next();
         if !next.is_some_and(|sign| sign.is_ascii_alphanumeric() || sign == '_') {
             return self.error(spot, "an expression expected");
         }
-        Ok(Expression { spot, kind: ExpressionKind::Path(self.path()?) })
+        let path = self.path()?;
+        self.expression_row(spot, ExpressionKind::Path(path))
+    }
+
+    /// An expression that is a row.
+    fn expression_row(&mut self, spot: Spot, kind: ExpressionKind) -> Result<Expression, Error> {
+        self.count(Section::Expressions, spot, 1)?;
+        Ok(Expression { spot, kind })
+    }
+
+    fn binary(&mut self, kind: u8, left: Expression, right: Expression) -> Result<Expression, Error> {
+        self.expression_row(left.spot, ExpressionKind::Binary(kind, Box::new(left), Box::new(right)))
     }
 
     fn constant(&mut self) -> Result<Option<(Basic, Vec<u8>)>, Error> {
@@ -660,8 +740,4 @@ impl Parser<'_> {
             }
         }
     }
-}
-
-fn binary(kind: u8, left: Expression, right: Expression) -> Expression {
-    Expression { spot: left.spot, kind: ExpressionKind::Binary(kind, Box::new(left), Box::new(right)) }
 }

@@ -2,6 +2,8 @@
 
 use std::fmt;
 
+use second::Refusal;
+
 /// A place in the text, as a byte offset.
 pub type Spot = usize;
 
@@ -12,12 +14,14 @@ pub struct Error {
     /// From 1, in characters.
     pub column: usize,
     pub message: String,
+    /// The text can be read, and its rows break a rule of 2 to 5.
+    pub refusal: Option<Refusal>,
 }
 
 impl Error {
     pub fn at(text: &str, spot: Spot, message: impl Into<String>) -> Error {
         let (line, column) = line_and_column(text, spot);
-        Error { line, column, message: message.into() }
+        Error { line, column, message: message.into(), refusal: None }
     }
 }
 
@@ -31,6 +35,18 @@ pub fn line_and_column(text: &str, spot: Spot) -> (usize, usize) {
     let before = &text[..spot.min(text.len())];
     let start = before.rfind('\n').map_or(0, |newline| newline + 1);
     (1 + before.matches('\n').count(), 1 + before[start..].chars().count())
+}
+
+/// The text that bytes stand for: UTF-8 without a byte order mark.
+pub fn decode(bytes: &[u8]) -> Result<&str, Error> {
+    match std::str::from_utf8(bytes) {
+        Ok(text) if text.starts_with('\u{feff}') => Err(Error::at(text, 0, "the text starts with a byte order mark")),
+        Ok(text) => Ok(text),
+        Err(error) => {
+            let before = String::from_utf8_lossy(&bytes[..error.valid_up_to()]);
+            Err(Error::at(&before, before.len(), "bytes that are no UTF-8"))
+        }
+    }
 }
 
 /// A text and how far it is read. Blanks and `//` comments are passed over before each token.

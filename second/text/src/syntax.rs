@@ -47,6 +47,13 @@ pub struct Tree {
     pub children: Vec<Child>,
 }
 
+impl Tree {
+    /// How many rows it makes.
+    pub fn rows(&self) -> usize {
+        1 + self.children.iter().map(|child| child.tree.rows()).sum::<usize>()
+    }
+}
+
 #[derive(Clone)]
 pub struct Child {
     pub id: u16,

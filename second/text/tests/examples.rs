@@ -102,5 +102,5 @@ fn rows_are_listed_with_the_numbers_that_moves_name() {
     assert_eq!(lines[4 + 7], "operation 7: service 2, out, one-way, id 12, location 100");
     assert_eq!(lines[15], "row 0: choice, branches 1 to 1");
     assert_eq!(lines[15 + 4], "row 4: if, then 5, else 6");
-    assert_eq!(lines[15 + 27], "row 27: notification, operation 7");
+    assert_eq!(lines[15 + 26], "row 26: notification, operation 7");
 }

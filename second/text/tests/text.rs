@@ -12,44 +12,47 @@ fn tables(text: &str) -> Tables {
     Tables::read(&assemble(text).unwrap_or_else(|error| panic!("{error}")).file).expect("sections").0
 }
 
+/// Texts with line, column and a part of their error.
+const ERRORS: [(&str, usize, usize, &str); 33] = [
+    ("", 1, 1, "a network has a service"),
+    ("servic 1 {}", 1, 1, "service expected"),
+    ("service 0 {}", 1, 9, "not 0"),
+    ("service 1 {\n  client set 5.70000 = int 1\n}", 2, 16, "at most 65535"),
+    ("service 1 {\n  client set 1.2.3.4.5 = int 1\n}", 2, 21, "at most four"),
+    ("service 1 {\n  client set x = int 1\n}", 2, 14, "no id `x`"),
+    ("service 1 {\n  client set 5 = int 3000000000\n}", 2, 22, "an int"),
+    ("service 1 {\n  client set 5 = \"12345678901234567\"\n}", 2, 18, "at most 16"),
+    ("service 1 {\n  client set 5 = \"abc\n}", 2, 18, "does not end"),
+    ("service 1 {\n  client set 5 =\n}", 3, 1, "an expression expected"),
+    ("service 1 {\n  client receive 3 into 5\n}", 2, 18, "no such input"),
+    ("service 1 { client nil client nil }", 1, 31, "one client"),
+    ("service 1 { starter nil }", 1, 21, "a starter is a choice"),
+    ("service 1 {\n  client set 5 = $x }", 2, 18, "no expression `$x`"),
+    ("id a = 1 id a = 2", 1, 10, "declared already"),
+    ("id set = 1", 1, 4, "no name"),
+    ("type A = void { 3: int, 3: bool }", 1, 25, "stands here already"),
+    ("type A = void { }", 1, 10, "not empty"),
+    ("type A = B", 1, 10, "no type `B`"),
+    ("service 1 { input 3: A }", 1, 22, "no type `A`"),
+    ("service 1 {}\n// é\n /* */", 3, 2, "expected"),
+    ("service 1 { client choice { on nil then nil } }", 1, 32, "receive or answer"),
+    ("service 1 { client parallel { nil } }", 1, 37, "two or more sides"),
+    ("service 1 { client @0 { nil; @2 nil } }", 1, 25, "all of the behaviours"),
+    ("service 1 { client @0 { @1 nil; @1 nil } }", 1, 33, "taken already"),
+    ("service 1 { client @1 nil }", 1, 1, "no statement has the row label @0"),
+    ("data { 0c } service 1 { client set 5 = int 12 }", 1, 40, "where it stands"),
+    ("data { 0c } service 1 { client set 5 = true at 0 }", 1, 40, "is not this constant"),
+    ("data { 0 }\nservice 1 {}", 2, 1, "two hexadecimal digits"),
+    // Refusals 4 and 5 at the line of their row.
+    ("service 1 {}\nservice 1 {}", 2, 1, "refused 4"),
+    ("service 1 {\n  input 3: int\n  input 3: int\n}", 3, 3, "an input of this id already"),
+    ("type A = void { 1: void { 1: void { 1: void { 1: int } } } }\nservice 1 {}", 1, 1, "refused 5"),
+    ("service 1 {\nclient set 5 = -(-(-(-(-(-(-(-int 1))))))) }", 2, 16, "more than 8 levels"),
+];
+
 #[test]
 fn errors_name_line_and_column() {
-    for (text, line, column, part) in [
-        ("", 1, 1, "a network has a service"),
-        ("servic 1 {}", 1, 1, "service expected"),
-        ("service 0 {}", 1, 9, "not 0"),
-        ("service 1 {\n  client set 5.70000 = int 1\n}", 2, 16, "at most 65535"),
-        ("service 1 {\n  client set 1.2.3.4.5 = int 1\n}", 2, 21, "at most four"),
-        ("service 1 {\n  client set x = int 1\n}", 2, 14, "no id `x`"),
-        ("service 1 {\n  client set 5 = int 3000000000\n}", 2, 22, "an int"),
-        ("service 1 {\n  client set 5 = \"12345678901234567\"\n}", 2, 18, "at most 16"),
-        ("service 1 {\n  client set 5 = \"abc\n}", 2, 18, "does not end"),
-        ("service 1 {\n  client set 5 =\n}", 3, 1, "an expression expected"),
-        ("service 1 {\n  client receive 3 into 5\n}", 2, 18, "no such input"),
-        ("service 1 { client nil client nil }", 1, 31, "one client"),
-        ("service 1 { starter nil }", 1, 21, "a starter is a choice"),
-        ("service 1 {\n  client set 5 = $x }", 2, 18, "no expression `$x`"),
-        ("id a = 1 id a = 2", 1, 10, "declared already"),
-        ("id set = 1", 1, 4, "no name"),
-        ("type A = void { 3: int, 3: bool }", 1, 25, "stands here already"),
-        ("type A = void { }", 1, 10, "not empty"),
-        ("type A = B", 1, 10, "no type `B`"),
-        ("service 1 { input 3: A }", 1, 22, "no type `A`"),
-        ("service 1 {}\n// é\n /* */", 3, 2, "expected"),
-        ("service 1 { client choice { on nil then nil } }", 1, 32, "receive or answer"),
-        ("service 1 { client parallel { nil } }", 1, 37, "two or more sides"),
-        ("service 1 { client @0 { nil; @2 nil } }", 1, 25, "all of the behaviours"),
-        ("service 1 { client @0 { @1 nil; @1 nil } }", 1, 33, "taken already"),
-        ("service 1 { client @1 nil }", 1, 1, "no statement has the row label @0"),
-        ("data { 0c } service 1 { client set 5 = int 12 }", 1, 40, "where it stands"),
-        ("data { 0c } service 1 { client set 5 = true at 0 }", 1, 40, "is not this constant"),
-        ("data { 0 }\nservice 1 {}", 2, 1, "two hexadecimal digits"),
-        // Refusals 4 and 5 at the line of their row.
-        ("service 1 {}\nservice 1 {}", 2, 1, "refused 4"),
-        ("service 1 {\n  input 3: int\n  input 3: int\n}", 3, 3, "an input of this id already"),
-        ("type A = void { 1: void { 1: void { 1: void { 1: int } } } }\nservice 1 {}", 1, 1, "refused 5"),
-        ("service 1 {\nclient set 5 = -(-(-(-(-(-(-(-int 1))))))) }", 2, 16, "more than 8 levels"),
-    ] {
+    for (text, line, column, part) in ERRORS {
         let found = error(text);
         assert_eq!((found.0, found.1), (line, column), "{text:?}: {}", found.2);
         assert!(found.2.contains(part), "{text:?}: {}", found.2);
@@ -120,6 +123,21 @@ fn row_numbers_survive_the_round_trip() {
         let back = disassemble(&file).expect("a file that passes 2 to 5");
         let again = assemble(&back).unwrap_or_else(|error| panic!("{back}: {error}")).file;
         assert!(again == file, "{text}\n{back}");
+    }
+}
+
+/// 256 rows of statements, each inside the one before it, and an expression of 8 levels.
+#[test]
+fn the_deepest_file_survives_the_round_trip() {
+    let around = ["while $yes do ", "choice { on receive 1 into 1 then ", "parallel {} { ", "{ nil; "];
+    for (around, rows, end) in [(around[0], 1, ""), (around[1], 3, " }"), (around[2], 2, " }"), (around[3], 2, " }")] {
+        let deep = 255 / rows;
+        let inner = "set 5 = -(-(-(-(-(-(-int 1))))))";
+        let statement = [around.repeat(deep), inner.to_string(), end.repeat(deep)].concat();
+        let text = format!("expression $yes = true service 1 {{ input 1: int client {statement} }}");
+        let file = assemble(&text).unwrap_or_else(|error| panic!("{around}: {error}")).file;
+        let back = disassemble(&file).expect("a file that passes 2 to 5");
+        assert!(assemble(&back).unwrap_or_else(|error| panic!("{around}: {error}")).file == file, "{around}");
     }
 }
 
