@@ -6,6 +6,7 @@ pub mod itself;
 pub mod moves;
 #[cfg(feature = "proved")]
 pub mod proved;
+pub mod stack;
 pub mod walks;
 
 use std::fmt;
@@ -145,7 +146,7 @@ pub fn differing_part(message: &[u8], ids: [u16; 4], left: &dyn Side, right: &dy
 #[cfg(test)]
 mod tests {
     use super::*;
-    use crate::itself::Itself;
+    use crate::itself::itself;
 
     /// A side that is wrong in one thing.
     struct Wrong(fn(&mut Answer));
@@ -186,13 +187,13 @@ mod tests {
 
     #[test]
     fn the_interface_gives_what_the_library_gives() {
-        assert_eq!(differing_check(&CASE_D, &Second, &Itself), None);
+        assert_eq!(differing_check(&CASE_D, &Second, &itself()), None);
         assert_eq!(Second.check(&CASE_D).nodes.len(), 2);
-        assert_eq!(differing_check(&CASE_D[1..], &Second, &Itself), None);
+        assert_eq!(differing_check(&CASE_D[1..], &Second, &itself()), None);
         assert_eq!(Second.check(&CASE_D[1..]).number, 2);
         let (message, ids) = generate::maximal::message();
-        assert_eq!(differing_part(&message, ids, &Second, &Itself), None);
-        assert_eq!(differing_part(&message, [9, 0, 0, 0], &Second, &Itself), None);
+        assert_eq!(differing_part(&message, ids, &Second, &itself()), None);
+        assert_eq!(differing_part(&message, [9, 0, 0, 0], &Second, &itself()), None);
     }
 
     #[test]

@@ -16,12 +16,12 @@ const LEAST: usize = 20;
 
 #[cfg(feature = "proved")]
 fn other() -> impl Side {
-    compare::proved::Proved
+    compare::proved::proved(compare::stack::Stacks::stated())
 }
 
 #[cfg(not(feature = "proved"))]
 fn other() -> impl Side {
-    compare::itself::Itself
+    compare::itself::itself()
 }
 
 struct Options {

@@ -157,7 +157,7 @@ fn sweep(random: &mut Random, walk: &Walk) -> Result<(), String> {
 #[cfg(test)]
 mod tests {
     use super::*;
-    use crate::itself::Itself;
+    use crate::itself::itself;
     use crate::Answer;
     use std::ops::Range;
     use stepper::Move;
@@ -232,7 +232,7 @@ mod tests {
         let mut random = Random::new(2);
         let mut hits = WalkHits::default();
         for _ in 0..20 {
-            walk(&mut random, &mut hits, &Itself).unwrap_or_else(|report| panic!("{report}"));
+            walk(&mut random, &mut hits, &itself()).unwrap_or_else(|report| panic!("{report}"));
         }
         let wrong = Wrong(|left| left.answer.bytes += usize::from(left.answer.number == 19));
         assert!((0..100).any(|_| walk(&mut random, &mut hits, &wrong).is_err()));
