@@ -50,8 +50,16 @@ fn options() -> Result<Options, String> {
     Ok(options)
 }
 
+/// Stack for the library, which goes down nested rows as it likes.
+const LIBRARY_STACK: usize = 64 << 20;
+
 fn main() -> ExitCode {
-    match options().and_then(|options| run(&options)) {
+    let work = || options().and_then(|options| run(&options));
+    let thread = std::thread::Builder::new().stack_size(LIBRARY_STACK).spawn(work);
+    let result = thread
+        .map_err(|error| error.to_string())
+        .and_then(|thread| thread.join().map_err(|_| "the comparison has panicked".to_string())?);
+    match result {
         Ok(code) => code,
         Err(message) => {
             eprintln!("{message}");

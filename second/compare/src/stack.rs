@@ -77,19 +77,19 @@ impl Stack {
         job.result.expect("the call has returned")
     }
 
-    fn words(&self) -> &mut [u64] {
+    fn words(&mut self) -> &mut [u64] {
         // SAFETY: the stack's own bytes, while no call runs on it.
         unsafe { std::slice::from_raw_parts_mut(self.bottom().cast(), self.bytes / 8) }
     }
 
     /// Forgets what calls have touched.
-    pub fn paint(&self) {
+    pub fn paint(&mut self) {
         self.words().fill(PAINT);
     }
 
     /// Bytes from the stack's end down to the lowest that was touched since it was painted; they are
     /// painted again.
-    pub fn touched(&self) -> usize {
+    pub fn touched(&mut self) -> usize {
         let words = self.words();
         let lowest = words.iter().position(|&word| word != PAINT).unwrap_or(words.len());
         words[lowest..].fill(PAINT);
@@ -204,7 +204,7 @@ mod tests {
 
     #[test]
     fn a_call_gives_its_result_and_touches_what_it_uses() {
-        let stack = Stack::new(256 << 10);
+        let mut stack = Stack::new(256 << 10);
         stack.paint();
         assert_eq!(stack.touched(), 0);
         let uses = [0, 1, 10, 50].map(|frames| {
