@@ -3,6 +3,7 @@
 
 pub mod damage;
 pub mod hits;
+pub mod hostile;
 pub mod maximal;
 pub mod messages;
 pub mod nests;

@@ -267,11 +267,10 @@ pub fn busy(random: &mut Random) -> Nest {
 
 /// A nest of one kind or of all, mostly as deep as it can be.
 fn ending(random: &mut Random, leaf: Leaf) -> Nest {
-    let cycle: Vec<Level> = match random.below(4) {
-        0 => (0..random.between(10, 40)).map(|_| Level::ALL[random.below(10)]).collect(),
-        _ => vec![Level::ALL[random.below(10)]],
+    let mut nest = match random.below(4) {
+        0 => mixed(random, leaf),
+        _ => Nest::full(Level::ALL[random.below(10)], leaf),
     };
-    let mut nest = Nest::repeated(&cycle, leaf);
     if random.one_in(3) {
         nest.levels.truncate(random.between(nest.levels.len() / 2, nest.levels.len()));
     }
@@ -286,6 +285,12 @@ fn ending(random: &mut Random, leaf: Leaf) -> Nest {
         nest = nest.started();
     }
     nest
+}
+
+/// All kinds of levels in one another, as they come.
+pub fn mixed(random: &mut Random, leaf: Leaf) -> Nest {
+    let cycle: Vec<Level> = (0..random.between(10, 40)).map(|_| Level::ALL[random.below(10)]).collect();
+    Nest::repeated(&cycle, leaf)
 }
 
 /// For each row of a network how many levels of each kind it is nested in.
