@@ -14,7 +14,7 @@ fn sides() -> Vec<Box<dyn Side>> {
     #[allow(unused_mut)]
     let mut sides: Vec<Box<dyn Side>> = vec![Box::new(Second)];
     #[cfg(feature = "proved")]
-    sides.push(Box::new(compare::proved::proved(compare::stack::Stacks::stated())));
+    sides.push(Box::new(compare::other()));
     sides
 }
 

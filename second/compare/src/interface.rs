@@ -7,16 +7,13 @@ use stepper::Move;
 
 use crate::moves::{Moves, StepAnswer};
 use crate::stack::{run, Stacks};
-use crate::{Answer, AnswerNode, Side};
+use crate::{Answer, AnswerNode, Side, UNTOUCHED};
 
 /// Bytes of a node's record.
 pub const RECORD: usize = 18;
 
 /// Room for four services with two environments of 48 nodes each.
 pub const ROOM: usize = 4 * 2 * 48 * RECORD;
-
-/// What a lent buffer holds before a call, to see what the call leaves alone.
-const UNTOUCHED: u8 = 0xa5;
 
 /// The functions of the interface, and the stacks on which they run.
 pub struct Interface {

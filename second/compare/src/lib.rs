@@ -17,6 +17,33 @@ use stepper::{Move, Refused};
 
 use moves::StepAnswer;
 
+/// What lent buffers hold before a call, to see what the call leaves alone.
+pub const UNTOUCHED: u8 = 0xa5;
+
+/// The proved code, each function on the stack that it may use.
+#[cfg(feature = "proved")]
+pub fn other() -> interface::Interface {
+    proved::proved(stack::Stacks::stated())
+}
+
+/// The library behind the interface of the proved code.
+#[cfg(not(feature = "proved"))]
+pub fn other() -> interface::Interface {
+    itself::itself()
+}
+
+/// Stack for the library, which goes down nested rows as it likes.
+const LIBRARY_STACK: usize = 64 << 20;
+
+/// Does some work in a thread with room for the library.
+pub fn with_large_stack<T: Send + 'static>(
+    work: impl FnOnce() -> Result<T, String> + Send + 'static,
+) -> Result<T, String> {
+    let thread = std::thread::Builder::new().stack_size(LIBRARY_STACK).spawn(work);
+    let thread = thread.map_err(|error| error.to_string())?;
+    thread.join().map_err(|_| "the work has panicked".to_string())?
+}
+
 /// An environment node as the interface gives it.
 #[derive(Clone, Copy, PartialEq, Eq, Debug)]
 pub struct AnswerNode {

@@ -7,22 +7,12 @@
 use std::process::ExitCode;
 use std::time::Instant;
 
-use compare::{differing_check, differing_part, walks, Second, Side};
+use compare::{differing_check, differing_part, other, walks, with_large_stack, Second, Side};
 use generate::walks::WalkHits;
 use generate::{file, messages, Hits, Random};
 
 /// Each refusal, place and kind of row is to be hit this often.
 const LEAST: usize = 20;
-
-#[cfg(feature = "proved")]
-fn other() -> impl Side {
-    compare::proved::proved(compare::stack::Stacks::stated())
-}
-
-#[cfg(not(feature = "proved"))]
-fn other() -> impl Side {
-    compare::itself::itself()
-}
 
 struct Options {
     seed: u64,
@@ -50,16 +40,8 @@ fn options() -> Result<Options, String> {
     Ok(options)
 }
 
-/// Stack for the library, which goes down nested rows as it likes.
-const LIBRARY_STACK: usize = 64 << 20;
-
 fn main() -> ExitCode {
-    let work = || options().and_then(|options| run(&options));
-    let thread = std::thread::Builder::new().stack_size(LIBRARY_STACK).spawn(work);
-    let result = thread
-        .map_err(|error| error.to_string())
-        .and_then(|thread| thread.join().map_err(|_| "the comparison has panicked".to_string())?);
-    match result {
+    match with_large_stack(|| options().and_then(|options| run(&options))) {
         Ok(code) => code,
         Err(message) => {
             eprintln!("{message}");

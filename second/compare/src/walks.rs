@@ -6,10 +6,7 @@ use stepper::decode::decode;
 use stepper::{Made, Refused};
 
 use crate::moves::StepAnswer;
-use crate::{answer, hex, Second, Side};
-
-/// What lent buffers hold before a call.
-const UNTOUCHED: u8 = 0xa5;
+use crate::{answer, hex, Second, Side, UNTOUCHED};
 
 /// An answer with the buffers that the call has left.
 #[derive(Clone, PartialEq, Eq)]

@@ -82,7 +82,7 @@ pub fn all() -> Vec<Case> {
     }
     for seed in 1..=5 {
         let leaf = Leaf::ALL[seed as usize];
-        cases.push(Case::nest(format!("mixed_{seed}"), &mixed(&mut Random::new(seed), leaf), At::EveryRow));
+        cases.push(Case::nest(format!("mixed_{seed}"), &mixed(&mut Random::new(seed), leaf), At::Ends));
     }
     for level in [Level::First, Level::Second] {
         let nest = Nest { side: Leaf::Assign, ..Nest::full(level, Leaf::Assign) };
