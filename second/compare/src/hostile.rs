@@ -40,18 +40,18 @@ fn step(side: &dyn Side, call: &Call) -> String {
     format!("{named} {before:016x}: {} {} {}, {after:016x}", answer.number, answer.place, answer.bytes)
 }
 
+/// The name of a move and its numbers.
 fn named(named: &Move) -> String {
-    match *named {
-        Move::Local { service, session, row } => format!("local {service} {session} {row}"),
-        Move::Receive { service, session, row } => format!("receive {service} {session} {row}"),
-        Move::Send { service, session, row, target } => format!("send {service} {session} {row} {target}"),
-        Move::Reply { service, session, row } => format!("reply {service} {session} {row}"),
-        Move::OuterMessage { service, id, target, number } => {
-            format!("outer_message {service} {id} {target} {number}")
-        }
-        Move::OuterReply { service, session, row } => format!("outer_reply {service} {session} {row}"),
-        Move::Close { service, session } => format!("close {service} {session}"),
-    }
+    let numbers = match *named {
+        Move::Local { service, session, row }
+        | Move::Receive { service, session, row }
+        | Move::Reply { service, session, row }
+        | Move::OuterReply { service, session, row } => format!("{service} {session} {row}"),
+        Move::Send { service, session, row, target } => format!("{service} {session} {row} {target}"),
+        Move::OuterMessage { service, id, target, number } => format!("{service} {id} {target} {number}"),
+        Move::Close { service, session } => format!("{service} {session}"),
+    };
+    format!("{} {numbers}", named.name())
 }
 
 /// The lines of a case, each shown as soon as it is there.

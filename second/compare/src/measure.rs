@@ -15,7 +15,6 @@ use generate::hostile::{self, nest_place};
 use generate::nests::{self, Leaf, Level, Nest};
 use generate::walks::Call;
 use generate::Random;
-use stepper::Move;
 
 /// Room to see by how much a ceiling is passed.
 const CHECK_ROOM: usize = 32 << 20;
@@ -24,70 +23,26 @@ const MOVE_ROOM: usize = 1 << 20;
 /// Mixed nests, by seed.
 const MIXED: u64 = 200;
 
-#[derive(Clone, Copy, PartialEq, Eq, PartialOrd, Ord)]
-enum Function {
-    Check,
-    Environments,
-    Fresh,
-    Part,
-    Local,
-    Receive,
-    Send,
-    Reply,
-    OuterMessage,
-    OuterReply,
-    Close,
-}
-
-impl Function {
-    const ALL: [Function; 11] = {
-        use Function::*;
-        [Check, Environments, Fresh, Part, Local, Receive, Send, Reply, OuterMessage, OuterReply, Close]
-    };
-
-    fn name(self) -> &'static str {
-        [
-            "check",
-            "environments",
-            "fresh",
-            "part",
-            "local",
-            "receive",
-            "send",
-            "reply",
-            "outer_message",
-            "outer_reply",
-            "close",
-        ][self as usize]
-    }
-
-    fn of(named: &Move) -> Function {
-        match named {
-            Move::Local { .. } => Function::Local,
-            Move::Receive { .. } => Function::Receive,
-            Move::Send { .. } => Function::Send,
-            Move::Reply { .. } => Function::Reply,
-            Move::OuterMessage { .. } => Function::OuterMessage,
-            Move::OuterReply { .. } => Function::OuterReply,
-            Move::Close { .. } => Function::Close,
-        }
-    }
-
-    /// The most bytes that it may use.
-    fn ceiling(self) -> usize {
-        match self {
-            Function::Check | Function::Environments | Function::Fresh => CHECK,
-            Function::Part => PART,
-            _ => MOVE,
-        }
-    }
-}
+/// The functions and the most bytes that each may use.
+const FUNCTIONS: [(&str, usize); 11] = [
+    ("check", CHECK),
+    ("environments", CHECK),
+    ("fresh", CHECK),
+    ("part", PART),
+    ("local", MOVE),
+    ("receive", MOVE),
+    ("send", MOVE),
+    ("reply", MOVE),
+    ("outer message", MOVE),
+    ("outer reply", MOVE),
+    ("close", MOVE),
+];
 
 /// The proved code on painted stacks, and the most that was touched.
 struct Measure {
     interface: Interface,
     /// By function and kind of input: bytes, and the input.
-    most: BTreeMap<(Function, &'static str), (usize, String)>,
+    most: BTreeMap<(&'static str, &'static str), (usize, String)>,
 }
 
 impl Measure {
@@ -102,12 +57,12 @@ impl Measure {
     }
 
     /// Makes a call and notes what it has touched.
-    fn note(&mut self, function: Function, kind: &'static str, name: &str, call: impl FnOnce(&Interface)) {
+    fn note(&mut self, function: &'static str, kind: &'static str, name: &str, call: impl FnOnce(&Interface)) {
         call(&self.interface);
         let stacks = &mut self.interface.stacks;
         let stack = match function {
-            Function::Check | Function::Environments | Function::Fresh => &mut stacks.check,
-            Function::Part => &mut stacks.part,
+            "check" | "environments" | "fresh" => &mut stacks.check,
+            "part" => &mut stacks.part,
             _ => &mut stacks.moves,
         };
         let touched = stack.as_mut().map_or(0, Stack::touched);
@@ -118,15 +73,15 @@ impl Measure {
     }
 
     fn file(&mut self, kind: &'static str, name: &str, file: &[u8]) {
-        self.note(Function::Check, kind, name, |interface| {
+        self.note("check", kind, name, |interface| {
             interface.verdict(file);
         });
         let mut nodes = [0; ROOM];
-        self.note(Function::Environments, kind, name, |interface| {
+        self.note("environments", kind, name, |interface| {
             interface.list(file, &mut nodes);
         });
         let mut state = vec![0; 65_536];
-        self.note(Function::Fresh, kind, name, |interface| {
+        self.note("fresh", kind, name, |interface| {
             interface.fresh(file, &mut state);
         });
     }
@@ -134,7 +89,7 @@ impl Measure {
     fn call(&mut self, kind: &'static str, name: &str, call: &Call) {
         let (mut state, mut out) = (call.state.clone(), vec![0; call.out_size]);
         let name = format!("{name}, {:?}", call.named);
-        self.note(Function::of(&call.named), kind, &name, |interface| {
+        self.note(call.named.name(), kind, &name, |interface| {
             interface.step(&call.file, &mut state, &mut out, &call.named, &call.outside);
         });
     }
@@ -178,14 +133,14 @@ impl Measure {
     fn parts(&mut self) {
         for (message, path) in hostile::parts() {
             let name = format!("{} bytes of a message, path {path:?}", message.len());
-            self.note(Function::Part, "messages", &name, |interface| {
+            self.note("part", "messages", &name, |interface| {
                 interface.part(&message, path);
             });
         }
     }
 
     /// The worst of a function over all kinds of input.
-    fn worst(&self, function: Function) -> Option<&(usize, String)> {
+    fn worst(&self, function: &str) -> Option<&(usize, String)> {
         let of_function = self.most.iter().filter(|((of, _), _)| *of == function);
         of_function.map(|(_, most)| most).min_by_key(|(bytes, _)| Reverse(*bytes))
     }
@@ -199,16 +154,15 @@ fn main() -> ExitCode {
     measure.parts();
     if std::env::args().any(|argument| argument == "--kinds") {
         for ((function, kind), (bytes, name)) in &measure.most {
-            println!("{:14}{bytes:10}  {kind}: {name}", function.name());
+            println!("{function:14}{bytes:10}  {kind}: {name}");
         }
     }
     let mut code = ExitCode::SUCCESS;
-    for function in Function::ALL {
-        let Some((bytes, name)) = measure.worst(function) else { continue };
-        let most = function.ceiling();
-        println!("{:14}{bytes:10} of {most:8} bytes: {name}", function.name());
+    for (function, most) in FUNCTIONS {
+        let (bytes, name) = measure.worst(function).expect("each function is called");
+        println!("{function:14}{bytes:10} of {most:8} bytes: {name}");
         if *bytes > most {
-            println!("{:14}passes its ceiling", function.name());
+            println!("{function:14}passes its ceiling");
             code = ExitCode::FAILURE;
         }
     }

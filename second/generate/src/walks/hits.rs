@@ -144,18 +144,6 @@ impl fmt::Display for WalkHits {
     }
 }
 
-fn kind(named: &Move) -> &'static str {
-    match named {
-        Move::Local { .. } => "local",
-        Move::Receive { .. } => "receive",
-        Move::Send { .. } => "send",
-        Move::Reply { .. } => "reply",
-        Move::OuterMessage { .. } => "outer message",
-        Move::OuterReply { .. } => "outer reply",
-        Move::Close { .. } => "close",
-    }
-}
-
 impl WalkHits {
     fn hit(&mut self, name: String) {
         *self.counts.get_mut(&name).unwrap_or_else(|| panic!("{name} is not among the names that are counted")) += 1;
@@ -178,7 +166,7 @@ impl WalkHits {
 
     /// A call by the second implementation and its result.
     pub fn call(&mut self, call: &Call, result: &Result<Made, Refused>) {
-        let kind = kind(&call.named);
+        let kind = call.named.name();
         let read = || {
             let network = Network::read(&call.file).expect("a file that passes 2 to 5");
             let state = decode(&network, &call.state).expect("a state of the file's shape");
