@@ -66,30 +66,35 @@ fn roots(shared: bool) -> Tables {
     tables
 }
 
-/// Eight starter branches, each with three messages of 16 nodes and then 24 whiles in one another over an
-/// expression of 128 leaves, all of them the last paths of that environment.
-fn starter_whiles() -> Tables {
-    let mut tables = Tables { types: vec![leaf_type(0, Basic::Void)], ..Tables::default() };
-    tables.types[0] = TypeRow { first_child: 1, child_count: 15, ..tables.types[0] };
+/// Paths at which three messages of 16 nodes make 48, and the paths of the last two of these.
+const NESTED: [[u16; 4]; 5] = [[1, 0, 0, 0], [1, 20, 0, 0], [1, 20, 20, 0], [1, 20, 20, 14], [1, 20, 20, 15]];
+
+/// A service's input of such messages, and ladders over the last two paths: the last rows are a less and a
+/// sum of 128 leaves.
+fn nested() -> Tables {
+    let mut tables = Tables { paths: NESTED.to_vec(), operations: vec![input(0, 1, 0)], ..Tables::default() };
+    tables.types = vec![TypeRow { first_child: 1, child_count: 15, ..leaf_type(0, Basic::Int) }];
     tables.types.extend((1..=15).map(|id| leaf_type(id, Basic::Int)));
-    tables.paths = vec![[1, 0, 0, 0], [2, 0, 0, 0], [3, 0, 0, 0], [3, 14, 0, 0], [3, 15, 0, 0]];
     let path = |row| ExpressionRow { kind: 1, basic: 0, fields: [row, 0, 0] };
     tables.expressions = vec![path(3), path(4)];
     ladder(&mut tables.expressions, 0, 1);
+    tables
+}
+
+/// Eight starter branches, each with three messages of 16 nodes and then 24 whiles in one another over an
+/// expression of 128 leaves, each of which is looked up at the end of the environment.
+fn starter_whiles() -> Tables {
+    let mut tables = nested();
     let less = tables.expressions.len() as u16 - 2;
-    tables.operations = vec![input(0, 1, 0)];
     tables.services = vec![ServiceRow { location: 1, starter: 0, client: NONE, unused: 0 }];
     tables.behaviours = vec![row(10, [1, 8, 0, 0])];
-    for branch in 0..8 {
-        let at = 9 + 30 * branch;
-        tables.behaviours.push(row(11, [at, at + 1, 0, 0]));
-    }
-    for branch in 0..8 {
-        let at = 9 + 30 * branch;
+    let first = |branch: u16| 9 + 30 * branch;
+    tables.behaviours.extend((0..8).map(|branch| row(11, [first(branch), first(branch) + 1, 0, 0])));
+    for at in (0..8).map(first) {
         tables.behaviours.push(row(1, [0, 0, 0, 0]));
-        for root in [1, 2] {
-            let here = at + 2 * root - 1;
-            tables.behaviours.extend([row(7, [here + 1, here + 2, 0, 0]), row(1, [0, root, 0, 0])]);
+        for path in [1, 2] {
+            let here = at + 2 * path - 1;
+            tables.behaviours.extend([row(7, [here + 1, here + 2, 0, 0]), row(1, [0, path, 0, 0])]);
         }
         tables.behaviours.extend((0..24).map(|level| row(6, [less, at + 6 + level, 0, 0])));
         tables.behaviours.push(row(0, [0; 4]));
@@ -152,31 +157,24 @@ fn operations(count: u16, id: impl Fn(u16) -> u16) -> Tables {
     }
 }
 
-/// A client that assigns, tests, loops and sends by an expression of 128 leaves, the last two roots of 48.
+/// A client that receives as these starters and then assigns, tests, loops and sends by that expression.
 pub fn expression() -> Tables {
-    let mut tables = Tables { types: vec![leaf_type(0, Basic::Int)], ..Tables::default() };
-    tables.paths = (1..=48).map(|root| [root, 0, 0, 0]).collect();
-    let path = |row| ExpressionRow { kind: 1, basic: 0, fields: [row, 0, 0] };
-    tables.expressions = vec![path(46), path(47)];
-    ladder(&mut tables.expressions, 0, 1);
+    let mut tables = nested();
     let (less, sum) = (tables.expressions.len() as u16 - 2, tables.expressions.len() as u16 - 1);
-    let output = OperationRow { direction: 1, location: 100, ..input(0, 1, 0) };
-    tables.operations = vec![output, OperationRow { two_way: 1, ..output }];
-    tables.operations[1].id = 2;
-    tables.behaviours = vec![
-        row(7, [1, 2, 0, 0]),
-        row(9, [0, sum, 0, 0]),
-        row(7, [3, 4, 0, 0]),
-        row(5, [less, 5, 6, 0]),
-        row(7, [7, 8, 0, 0]),
-        row(0, [0; 4]),
-        row(0, [0; 4]),
-        row(6, [less, 9, 0, 0]),
-        row(7, [10, 11, 0, 0]),
-        row(0, [0; 4]),
-        row(3, [0, sum, 0, 0]),
-        row(4, [1, sum, 0, 0]),
-    ];
+    tables.types.push(leaf_type(0, Basic::Int));
+    let output = OperationRow { direction: 1, location: 100, ..input(0, 2, 16) };
+    tables.operations.extend([output, OperationRow { id: 3, two_way: 1, reply: 16, ..output }]);
+    let mut statements: Vec<BehaviourRow> = (0..3).map(|path| row(1, [0, path, 0, 0])).collect();
+    // After the statements and the sequences between them there stand three nils.
+    statements.extend([row(9, [3, sum, 0, 0]), row(5, [less, 15, 16, 0]), row(6, [less, 17, 0, 0])]);
+    statements.extend([row(3, [1, sum, 0, 0]), row(4, [2, sum, 3, 0])]);
+    let last = statements.len() - 1;
+    for (number, statement) in statements.into_iter().enumerate() {
+        let at = 2 * number as u16;
+        tables.behaviours.extend((number < last).then_some(row(7, [at + 1, at + 2, 0, 0])));
+        tables.behaviours.push(statement);
+    }
+    tables.behaviours.extend([row(0, [0; 4]); 3]);
     tables.services = vec![client(1, 0)];
     tables
 }
@@ -237,6 +235,6 @@ mod tests {
                 ("operations_equal_at_end", 4),
             ]
         );
-        assert_eq!(number(&talkers()), 0);
+        assert_eq!([number(&talkers()), number(&expression().write())], [0, 0]);
     }
 }

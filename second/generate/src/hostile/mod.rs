@@ -84,9 +84,14 @@ pub fn all() -> Vec<Case> {
         let leaf = Leaf::ALL[seed as usize];
         cases.push(Case::nest(format!("mixed_{seed}"), &mixed(&mut Random::new(seed), leaf), At::Ends));
     }
-    for level in [Level::First, Level::Second] {
-        let nest = Nest { side: Leaf::Assign, ..Nest::full(level, Leaf::Assign) };
-        cases.push(Case::nest(format!("assigns_{}", level.name().replace(' ', "_")), &nest, At::EveryRow));
+    for (level, leaf, what, at) in [
+        (Level::First, Leaf::Assign, "assigns", At::EveryRow),
+        (Level::Second, Leaf::Assign, "assigns", At::EveryRow),
+        (Level::Left, Leaf::NotifyOutside, "sends", At::Ends),
+        (Level::Right, Leaf::NotifyOutside, "sends", At::Ends),
+    ] {
+        let nest = Nest { side: leaf, ..Nest::full(level, leaf) };
+        cases.push(Case::nest(format!("{}_{what}", level.name().replace(' ', "_")), &nest, at));
     }
     cases.push(Case::nest("whiles_reopened".into(), &Nest::full(Level::While, Leaf::While), At::EveryRow));
     cases.extend(files::all().into_iter().map(|(name, tables)| Case::file(name, tables.write())));
@@ -101,7 +106,9 @@ fn expression() -> Case {
     let file = files::expression().write();
     let network = Network::read(&file).expect("a file that passes 2 to 5");
     let mut tree = Tree::void(0);
-    (1..=48).for_each(|root| tree.assign(&[root], &Value::Int(i32::MAX)));
+    for length in 1..=3 {
+        tree.replace(&[1, 20, 20][..length], &place::largest(&network, 0));
+    }
     let base = State::free(&network);
     let place = Place { file, network, service: 0, session: 0, tree, base };
     Case { name: "expression".into(), file: place.file.clone(), places: vec![(place, At::EveryRow)], calls: Vec::new() }
