@@ -173,7 +173,10 @@ mod tests {
         let case = cases.iter().find(|case| case.name == "expression").expect("a case");
         assert!(compare(&folder, case, &Second).is_ok_and(|count| count > 10));
         let difference = compare(&folder, case, &Wrong).expect_err("a difference");
-        assert!(difference.starts_with("expression, line ") && difference.contains("wrong: local"), "{difference}");
+        assert!(
+            difference.starts_with("expression, line ") && difference.contains("\nwrong: receive "),
+            "{difference}"
+        );
         assert!(compare(Path::new("nowhere"), case, &Second).is_err());
     }
 
