@@ -6,7 +6,7 @@ use std::ops::Range;
 use stepper::Move;
 
 use crate::moves::{Moves, StepAnswer};
-use crate::stack::{run, Stacks};
+use crate::stack::{run, Given, Stacks};
 use crate::{Answer, AnswerNode, Side, UNTOUCHED};
 
 /// Bytes of a node's record.
@@ -79,7 +79,8 @@ impl Side for Interface {
     }
 
     fn step(&self, file: &[u8], state: &mut [u8], out: &mut [u8], named: &Move, outside: &[u8]) -> StepAnswer {
-        run(&self.stacks.moves, file, || self.moves.step(file, state, out, named, outside))
+        let given = Given { read: file, state: &raw const *state, named: Some(named) };
+        run(&self.stacks.moves, given, || self.moves.step(file, state, out, named, outside))
     }
 }
 

@@ -5,8 +5,11 @@
 
 use std::arch::asm;
 use std::ffi::c_void;
+use std::fmt;
 use std::ptr;
 use std::sync::atomic::{AtomicPtr, AtomicUsize, Ordering};
+
+use stepper::Move;
 
 /// The most bytes of stack that check, environments and fresh may use.
 pub const CHECK: usize = 2 << 20;
@@ -132,17 +135,37 @@ impl Stacks {
     }
 }
 
-/// Makes a call that reads some bytes, which are reported if the call passes its stack.
-pub fn run<T>(stack: &Option<Stack>, read: &[u8], call: impl FnOnce() -> T) -> T {
+/// What a call is given, to be reported if it passes its stack.
+#[derive(Clone, Copy)]
+pub struct Given<'a> {
+    /// The file or message.
+    pub read: &'a [u8],
+    pub state: *const [u8],
+    pub named: Option<&'a Move>,
+}
+
+impl<'a> From<&'a [u8]> for Given<'a> {
+    fn from(read: &'a [u8]) -> Given<'a> {
+        Given { read, state: &[], named: None }
+    }
+}
+
+/// Makes a call.
+pub fn run<'a, T>(stack: &Option<Stack>, given: impl Into<Given<'a>>, call: impl FnOnce() -> T) -> T {
     let Some(stack) = stack else { return call() };
-    READ.store(read.as_ptr().cast_mut(), Ordering::Relaxed);
-    LENGTH.store(read.len(), Ordering::Relaxed);
+    let given = given.into();
+    let named = given.named.map_or(ptr::null(), ptr::from_ref);
+    NAMED.store(named.cast_mut(), Ordering::Relaxed);
+    for (note, bytes) in BYTES.iter().zip([ptr::from_ref(given.read), given.state]) {
+        note.0.store(bytes.cast::<u8>().cast_mut(), Ordering::Relaxed);
+        note.1.store(bytes.len(), Ordering::Relaxed);
+    }
     stack.run(call)
 }
 
-/// What the call that runs now reads.
-static READ: AtomicPtr<u8> = AtomicPtr::new(ptr::null_mut());
-static LENGTH: AtomicUsize = AtomicUsize::new(0);
+/// What the call that runs now was given.
+static BYTES: [(AtomicPtr<u8>, AtomicUsize); 2] = [const { (AtomicPtr::new(ptr::null_mut()), AtomicUsize::new(0)) }; 2];
+static NAMED: AtomicPtr<Move> = AtomicPtr::new(ptr::null_mut());
 
 const SEGMENTATION: i32 = 11;
 const ON_ANOTHER_STACK: i32 = 0x0800_0000;
@@ -169,22 +192,34 @@ fn report_overflow() {
     unsafe { sigaction(SEGMENTATION, &action, ptr::null_mut()) };
 }
 
-/// Allocates nothing: the program may be anywhere.
-extern "C" fn passed(_: i32) {
-    let put = |bytes: &[u8]| {
-        // SAFETY: the bytes are readable.
-        unsafe { write(1, bytes.as_ptr(), bytes.len()) };
-    };
-    put(b"a call passes the end of its stack, on ");
-    let (read, length) = (READ.load(Ordering::Relaxed), LENGTH.load(Ordering::Relaxed));
-    for at in 0..length {
-        // SAFETY: the call is not over, so what it reads is still there.
-        let byte = unsafe { *read.add(at) };
-        put(&[byte >> 4, byte & 15].map(|digit| b"0123456789abcdef"[usize::from(digit)]));
+/// Standard output without a buffer: nothing is allocated where the program may be anywhere.
+struct Out;
+
+impl fmt::Write for Out {
+    fn write_str(&mut self, text: &str) -> fmt::Result {
+        // SAFETY: the text is readable.
+        unsafe { write(1, text.as_ptr(), text.len()) };
+        Ok(())
     }
-    put(b"\n");
+}
+
+extern "C" fn passed(_: i32) {
+    let _ = tell(&mut Out);
     // SAFETY: ends the program.
     unsafe { _exit(1) }
+}
+
+fn tell(out: &mut impl fmt::Write) -> fmt::Result {
+    out.write_str("a call passes the end of its stack")?;
+    for (note, name) in BYTES.iter().zip(["file or message", "state"]) {
+        write!(out, "\n{name} ")?;
+        for at in 0..note.1.load(Ordering::Relaxed) {
+            // SAFETY: the call is not over, so what it was given is still there.
+            write!(out, "{:02x}", unsafe { *note.0.load(Ordering::Relaxed).add(at) })?;
+        }
+    }
+    // SAFETY: the same.
+    writeln!(out, "\nmove {:?}", unsafe { NAMED.load(Ordering::Relaxed).as_ref() })
 }
 
 #[cfg(test)]
@@ -208,8 +243,7 @@ mod tests {
         stack.paint();
         assert_eq!(stack.touched(), 0);
         let uses = [0, 1, 10, 50].map(|frames| {
-            assert_eq!(run(&Some(Stack::new(256 << 10)), &[], || deep(frames)), frames);
-            stack.run(|| deep(frames));
+            assert_eq!(stack.run(|| deep(frames)), frames);
             stack.touched()
         });
         assert!(uses[0] > 1024 && uses[0] < 8192, "{uses:?}");
@@ -218,7 +252,20 @@ mod tests {
     }
 
     #[test]
+    fn what_was_given_is_told() {
+        let state = [7; 2];
+        let named = Move::Close { service: 1, session: 2 };
+        let given = Given { read: &[0xA5, 1], state: &state, named: Some(&named) };
+        let told = run(&Some(Stack::new(256 << 10)), given, || {
+            let mut text = String::new();
+            tell(&mut text).map(|()| text)
+        });
+        let expected = "file or message a501\nstate 0707\nmove Some(Close { service: 1, session: 2 })\n";
+        assert!(told.is_ok_and(|text| text.ends_with(expected)));
+    }
+
+    #[test]
     fn without_a_stack_a_call_runs_where_it_is() {
-        assert_eq!(run(&None, &[], || deep(3)), 3);
+        assert_eq!(run(&None, &[][..], || deep(3)), 3);
     }
 }
