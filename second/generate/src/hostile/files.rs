@@ -12,8 +12,10 @@ pub fn all() -> Vec<(&'static str, Tables)> {
         ("roots", roots(false)),
         ("roots_shared", roots(true)),
         ("starter_whiles", starter_whiles()),
+        ("type_chain", type_chain()),
         ("type_runs", type_runs()),
         ("types_full", types_full()),
+        ("expression_chain", expression_chain()),
         ("choices_of_8", choices()),
         ("choice_runs", choice_runs()),
         ("operations_equal", operations(64, |_| 1)),
@@ -99,6 +101,23 @@ fn starter_whiles() -> Tables {
         tables.behaviours.extend((0..24).map(|level| row(6, [less, at + 6 + level, 0, 0])));
         tables.behaviours.push(row(0, [0; 4]));
     }
+    tables
+}
+
+/// Every type row but the last has the next one as its child: 256 levels.
+fn type_chain() -> Tables {
+    let mut tables = type_runs();
+    tables.types.iter_mut().take(255).for_each(|node| node.child_count = 1);
+    tables
+}
+
+/// Every expression row but the first two is the sum of the two before it: 255 levels.
+fn expression_chain() -> Tables {
+    let mut tables = Tables { services: vec![client(1, NONE)], ..Tables::default() };
+    constants(&mut tables);
+    tables.expressions.truncate(2);
+    let sum = |row: u16| ExpressionRow { kind: 5, basic: 0, fields: [row - 1, row - 2, 0] };
+    tables.expressions.extend((2..256).map(sum));
     tables
 }
 
@@ -227,8 +246,10 @@ mod tests {
                 ("roots", 0),
                 ("roots_shared", 11),
                 ("starter_whiles", 0),
+                ("type_chain", 5),
                 ("type_runs", 5),
                 ("types_full", 0),
+                ("expression_chain", 5),
                 ("choices_of_8", 0),
                 ("choice_runs", 4),
                 ("operations_equal", 4),

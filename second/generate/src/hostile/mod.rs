@@ -25,8 +25,12 @@ pub struct Case {
 }
 
 impl Case {
+    /// With one move, in a state in which all is free.
     fn file(name: &str, file: Vec<u8>) -> Case {
-        Case { name: name.into(), file, places: Vec::new(), calls: Vec::new() }
+        let named = Move::Local { service: 0, session: 0, row: 0 };
+        let (state, outside) = (vec![0; STATE], Vec::new());
+        let call = Call { file: file.clone(), state, out_size: 512, named, outside, keeps: true };
+        Case { name: name.into(), file, places: Vec::new(), calls: vec![call] }
     }
 
     fn nest(name: String, nest: &Nest, at: At) -> Case {
