@@ -107,6 +107,10 @@ fn run(arguments: &[String]) -> Result<(), String> {
         _ => return Err("hostile [write] FOLDER".into()),
     };
     let (cases, other) = (hostile::all(), other());
+    let stored = fs::read_dir(folder).map_err(|error| format!("{}: {error}", folder.display()))?.count();
+    if stored != 2 * cases.len() {
+        return Err(format!("{}: {stored} files stored for {} cases", folder.display(), cases.len()));
+    }
     let mut count = 0;
     for case in &cases {
         for side in [&Second as &dyn Side, &other] {
