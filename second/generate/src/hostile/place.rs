@@ -18,7 +18,8 @@ pub fn largest(network: &Network, type_row: usize) -> Tree {
         Basic::Bool => vec![1],
         Basic::Int => vec![7; 4],
         Basic::Long | Basic::Double => vec![7; 8],
-        Basic::String | Basic::Raw => vec![0xA5; 16],
+        Basic::String => vec![b'a'; 16],
+        Basic::Raw => vec![0xA5; 16],
         Basic::Void => Vec::new(),
     };
     let children = node.children.clone().map(|child| largest(network, child)).collect();
