@@ -1,25 +1,30 @@
-//! `bench`: microseconds per call, of the library and, with feature `proved`, of the proved code.
+//! `bench [hostile]`: microseconds per call, of the library and, with feature `proved`, of the proved code;
+//! with `hostile` of the set of `generate::hostile`, for each file its check and its slowest move.
 
 use std::cell::RefCell;
 use std::hint::black_box;
+use std::process::ExitCode;
 use std::time::{Duration, Instant};
 
-use compare::{cases, Second, Side};
-use generate::maximal;
+use compare::{cases, with_large_stack, Second, Side};
+use generate::walks::Call;
+use generate::{hostile, maximal};
 
-/// Time for each measurement.
-const SPAN: Duration = Duration::from_millis(400);
+/// Least time of a round.
+const ROUND: Duration = Duration::from_millis(20);
+/// The same where there are thousands of calls to measure.
+const SHORT_ROUND: Duration = Duration::from_micros(500);
 
 fn sides() -> Vec<Box<dyn Side>> {
     #[allow(unused_mut)]
     let mut sides: Vec<Box<dyn Side>> = vec![Box::new(Second)];
     #[cfg(feature = "proved")]
-    sides.push(Box::new(compare::proved::Proved));
+    sides.push(Box::new(compare::other()));
     sides
 }
 
 /// The best of five rounds, in microseconds per call.
-fn measure(mut call: impl FnMut()) -> f64 {
+fn measure(least: Duration, mut call: impl FnMut()) -> f64 {
     let mut calls = 1;
     let round = |calls: u32, call: &mut dyn FnMut()| {
         let start = Instant::now();
@@ -28,7 +33,7 @@ fn measure(mut call: impl FnMut()) -> f64 {
         }
         start.elapsed()
     };
-    while round(calls, &mut call) < SPAN / 20 {
+    while round(calls, &mut call) < least {
         calls *= 2;
     }
     let times = (0..5).map(|_| round(calls, &mut call));
@@ -39,7 +44,7 @@ fn measure(mut call: impl FnMut()) -> f64 {
 fn line(name: &str, sides: &[Box<dyn Side>], call: impl Fn(&dyn Side)) {
     print!("{name:44}");
     for side in sides {
-        print!("{:12.3}", measure(|| call(side.as_ref())));
+        print!("{:12.3}", measure(ROUND, || call(side.as_ref())));
     }
     println!();
 }
@@ -91,14 +96,57 @@ fn moves(sides: &[Box<dyn Side>], name: &str, file: &[u8]) {
     }
 }
 
-fn main() {
+/// The file's check, then the move that takes the last side longest; a time holds a copy of the state.
+fn hostile_case(sides: &[Box<dyn Side>], case: &hostile::Case) {
+    line(&format!("{}: check", case.name), sides, |side| {
+        black_box(side.verdict(black_box(&case.file)));
+    });
+    let mut slowest: Option<(Vec<f64>, Call)> = None;
+    case.each(&mut |call| {
+        let times: Vec<f64> = sides.iter().map(|side| step(side.as_ref(), &call)).collect();
+        if slowest.as_ref().is_none_or(|(most, _)| most.last() < times.last()) {
+            slowest = Some((times, call));
+        }
+    });
+    if let Some((times, call)) = slowest {
+        print!("{:44}", format!("{}: {}", case.name, call.named.name()));
+        times.iter().for_each(|time| print!("{time:12.3}"));
+        println!();
+    }
+}
+
+fn step(side: &dyn Side, call: &Call) -> f64 {
+    let (mut state, mut out) = (call.state.clone(), vec![0; call.out_size]);
+    measure(SHORT_ROUND, || {
+        state.copy_from_slice(&call.state);
+        black_box(side.step(black_box(&call.file), &mut state, &mut out, &call.named, &call.outside));
+    })
+}
+
+fn run(hostile: bool) -> Result<(), String> {
     let largest = maximal::tables().write();
     let hall: &[u8] = include_bytes!("../../../examples/hall.bin");
     let sides = sides();
     print!("{:44}", "microseconds per call");
     sides.iter().for_each(|side| print!("{:>12}", side.name()));
     println!();
+    if hostile {
+        hostile::all().iter().for_each(|case| hostile_case(&sides, case));
+        return Ok(());
+    }
     checks(&sides, hall, &largest);
     moves(&sides, "hall", hall);
     moves(&sides, "largest", &largest);
+    Ok(())
+}
+
+fn main() -> ExitCode {
+    let hostile = std::env::args().any(|argument| argument == "hostile");
+    match with_large_stack(move || run(hostile)) {
+        Ok(()) => ExitCode::SUCCESS,
+        Err(message) => {
+            eprintln!("{message}");
+            ExitCode::FAILURE
+        }
+    }
 }

@@ -3,7 +3,11 @@
 
 use std::ops::Range;
 
-use crate::{Answer, AnswerNode};
+use stepper::Move;
+
+use crate::moves::{Moves, StepAnswer};
+use crate::stack::{run, Given, Stacks};
+use crate::{Answer, AnswerNode, Side, UNTOUCHED};
 
 /// Bytes of a node's record.
 pub const RECORD: usize = 18;
@@ -11,33 +15,40 @@ pub const RECORD: usize = 18;
 /// Room for four services with two environments of 48 nodes each.
 pub const ROOM: usize = 4 * 2 * 48 * RECORD;
 
-/// What a lent buffer holds before a call, to see what the call leaves alone.
-const UNTOUCHED: u8 = 0xa5;
-
-/// The functions of the interface.
+/// The functions of the interface, and the stacks on which they run.
 pub struct Interface {
+    pub name: &'static str,
     pub check: unsafe extern "C" fn(*const u8, usize, *mut usize) -> u32,
     pub environments: unsafe extern "C" fn(*const u8, usize, *mut u8, usize) -> usize,
     pub part: unsafe extern "C" fn(*const u8, usize, u16, u16, u16, u16, *mut usize) -> usize,
+    pub moves: Moves,
+    pub stacks: Stacks,
 }
 
 impl Interface {
-    /// Number and place.
-    pub fn verdict(&self, file: &[u8]) -> (u32, usize) {
+    /// How many nodes were written to the lent buffer.
+    pub fn list(&self, file: &[u8], nodes: &mut [u8]) -> usize {
+        // SAFETY: the file is readable for its length, the buffer is writable for its.
+        run(&self.stacks.check, file, || unsafe {
+            (self.environments)(file.as_ptr(), file.len(), nodes.as_mut_ptr(), nodes.len())
+        })
+    }
+}
+
+impl Side for Interface {
+    fn name(&self) -> &'static str {
+        self.name
+    }
+
+    fn verdict(&self, file: &[u8]) -> (u32, usize) {
         let mut place = usize::MAX;
         // SAFETY: the file is readable for its length, the place is writable.
-        let number = unsafe { (self.check)(file.as_ptr(), file.len(), &mut place) };
+        let number = run(&self.stacks.check, file, || unsafe { (self.check)(file.as_ptr(), file.len(), &mut place) });
         (number, place)
     }
 
-    /// How many nodes were written to the lent buffer.
-    fn list(&self, file: &[u8], nodes: &mut [u8]) -> usize {
-        // SAFETY: the file is readable for its length, the buffer is writable for its.
-        unsafe { (self.environments)(file.as_ptr(), file.len(), nodes.as_mut_ptr(), nodes.len()) }
-    }
-
-    /// The whole answer. Panics if a lent buffer is changed where it is to be left as it was.
-    pub fn check(&self, file: &[u8]) -> Answer {
+    /// Panics if a lent buffer is changed where it is to be left as it was.
+    fn check(&self, file: &[u8]) -> Answer {
         let (number, place) = self.verdict(file);
         let mut room = [UNTOUCHED; ROOM];
         let count = self.list(file, &mut room);
@@ -53,12 +64,23 @@ impl Interface {
         Answer { number, place, nodes }
     }
 
-    pub fn part(&self, message: &[u8], ids: [u16; 4]) -> Range<usize> {
+    fn part(&self, message: &[u8], ids: [u16; 4]) -> Range<usize> {
         let mut start = usize::MAX;
         let [a, b, c, d] = ids;
         // SAFETY: the message is readable for its length, the start is writable.
-        let length = unsafe { (self.part)(message.as_ptr(), message.len(), a, b, c, d, &mut start) };
+        let length = run(&self.stacks.part, message, || unsafe {
+            (self.part)(message.as_ptr(), message.len(), a, b, c, d, &mut start)
+        });
         start..start + length
+    }
+
+    fn fresh(&self, file: &[u8], state: &mut [u8]) -> StepAnswer {
+        run(&self.stacks.check, file, || self.moves.fresh(file, state))
+    }
+
+    fn step(&self, file: &[u8], state: &mut [u8], out: &mut [u8], named: &Move, outside: &[u8]) -> StepAnswer {
+        let given = Given { read: file, state: &raw const *state, named: Some(named) };
+        run(&self.stacks.moves, given, || self.moves.step(file, state, out, named, outside))
     }
 }
 

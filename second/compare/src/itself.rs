@@ -1,13 +1,13 @@
 //! The library behind the interface of the proved code, to try the comparison without that code.
 
-use std::ops::Range;
 use std::slice;
 
 use stepper::Move;
 
 use crate::interface::{record, Interface, RECORD};
-use crate::moves::{Moves, StepAnswer};
-use crate::{Answer, Second, Side};
+use crate::moves::Moves;
+use crate::stack::Stacks;
+use crate::{Second, Side};
 
 unsafe extern "C" fn check(file: *const u8, length: usize, place: *mut usize) -> u32 {
     let answer = Second.check(unsafe { slice::from_raw_parts(file, length) });
@@ -40,8 +40,6 @@ unsafe extern "C" fn part(
     unsafe { *start = part.start };
     part.len()
 }
-
-const INTERFACE: Interface = Interface { check, environments, part };
 
 /// What every move is given.
 struct Given {
@@ -207,29 +205,7 @@ unsafe extern "C" fn close(
 
 const MOVES: Moves = Moves { fresh, local, receive, send, reply, outer_message, outer_reply, close };
 
-pub struct Itself;
-
-impl Side for Itself {
-    fn name(&self) -> &'static str {
-        "itself"
-    }
-
-    fn verdict(&self, file: &[u8]) -> (u32, usize) {
-        INTERFACE.verdict(file)
-    }
-
-    fn check(&self, file: &[u8]) -> Answer {
-        INTERFACE.check(file)
-    }
-
-    fn part(&self, message: &[u8], ids: [u16; 4]) -> Range<usize> {
-        INTERFACE.part(message, ids)
-    }
-    fn fresh(&self, file: &[u8], state: &mut [u8]) -> StepAnswer {
-        MOVES.fresh(file, state)
-    }
-
-    fn step(&self, file: &[u8], state: &mut [u8], out: &mut [u8], named: &Move, outside: &[u8]) -> StepAnswer {
-        MOVES.step(file, state, out, named, outside)
-    }
+/// On the caller's stack: the library is no part of what is stated.
+pub fn itself() -> Interface {
+    Interface { name: "itself", check, environments, part, moves: MOVES, stacks: Stacks::default() }
 }

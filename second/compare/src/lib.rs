@@ -6,6 +6,7 @@ pub mod itself;
 pub mod moves;
 #[cfg(feature = "proved")]
 pub mod proved;
+pub mod stack;
 pub mod walks;
 
 use std::fmt;
@@ -15,6 +16,33 @@ use second::ServiceEnvironments;
 use stepper::{Move, Refused};
 
 use moves::StepAnswer;
+
+/// What lent buffers hold before a call, to see what the call leaves alone.
+pub const UNTOUCHED: u8 = 0xa5;
+
+/// The proved code, each function on the stack that it may use.
+#[cfg(feature = "proved")]
+pub fn other() -> interface::Interface {
+    proved::proved(stack::Stacks::stated())
+}
+
+/// The library behind the interface of the proved code.
+#[cfg(not(feature = "proved"))]
+pub fn other() -> interface::Interface {
+    itself::itself()
+}
+
+/// Stack for the library, which goes down nested rows as it likes.
+const LIBRARY_STACK: usize = 64 << 20;
+
+/// Does some work in a thread with room for the library.
+pub fn with_large_stack<T: Send + 'static>(
+    work: impl FnOnce() -> Result<T, String> + Send + 'static,
+) -> Result<T, String> {
+    let thread = std::thread::Builder::new().stack_size(LIBRARY_STACK).spawn(work);
+    let thread = thread.map_err(|error| error.to_string())?;
+    thread.join().map_err(|_| "the work has panicked".to_string())?
+}
 
 /// An environment node as the interface gives it.
 #[derive(Clone, Copy, PartialEq, Eq, Debug)]
@@ -145,7 +173,7 @@ pub fn differing_part(message: &[u8], ids: [u16; 4], left: &dyn Side, right: &dy
 #[cfg(test)]
 mod tests {
     use super::*;
-    use crate::itself::Itself;
+    use crate::itself::itself;
 
     /// A side that is wrong in one thing.
     struct Wrong(fn(&mut Answer));
@@ -186,13 +214,13 @@ mod tests {
 
     #[test]
     fn the_interface_gives_what_the_library_gives() {
-        assert_eq!(differing_check(&CASE_D, &Second, &Itself), None);
+        assert_eq!(differing_check(&CASE_D, &Second, &itself()), None);
         assert_eq!(Second.check(&CASE_D).nodes.len(), 2);
-        assert_eq!(differing_check(&CASE_D[1..], &Second, &Itself), None);
+        assert_eq!(differing_check(&CASE_D[1..], &Second, &itself()), None);
         assert_eq!(Second.check(&CASE_D[1..]).number, 2);
         let (message, ids) = generate::maximal::message();
-        assert_eq!(differing_part(&message, ids, &Second, &Itself), None);
-        assert_eq!(differing_part(&message, [9, 0, 0, 0], &Second, &Itself), None);
+        assert_eq!(differing_part(&message, ids, &Second, &itself()), None);
+        assert_eq!(differing_part(&message, [9, 0, 0, 0], &Second, &itself()), None);
     }
 
     #[test]

@@ -7,22 +7,12 @@
 use std::process::ExitCode;
 use std::time::Instant;
 
-use compare::{differing_check, differing_part, walks, Second, Side};
+use compare::{differing_check, differing_part, other, walks, with_large_stack, Second, Side};
 use generate::walks::WalkHits;
 use generate::{file, messages, Hits, Random};
 
 /// Each refusal, place and kind of row is to be hit this often.
 const LEAST: usize = 20;
-
-#[cfg(feature = "proved")]
-fn other() -> impl Side {
-    compare::proved::Proved
-}
-
-#[cfg(not(feature = "proved"))]
-fn other() -> impl Side {
-    compare::itself::Itself
-}
 
 struct Options {
     seed: u64,
@@ -51,7 +41,7 @@ fn options() -> Result<Options, String> {
 }
 
 fn main() -> ExitCode {
-    match options().and_then(|options| run(&options)) {
+    match with_large_stack(|| options().and_then(|options| run(&options))) {
         Ok(code) => code,
         Err(message) => {
             eprintln!("{message}");

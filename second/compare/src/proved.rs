@@ -1,12 +1,8 @@
 //! The proved code, linked from libhost.a.
 
-use std::ops::Range;
-
-use stepper::Move;
-
 use crate::interface::Interface;
-use crate::moves::{Moves, StepAnswer};
-use crate::{Answer, Side};
+use crate::moves::Moves;
+use crate::stack::Stacks;
 
 extern "C" {
     fn pokhveti_check(file: *const u8, length: usize, place: *mut usize) -> u32;
@@ -119,9 +115,6 @@ extern "C" {
     ) -> u32;
 }
 
-const INTERFACE: Interface =
-    Interface { check: pokhveti_check, environments: pokhveti_environments, part: pokhveti_part };
-
 const MOVES: Moves = Moves {
     fresh: pokhveti_fresh,
     local: pokhveti_local,
@@ -133,29 +126,13 @@ const MOVES: Moves = Moves {
     close: pokhveti_close,
 };
 
-pub struct Proved;
-
-impl Side for Proved {
-    fn name(&self) -> &'static str {
-        "proved"
-    }
-
-    fn verdict(&self, file: &[u8]) -> (u32, usize) {
-        INTERFACE.verdict(file)
-    }
-
-    fn check(&self, file: &[u8]) -> Answer {
-        INTERFACE.check(file)
-    }
-
-    fn part(&self, message: &[u8], ids: [u16; 4]) -> Range<usize> {
-        INTERFACE.part(message, ids)
-    }
-    fn fresh(&self, file: &[u8], state: &mut [u8]) -> StepAnswer {
-        MOVES.fresh(file, state)
-    }
-
-    fn step(&self, file: &[u8], state: &mut [u8], out: &mut [u8], named: &Move, outside: &[u8]) -> StepAnswer {
-        MOVES.step(file, state, out, named, outside)
+pub fn proved(stacks: Stacks) -> Interface {
+    Interface {
+        name: "proved",
+        check: pokhveti_check,
+        environments: pokhveti_environments,
+        part: pokhveti_part,
+        moves: MOVES,
+        stacks,
     }
 }

@@ -6,10 +6,7 @@ use stepper::decode::decode;
 use stepper::{Made, Refused};
 
 use crate::moves::StepAnswer;
-use crate::{answer, hex, Second, Side};
-
-/// What lent buffers hold before a call.
-const UNTOUCHED: u8 = 0xa5;
+use crate::{answer, hex, Second, Side, UNTOUCHED};
 
 /// An answer with the buffers that the call has left.
 #[derive(Clone, PartialEq, Eq)]
@@ -157,7 +154,7 @@ fn sweep(random: &mut Random, walk: &Walk) -> Result<(), String> {
 #[cfg(test)]
 mod tests {
     use super::*;
-    use crate::itself::Itself;
+    use crate::itself::itself;
     use crate::Answer;
     use std::ops::Range;
     use stepper::Move;
@@ -232,7 +229,7 @@ mod tests {
         let mut random = Random::new(2);
         let mut hits = WalkHits::default();
         for _ in 0..20 {
-            walk(&mut random, &mut hits, &Itself).unwrap_or_else(|report| panic!("{report}"));
+            walk(&mut random, &mut hits, &itself()).unwrap_or_else(|report| panic!("{report}"));
         }
         let wrong = Wrong(|left| left.answer.bytes += usize::from(left.answer.number == 19));
         assert!((0..100).any(|_| walk(&mut random, &mut hits, &wrong).is_err()));

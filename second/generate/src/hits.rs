@@ -9,6 +9,7 @@ use second::tables::{Section, Tables};
 use second::{Basic, Cause, Environment, Network, Refusal, ServiceEnvironments};
 
 use crate::messages::Damage;
+use crate::nests;
 
 /// Each name was to be hit often enough.
 pub struct Hits {
@@ -59,6 +60,9 @@ const READS: [&str; 12] = [
     "a message of one node",
 ];
 
+/// Levels of expressions, down to the leaves that a row of 8 levels can have.
+const EXPRESSION: &str = "operands, 128 leaves";
+
 impl Default for Hits {
     fn default() -> Hits {
         let mut names: Vec<String> = vec!["accepted".into()];
@@ -81,6 +85,9 @@ impl Default for Hits {
         names.extend((0..10).map(|kind| format!("accepted with expression kind {kind}")));
         names.extend(Basic::ALL.map(|basic| format!("accepted with basic type {}", basic.name())));
         names.extend(FEATURES.map(|feature| format!("accepted with {feature}")));
+        for verdict in ["accepted", "refused by 6 to 13"] {
+            names.extend(nests::names().chain([EXPRESSION]).map(|name| format!("{verdict} with nested {name}")));
+        }
         names.extend(READS.map(|read| format!("message: {read}")));
         names.extend(Basic::ALL.map(|basic| format!("message: a part of type {}", basic.name())));
         names.extend(Damage::ALL.map(|damage| format!("message: damaged, {damage:?}")));
@@ -131,6 +138,20 @@ impl Hits {
             Ok(services) => self.accepted(file, services),
             Err(refusal) => self.refused(file, refusal),
         }
+        if let Ok(network) = Network::read(file) {
+            self.nests(&network, if verdict.is_ok() { "accepted" } else { "refused by 6 to 13" });
+        }
+    }
+
+    fn nests(&mut self, network: &Network, verdict: &str) {
+        let depths = nests::depths(network);
+        let mut found: Vec<&str> = depths.iter().flat_map(nests::nests_of).collect();
+        found.sort_unstable();
+        found.dedup();
+        if nests::most_leaves(network) == 128 {
+            found.push(EXPRESSION);
+        }
+        found.into_iter().for_each(|name| self.hit(format!("{verdict} with nested {name}")));
     }
 
     fn refused(&mut self, file: &[u8], refusal: &Refusal) {

@@ -3,8 +3,10 @@
 
 pub mod damage;
 pub mod hits;
+pub mod hostile;
 pub mod maximal;
 pub mod messages;
+pub mod nests;
 pub mod networks;
 pub mod random;
 pub mod walks;
@@ -22,6 +24,9 @@ pub fn blunder(random: &mut Random) -> Vec<u8> {
 pub fn file(random: &mut Random) -> Vec<u8> {
     if random.one_in(100) {
         return damage::odd_bytes(random);
+    }
+    if random.one_in(20) {
+        return nests::some(random).tables().write();
     }
     let careless = match random.below(10) {
         0..=6 => 0,

@@ -20,6 +20,21 @@ pub enum Move {
     Close { service: u16, session: u16 },
 }
 
+impl Move {
+    /// Its name in the paper.
+    pub fn name(&self) -> &'static str {
+        match self {
+            Move::Local { .. } => "local",
+            Move::Receive { .. } => "receive",
+            Move::Send { .. } => "send",
+            Move::Reply { .. } => "reply",
+            Move::OuterMessage { .. } => "outer message",
+            Move::OuterReply { .. } => "outer reply",
+            Move::Close { .. } => "close",
+        }
+    }
+}
+
 /// What a move that was made did.
 #[derive(Clone, Copy, PartialEq, Eq, Debug, PartialOrd, Ord, Hash)]
 pub enum Event {

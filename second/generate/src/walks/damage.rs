@@ -7,6 +7,7 @@ use stepper::state::{Destination, Progress, Queued, Session, State, QUEUE, SESSI
 use stepper::Tree;
 
 use super::outside::{fitting, set_basic, some_node};
+use crate::nests::reach::{finish, reach};
 use crate::networks::value;
 use crate::random::Random;
 
@@ -26,7 +27,19 @@ pub fn state(random: &mut Random, network: &Network, state: &mut State) {
     }
     let rows = Rows::of(network);
     let Some(root) = rows.root(service, number) else { return };
-    let Some(session) = state.live_mut(service, number) else { return };
+    if let Some(session) = state.live_mut(service, number) {
+        change(random, &rows, root, service, session);
+    }
+}
+
+/// Changes a live session that runs this root.
+fn change(random: &mut Random, rows: &Rows, root: usize, service: usize, session: &mut Session) {
+    let network = rows.network;
+    let own = own_rows(rows, root);
+    // Moves alone seldom get to the end of a large behaviour.
+    if random.one_in(if own.len() > 60 { 2 } else { 4 }) {
+        return arrive(random, rows, &own, session);
+    }
     match random.below(13) {
         0 | 1 => {
             if let Some(node) = some_node(random, &mut session.tree, false) {
@@ -36,15 +49,29 @@ pub fn state(random: &mut Random, network: &Network, state: &mut State) {
         2 => prune(random, &mut session.tree),
         3 => crowd(random, &mut session.tree),
         4 | 9 => {
-            let sent = sent_paths(&rows, root, session);
+            let sent = sent_paths(rows, root, session);
             let any = network.paths.iter().collect();
             let paths = if sent.is_empty() || random.one_in(3) { any } else { sent };
             grow(random, &paths, &mut session.tree);
         }
         5 | 6 => fill(random, network, service, session),
-        7 => mark(random, &rows, &own_rows(&rows, root), session),
-        10..=12 => early(random, &rows, root, session),
+        7 => mark(random, rows, &own, session),
+        10..=12 => early(random, rows, root, session),
         _ => redirect(random, network, session),
+    }
+}
+
+/// One of a session's rows is reached, undone or done, or all of them are done.
+fn arrive(random: &mut Random, rows: &Rows, own: &[usize], session: &mut Session) {
+    session.progress.fill(Progress::Undone);
+    let deep = own.len() - own.len().min(random.between(1, 4));
+    let row = own[if random.one_in(4) { random.below(own.len()) } else { deep }];
+    if random.one_in(6) {
+        return finish(rows.network, &mut session.progress, own[0]);
+    }
+    reach(rows.network, &mut session.progress, row, Destination::Outsider(random.draw() as u32));
+    if random.one_in(4) {
+        finish(rows.network, &mut session.progress, row);
     }
 }
 

@@ -11,6 +11,7 @@ use stepper::state::{Destination, Progress, Session};
 use stepper::{Bound, Event, Made, Misshape, Move, NotAllowed, Reason, Refused, State};
 
 use super::Call;
+use crate::nests;
 
 /// Each name was to be hit often enough.
 pub struct WalkHits {
@@ -86,7 +87,7 @@ const FITS: [(&str, &[Reason]); 4] = {
     ]
 };
 
-const FEATURES: [&str; 16] = [
+const FEATURES: [&str; 18] = [
     "a walk from fresh",
     "a move from fresh",
     "a move on a file that 6 to 13 refuse",
@@ -103,6 +104,8 @@ const FEATURES: [&str; 16] = [
     "a row named in the body of an input whose choice is not taken",
     "a reply of a row below one that is not taken",
     "a while's body taken over rows with marks",
+    "a while's body taken over 100 rows",
+    "a nest closed",
 ];
 
 impl Default for WalkHits {
@@ -125,6 +128,9 @@ impl Default for WalkHits {
             names.extend(reasons.iter().map(|reason| format!("{kind} 19 {reason:?}")));
         }
         names.extend(FEATURES.map(String::from));
+        for result in ["made", "refused by 15 to 19"] {
+            names.extend(nests::names().map(|name| format!("a move {result} below {name}")));
+        }
         WalkHits { counts: names.into_iter().map(|name| (name, 0)).collect() }
     }
 }
@@ -135,18 +141,6 @@ impl fmt::Display for WalkHits {
             writeln!(f, "{count:8}  {name}")?;
         }
         Ok(())
-    }
-}
-
-fn kind(named: &Move) -> &'static str {
-    match named {
-        Move::Local { .. } => "local",
-        Move::Receive { .. } => "receive",
-        Move::Send { .. } => "send",
-        Move::Reply { .. } => "reply",
-        Move::OuterMessage { .. } => "outer message",
-        Move::OuterReply { .. } => "outer reply",
-        Move::Close { .. } => "close",
     }
 }
 
@@ -172,7 +166,7 @@ impl WalkHits {
 
     /// A call by the second implementation and its result.
     pub fn call(&mut self, call: &Call, result: &Result<Made, Refused>) {
-        let kind = kind(&call.named);
+        let kind = call.named.name();
         let read = || {
             let network = Network::read(&call.file).expect("a file that passes 2 to 5");
             let state = decode(&network, &call.state).expect("a state of the file's shape");
@@ -185,14 +179,33 @@ impl WalkHits {
                 let (network, state) = read();
                 self.made(&network, &state, &call.named, made.event);
                 self.early(&network, &state, &call.named);
+                self.nests(&network, &state, &call.named, "made");
             }
             Err(refused) => {
                 self.hit(format!("{kind} {:2}", refused.number));
                 self.refused(call, kind, refused);
+                if refused.number >= 15 {
+                    let (network, state) = read();
+                    self.nests(&network, &state, &call.named, "refused by 15 to 19");
+                }
                 if refused.reason == Reason::NotAllowed(NotAllowed::NotReady) {
                     let (network, state) = read();
                     self.early(&network, &state, &call.named);
                 }
+            }
+        }
+    }
+
+    fn nests(&mut self, network: &Network, before: &State, named: &Move, result: &str) {
+        let depths = nests::depths(network);
+        match session_and_row(before, named).and_then(|(_, row)| depths.get(row)) {
+            Some(depths) => {
+                nests::nests_of(depths).iter().for_each(|name| self.hit(format!("a move {result} below {name}")));
+            }
+            None => {
+                let nest = depths.iter().any(|depths| !nests::nests_of(depths).is_empty());
+                let closed = result == "made" && matches!(named, Move::Close { .. });
+                self.feature(nest && closed, "a nest closed");
             }
         }
     }
@@ -277,6 +290,8 @@ impl WalkHits {
                 && rows.below(above).contains(&row)
         });
         self.feature(is_reply && untaken, "a reply of a row below one that is not taken");
+        let taken = matches!(event, Event::BodyTaken | Event::BodyTakenAgain);
+        self.feature(taken && rows.below(row).len() >= 100, "a while's body taken over 100 rows");
         let marked = rows.below(row).iter().any(|&below| live.progress[below] != Progress::Undone);
         self.feature(event == Event::BodyTaken && marked, "a while's body taken over rows with marks");
     }

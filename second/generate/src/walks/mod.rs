@@ -13,6 +13,7 @@ use stepper::decode::decode;
 use stepper::encode::{encode, STATE};
 use stepper::{Move, State};
 
+use crate::nests;
 use crate::random::Random;
 use choose::Candidates;
 
@@ -50,7 +51,8 @@ impl Walk {
         let mut state = vec![0; STATE];
         encode(&State::fresh(&network), &mut state);
         let from_fresh = second::check(&file).is_ok();
-        let damage = if random.one_in(2) { 0 } else { random.between(50, 300) };
+        let nested = nests::depths(&network).iter().any(|depths| !nests::nests_of(depths).is_empty());
+        let damage = if random.one_in(if nested { 8 } else { 2 }) { 0 } else { random.between(50, 300) };
         Walk { file, network, state, from_fresh, damage, moves: random.between(30, 100) }
     }
 

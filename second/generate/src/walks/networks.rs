@@ -6,6 +6,7 @@ use second::{Network, Tables};
 use stepper::rows::Rows;
 
 use super::texts;
+use crate::nests;
 use crate::networks::{tables, talkative, Blunder};
 use crate::random::Random;
 
@@ -13,6 +14,9 @@ use crate::random::Random;
 pub fn file(random: &mut Random) -> Vec<u8> {
     if random.one_in(7) {
         return texts::file(random.pick(&texts::ALL).expect("a text"));
+    }
+    if random.one_in(6) {
+        return nests::busy(random).tables().write();
     }
     loop {
         let (tables, accepted) = some_tables(random);
