@@ -1,8 +1,13 @@
 /* The checker of network files, the stepper and the message reader of Pokhveti, for C on x86-64.
  *
- * Link with libhost.a (README, "From C"). The functions keep no state and call nothing, so they may be called from several threads at
- * once. They are total: any bytes of any length are answered. A pointer must be good for the length beside it, and is not NULL even where
- * that length is 0; a buffer that is lent for writing shares no byte with the bytes that are read or with another such buffer. */
+ * Link with libhost.a (README, "From C"). The library needs memcpy, memmove and memset, and neither a heap nor data of its own. The
+ * functions keep no state, so they may be called from several threads at once. They are total: any bytes of any length are answered. No
+ * pointer may be NULL, even where the length beside it is 0, and each is good for that length; a buffer that is lent for writing, and each
+ * pointer to a single result, shares no byte with the bytes that are read or with another such buffer.
+ *
+ * Stack: check, environments and fresh stay within 2 MiB, each move within 128 KiB, part within 4 KiB, on the deepest networks that 256 rows
+ * allow and on every other input that was tried. That is measured (bin/compare stack), not proved: the proofs speak of a machine without a
+ * stack. A thread needs as much beside what it takes itself. */
 #ifndef POKHVETI_H
 #define POKHVETI_H
 
@@ -47,12 +52,12 @@ size_t pokhveti_part(const uint8_t *message, size_t length, uint16_t first, uint
 
 /* Writes the fresh state of an accepted file: the clients live, all else free. Gives 0, otherwise the number of the refusal, 1 to 13, with
  * its place in *place, and the state is left as it was. What a state's bytes mean is in docs/STATE.md; between two moves they belong to
- * the caller, who may copy or store them. */
+ * the caller, who may copy or store them. They do not say which file they were made for: the caller passes the same file with each move. */
 uint32_t pokhveti_fresh(const uint8_t *file, size_t length, uint8_t *state, size_t state_size, size_t *place);
 
 /* The moves. Each gives 0 if it was made, otherwise the number of the refusal, 1 to 5 or 14 to 19, with its place in *place (0 from 14 on),
  * and both buffers are left as they were. *bytes is how many bytes were written to the start of the out buffer, 0 if nothing went out; the
- * bytes past them stay. Services, rows and sessions count from 0. */
+ * bytes past them stay. Services, rows and sessions count from 0: session 0 runs the service's client, 1 to 3 are started by messages. */
 
 /* A ready assign, if or while. */
 uint32_t pokhveti_local(const uint8_t *file, size_t length, uint8_t *state, size_t state_size, uint8_t *out, size_t out_size,
@@ -62,8 +67,8 @@ uint32_t pokhveti_local(const uint8_t *file, size_t length, uint8_t *state, size
 uint32_t pokhveti_receive(const uint8_t *file, size_t length, uint8_t *state, size_t state_size, uint8_t *out, size_t out_size,
                           uint16_t service, uint16_t session, uint16_t row, size_t *bytes, size_t *place);
 
-/* A ready notification or solicit-response sends to the target session of the service that it names; to a location outside the target is
- * 0 and the message goes to the out buffer. */
+/* A ready notification or solicit-response sends to the service at its location. The target is the session there that the message is queued
+ * at, or a free one of 1 to 3 that it starts; to a location outside the file the target is 0 and the message goes to the out buffer. */
 uint32_t pokhveti_send(const uint8_t *file, size_t length, uint8_t *state, size_t state_size, uint8_t *out, size_t out_size,
                        uint16_t service, uint16_t session, uint16_t row, uint16_t target, size_t *bytes, size_t *place);
 
@@ -72,7 +77,8 @@ uint32_t pokhveti_send(const uint8_t *file, size_t length, uint8_t *state, size_
 uint32_t pokhveti_reply(const uint8_t *file, size_t length, uint8_t *state, size_t state_size, uint8_t *out, size_t out_size,
                         uint16_t service, uint16_t session, uint16_t row, size_t *bytes, size_t *place);
 
-/* A message from outside to the input operation with this id; the reply number comes back with the reply. */
+/* A message from outside to the input operation with this id; the target is as in a send. The reply number comes back with the reply; it is
+ * ignored if the operation is one-way. */
 uint32_t pokhveti_outer_message(const uint8_t *file, size_t length, uint8_t *state, size_t state_size, uint8_t *out, size_t out_size,
                                 const uint8_t *outside, size_t outside_length, uint16_t service, uint16_t id, uint16_t target,
                                 uint32_t reply_number, size_t *bytes, size_t *place);
@@ -82,7 +88,8 @@ uint32_t pokhveti_outer_reply(const uint8_t *file, size_t length, uint8_t *state
                               const uint8_t *outside, size_t outside_length, uint16_t service, uint16_t session, uint16_t row,
                               size_t *bytes, size_t *place);
 
-/* A done session becomes free. */
+/* A done session becomes free. Its queue is dropped: messages in it that were answered with 0 are lost, and whoever waits for their reply goes
+ * on waiting. */
 uint32_t pokhveti_close(const uint8_t *file, size_t length, uint8_t *state, size_t state_size, uint8_t *out, size_t out_size,
                         uint16_t service, uint16_t session, size_t *bytes, size_t *place);
 
