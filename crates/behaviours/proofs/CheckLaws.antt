@@ -45,9 +45,9 @@ use Rattle.expressions.specs.SmallLaws.{small-typing}
 use Rattle.roots.specs.Sets.{Apart, Separates}
 use Rattle.operations.specs.Directions.{directionOf}
 use Rattle.operations.specs.PermitsLaws.{two-way}
-use Rattle.behaviours.specs.Rows.{behaviourBy, Sub, BranchSubs, KeptBy}
+use Rattle.row_parts.specs.Behaviours.{behaviourBy, Sub, BranchSubs, KeptBy}
 use Rattle.behaviours.specs.Checks.{SendsType, Sends, Receives, conditionOf, Conditions, Agrees, LeafChecks, RowChecks, ParallelChecks, Checks, Sequences, Settles, goOn, Branches}
-use Rattle.behaviours.specs.KindLaws.{row-is}
+use Rattle.row_parts.specs.KindLaws.{row-is}
 
 -- ---- steps one after another
 

@@ -23,7 +23,7 @@ use Rattle.rows.specs.Readers.{behaviourRowOf}
 use Rattle.environments.specs.declared.Environment.{Environment}
 use Rattle.environments.specs.declared.Step.{Step}
 use Rattle.environments.specs.Environment.{StandsFor, stepOf, Answers}
-use Rattle.behaviours.specs.Rows.{behaviourBy, Sub, BranchSubs, KeptBy}
+use Rattle.row_parts.specs.Behaviours.{behaviourBy, Sub, BranchSubs, KeptBy}
 
 -- The expression of E row x is ≤ the type of T row t.
 pub record SendsType (file : List ℕ) (r x t : ℕ) (e : Environment) (s : Step) : Type 0 where

@@ -38,9 +38,9 @@ use Rattle.rows.proofs.BehaviourRow as rows
 use Rattle.rows.specs.Readers.{behaviourRowOf, pathIds}
 use Rattle.types.specs.Tells.{FitsRow}
 use Rattle.types.specs.TellsLaws.{fits-message}
-use Rattle.types.specs.PathLaws.{ids-path, path-is}
-use Rattle.behaviours.specs.Rows.{behaviourBy}
-use Rattle.behaviours.specs.KindLaws.{row-is}
+use Rattle.row_parts.specs.PathLaws.{ids-path, path-is}
+use Rattle.row_parts.specs.Behaviours.{behaviourBy}
+use Rattle.row_parts.specs.KindLaws.{row-is}
 use Rattle.state.specs.Session.{ReplyTo, Progress, done, received, taken, advance, Queued, Session, Slot, free, live, State, setSlot, newSession}
 use Rattle.state.specs.Bytes.{zeros, u16Bytes, padded, progressBytes, messageBytes, treeBytes, slotBytes, stateBytes}
 use Rattle.state.specs.Shape.{WellMade, MadeSlot}

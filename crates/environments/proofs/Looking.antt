@@ -31,7 +31,7 @@ use Rattle.types.specs.Image.{image, typesAs, typeAs, typeHeadAt}
 use Rattle.types.specs.ImageLaws as types
 use Rattle.types.specs.declared.TypeHead.{TypeHead}
 use Rattle.types.specs.declared.TypeHead.the-variants.{Node, Fault}
-use Rattle.types.specs.PathLaws as paths
+use Rattle.row_parts.specs.PathLaws as paths
 use Rattle.rows.specs.Readers.{pathIds}
 use Rattle.environments.specs.declared.Environment.{Environment}
 use Rattle.environments.specs.declared.Step.{Step}

@@ -28,18 +28,18 @@ use Rattle.network.specs.Rows.{constantFits}
 use Rattle.network.specs.Decode as network
 use Rattle.network.specs.Decode.{expressionOf}
 use Rattle.rows.specs.Readers.{pathIds}
-use Rattle.expressions.specs.Parts.{unaryOf, binaryOf}
-use Rattle.expressions.specs.declared.UnaryOperator.{UnaryOperator}
-use Rattle.expressions.specs.declared.BinaryOperator.{BinaryOperator}
+use Rattle.row_parts.specs.Parts.{unaryOf, binaryOf}
+use Rattle.row_parts.specs.declared.UnaryOperator.{UnaryOperator}
+use Rattle.row_parts.specs.declared.BinaryOperator.{BinaryOperator}
 use Rattle.moves.specs.Evaluation.{leaf, found, isThere, applyUnary, applyBinary, onRoot, asLeaf, evaluate}
-use Rattle.types.specs.PathLaws.{path-is, ids-path}
+use Rattle.row_parts.specs.PathLaws.{path-is, ids-path}
 use Rattle.evaluation.specs.declared.Source.{Source}
 use Rattle.evaluation.specs.declared.Evaluated.{Evaluated}
-use Rattle.evaluation.specs.declared.Part.{Part}
-use Rattle.evaluation.specs.Parts.{partOf}
+use Rattle.row_parts.specs.declared.Part.{Part}
+use Rattle.row_parts.specs.Parts.{partOf}
 use Rattle.evaluation.specs.Evaluated.{isStuck, literal, unaryOn, binaryOn, AloneAs, Computes, SourceOf, StandsFor, StandsAt, Reads}
 use Rattle.evaluation.specs.Evaluated.{Presents, Evaluates}
-use Rattle.evaluation.proofs.PartLaws.{part-is}
+use Rattle.row_parts.specs.PartLaws.{part-is}
 
 -- ---- what is alone stands for a leaf
 

@@ -1,4 +1,3 @@
-pub mod PartLaws
 pub mod ValueLaws
 pub mod EvaluationLaws
 pub mod WritingLaws

@@ -20,9 +20,9 @@ use Rattle.scalar.specs.declared.Computed.{Computed}
 use Rattle.syntax.specs.Syntax.{Optional, none, some}
 use Rattle.layout.specs.Loops.{clip, clip-below, drop-clip, take-clip}
 use Rattle.network.specs.Layout.{D, start, dataPart}
-use Rattle.expressions.specs.Parts.{unaryOf, binaryOf}
-use Rattle.expressions.specs.declared.UnaryOperator.{UnaryOperator}
-use Rattle.expressions.specs.declared.BinaryOperator.{BinaryOperator}
+use Rattle.row_parts.specs.Parts.{unaryOf, binaryOf}
+use Rattle.row_parts.specs.declared.UnaryOperator.{UnaryOperator}
+use Rattle.row_parts.specs.declared.BinaryOperator.{BinaryOperator}
 use Rattle.moves.specs.Evaluation.{answered, applyUnary, applyBinary}
 use Rattle.evaluation.specs.declared.Decision.{Decision}
 use Rattle.evaluation.specs.declared.Evaluated.{Evaluated}

@@ -17,9 +17,9 @@ use Rattle.tree.specs.Standing.{Root}
 use Rattle.network.specs.Form.{WellFormed}
 use Rattle.network.specs.Layout.{pathCount, expressionCount}
 use Rattle.network.specs.Decode.{pathOf, expressionOf}
-use Rattle.expressions.specs.Parts.{unaryOf, binaryOf}
-use Rattle.expressions.specs.declared.UnaryOperator.{UnaryOperator}
-use Rattle.expressions.specs.declared.BinaryOperator.{BinaryOperator}
+use Rattle.row_parts.specs.Parts.{unaryOf, binaryOf}
+use Rattle.row_parts.specs.declared.UnaryOperator.{UnaryOperator}
+use Rattle.row_parts.specs.declared.BinaryOperator.{BinaryOperator}
 use Rattle.moves.specs.Evaluation.{leaf, found, isThere, applyUnary, applyBinary, evaluate}
 use Rattle.evaluation.specs.declared.Source.{Source}
 use Rattle.evaluation.specs.declared.Evaluated.{Evaluated}

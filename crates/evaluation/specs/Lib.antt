@@ -1,4 +1,3 @@
-pub mod Parts
 pub mod Evaluated
 pub mod Condition
 pub mod ConditionLaws

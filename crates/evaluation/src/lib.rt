@@ -7,18 +7,17 @@ ghost use Rattle.scalar.specs.Scalar.{answerOf, valueOf};
 ghost use Rattle.scalar.specs.Value.{Sound};
 ghost use Rattle.scalar.specs.Operator.{ofBool};
 ghost use Rattle.syntax.specs.Syntax.{none, some};
-ghost use Rattle.expressions.specs.Parts.{unaryOf, binaryOf};
+ghost use Rattle.row_parts.specs.Parts.{unaryOf, binaryOf};
 ghost use Rattle.moves.specs.Evaluation.{answered, applyUnary, applyBinary};
 ghost use Rattle.network.specs.Layout.{dataPart};
-ghost use Rattle.evaluation.specs.Parts.{unaryPart, binaryPart, partAs, partOf};
 ghost use Rattle.evaluation.specs.Condition.{truthOf, conditionOf};
 ghost use Rattle.evaluation.specs.Writing.{WritesLeaf, WritesTree, Writes};
 ghost use Rattle.evaluation.specs.Evaluated.{isStuck, literal, unaryOn, binaryOn, Computes, StandsAt, Reads, Presents, Evaluates};
-use expressions::BinaryOperator;
-use expressions::UnaryOperator;
 use layout::both;
 use layout::either;
-use rows::ExpressionRow;
+use row_parts::BinaryOperator;
+use row_parts::Part;
+use row_parts::UnaryOperator;
 use scalar::Computed;
 use scalar::Operand;
 use scalar::Scalar;
@@ -41,58 +40,6 @@ pub enum Decision {
     True,
     False,
     Stuck,
-}
-
-// An E row by its parts: a constant's basic type, start in D and length, a path, or an operator over earlier rows.
-enum Part {
-    Constant(u8, u16, u16),
-    ValueAt(u16),
-    Presence(u16),
-    Unary(UnaryOperator, u16),
-    Binary(BinaryOperator, u16, u16),
-    Broken,
-}
-
-fn unary_part(o: UnaryOperator, a: u16, r: u16) -> Part
-    ensures { λ x. ⌜ x ≡ unaryPart o a r ⌝ }
-{
-    if a < r {
-        return Part::Unary(o, a);
-    }
-    Part::Broken
-}
-
-fn binary_part(o: BinaryOperator, a: u16, b: u16, r: u16) -> Part
-    ensures { λ x. ⌜ x ≡ binaryPart o a b r ⌝ }
-{
-    if both(a < r, b < r) {
-        return Part::Binary(o, a, b);
-    }
-    Part::Broken
-}
-
-fn part_as(row: ExpressionRow, r: u16) -> Part
-    ensures { λ x. ⌜ x ≡ partAs r row ⌝ }
-{
-    match row {
-        ExpressionRow::Constant(b, v, n) => Part::Constant(b, v, n),
-        ExpressionRow::ValueAt(p) => Part::ValueAt(p),
-        ExpressionRow::Presence(p) => Part::Presence(p),
-        ExpressionRow::Not(a) => unary_part(UnaryOperator::Not, a, r),
-        ExpressionRow::Negate(a) => unary_part(UnaryOperator::Negate, a, r),
-        ExpressionRow::Add(a, b) => binary_part(BinaryOperator::Add, a, b, r),
-        ExpressionRow::Subtract(a, b) => binary_part(BinaryOperator::Subtract, a, b, r),
-        ExpressionRow::Less(a, b) => binary_part(BinaryOperator::Less, a, b, r),
-        ExpressionRow::Equal(a, b) => binary_part(BinaryOperator::Equal, a, b, r),
-        ExpressionRow::And(a, b) => binary_part(BinaryOperator::And, a, b, r),
-        ExpressionRow::Unknown => Part::Broken,
-    }
-}
-
-fn part_of(file: &[u8], r: u16) -> Part
-    ensures { λ x. ⌜ x ≡ partOf (now (file .entry)) r ⌝ }
-{
-    part_as(rows::expression_row(file, r), r)
 }
 
 fn is_stuck(p: Source) -> bool
@@ -238,7 +185,7 @@ fn presence(file: &[u8], s: &[u8], p: u16) -> Evaluated
 pub fn evaluate(file: &[u8], s: &[u8], r: u16) -> Evaluated
     ensures { λ x. ⌜ Evaluates (now (file .entry)) (now (s .entry)) r x ⌝ }
 {
-    match part_of(file, r) {
+    match row_parts::part_of(file, r) {
         Part::Constant(b, v, n) => constant(file, b, v, n),
         Part::ValueAt(p) => value_at(file, s, p),
         Part::Presence(p) => presence(file, s, p),

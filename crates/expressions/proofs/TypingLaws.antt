@@ -15,20 +15,20 @@ use Rattle.typing.specs.Result.{Result, fails, yields, require, andThen}
 use Rattle.typing.specs.Environment.{isIn, readFirm, leaf}
 use Rattle.typing.specs.ExpressionTyping.{numeric, unaryType, binaryType, typeOf}
 use Rattle.network.specs.Form.{WellFormed}
-use Rattle.network.specs.Layout.{pathCount, expressionCount}
+use Rattle.network.specs.Layout.{pathCount, expressionCount, dataPart}
 use Rattle.network.specs.Decode.{pathOf, expressionOf}
 use Rattle.environments.specs.declared.Environment.{Environment}
 use Rattle.environments.specs.declared.Reading.{Reading}
 use Rattle.environments.specs.declared.Reading.the-variants.{Firm, NotFirm}
 use Rattle.environments.specs.Environment.{StandsFor}
 use Rattle.environments.specs.Tells.{ReadAt, Reads, ReadsFirm, IsIn}
-use Rattle.expressions.specs.declared.UnaryOperator.{UnaryOperator}
-use Rattle.expressions.specs.declared.BinaryOperator.{BinaryOperator}
-use Rattle.expressions.specs.declared.Part.{Part}
+use Rattle.row_parts.specs.declared.UnaryOperator.{UnaryOperator}
+use Rattle.row_parts.specs.declared.BinaryOperator.{BinaryOperator}
+use Rattle.row_parts.specs.declared.Part.{Part}
 use Rattle.expressions.specs.declared.Typing.{Typing}
-use Rattle.expressions.specs.Parts.{unaryOf, binaryOf, partOf}
+use Rattle.row_parts.specs.Parts.{unaryOf, binaryOf, partOf}
 use Rattle.expressions.specs.Typings.{resultOf, unaryTyping, binaryTyping, withBasic, unaryTyped, besideTyped, binaryTyped, TypedAs, ValueTyped, PresenceTyped, Typed}
-use Rattle.expressions.proofs.PartLaws.{PartIs, part-is}
+use Rattle.row_parts.specs.PartLaws.{PartIs, part-is}
 
 -- ---- enums by cases
 
@@ -155,9 +155,9 @@ typed-as : (s : List ℕ) (e : Environment) (r : ℕ) {x : Typing} → ((Γ : Ty
     (f : Expression) × (expressionOf s r ≡ f) × TypedAs e x (typeOf Γ f)) → Typed s e r x
 typed-as s e r {x} h = record { tells = λ Γ g w l. let u = h Γ g w l in subst (λ (f : Expression). TypedAs e x (typeOf Γ f)) (sym (u .1)) (u .2) }
 
-pub constant-typed : (s : List ℕ) (e : Environment) (r : ℕ) {x : Part} {b : ℕ} → x ≡ partOf s r → x ≡ Part.Constant b → Typed s e r (Typing.Leaf b)
+pub constant-typed : (s : List ℕ) (e : Environment) (r : ℕ) {x : Part} {b v n : ℕ} → x ≡ partOf s r → x ≡ Part.Constant b v n → Typed s e r (Typing.Leaf b)
 unfolding typeOf
-constant-typed s e r {x} {b} p q = typed-as s e r (λ Γ g w l. let u = part-is s w r l p q in (constant (value b (u .0)), u .1, refl))
+constant-typed s e r {x} {b} {v} {n} p q = typed-as s e r (λ Γ g w l. let u = part-is s w r l p q in (constant (value b (dataPart s v n)), u .0, refl))
 
 pub value-typed : (s : List ℕ) (e : Environment) (r : ℕ) {x : Part} {p : ℕ} {y : Typing} → x ≡ partOf s r → x ≡ Part.ValueAt p → ValueTyped s e p y → Typed s e r y
 unfolding typeOf

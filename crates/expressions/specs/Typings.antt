@@ -19,8 +19,8 @@ use Rattle.network.specs.Decode.{pathOf, expressionOf}
 use Rattle.environments.specs.declared.Environment.{Environment}
 use Rattle.environments.specs.Environment.{StandsFor}
 use Rattle.environments.specs.Tells.{ReadAt}
-use Rattle.expressions.specs.declared.UnaryOperator.{UnaryOperator}
-use Rattle.expressions.specs.declared.BinaryOperator.{BinaryOperator}
+use Rattle.row_parts.specs.declared.UnaryOperator.{UnaryOperator}
+use Rattle.row_parts.specs.declared.BinaryOperator.{BinaryOperator}
 use Rattle.expressions.specs.declared.Typing.{Typing}
 
 -- The basic type, where the operands are right; else 8.

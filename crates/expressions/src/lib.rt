@@ -2,36 +2,14 @@
 // any bytes.
 ghost use mathlib.Core.Path.{_≡_};
 ghost use Rattle.typing.specs.ExpressionTyping.{numeric};
-ghost use Rattle.expressions.specs.Parts.{unaryPart, binaryPart, partAs, partOf};
 ghost use Rattle.expressions.specs.Typings.{resultOf, unaryTyping, binaryTyping, unaryTyped, binaryTyped, besideTyped, ValueTyped, PresenceTyped, Typed};
 use environments::Environment;
 use environments::Reading;
 use layout::both;
 use layout::either;
-use rows::ExpressionRow;
-
-pub enum UnaryOperator {
-    Not,
-    Negate,
-}
-
-pub enum BinaryOperator {
-    Add,
-    Subtract,
-    Less,
-    Equal,
-    And,
-}
-
-// An E row by its parts: a constant's basic type, a path, or an operator over earlier rows.
-pub enum Part {
-    Constant(u8),
-    ValueAt(u16),
-    Presence(u16),
-    Unary(UnaryOperator, u16),
-    Binary(BinaryOperator, u16, u16),
-    Broken,
-}
+use row_parts::BinaryOperator;
+use row_parts::Part;
+use row_parts::UnaryOperator;
 
 // The type of an expression: the tree at a place of the environment, with its basic type; a basic type alone; or the kind of refusal.
 pub enum Typing {
@@ -39,48 +17,6 @@ pub enum Typing {
     Leaf(u8),
     PathNotFirm,
     OperandType,
-}
-
-fn unary_part(o: UnaryOperator, a: u16, r: u16) -> Part
-    ensures { λ x. ⌜ x ≡ unaryPart o a r ⌝ }
-{
-    if a < r {
-        return Part::Unary(o, a);
-    }
-    Part::Broken
-}
-
-fn binary_part(o: BinaryOperator, a: u16, b: u16, r: u16) -> Part
-    ensures { λ x. ⌜ x ≡ binaryPart o a b r ⌝ }
-{
-    if both(a < r, b < r) {
-        return Part::Binary(o, a, b);
-    }
-    Part::Broken
-}
-
-fn part_as(row: ExpressionRow, r: u16) -> Part
-    ensures { λ x. ⌜ x ≡ partAs r row ⌝ }
-{
-    match row {
-        ExpressionRow::Constant(b, _, _) => Part::Constant(b),
-        ExpressionRow::ValueAt(p) => Part::ValueAt(p),
-        ExpressionRow::Presence(p) => Part::Presence(p),
-        ExpressionRow::Not(a) => unary_part(UnaryOperator::Not, a, r),
-        ExpressionRow::Negate(a) => unary_part(UnaryOperator::Negate, a, r),
-        ExpressionRow::Add(a, b) => binary_part(BinaryOperator::Add, a, b, r),
-        ExpressionRow::Subtract(a, b) => binary_part(BinaryOperator::Subtract, a, b, r),
-        ExpressionRow::Less(a, b) => binary_part(BinaryOperator::Less, a, b, r),
-        ExpressionRow::Equal(a, b) => binary_part(BinaryOperator::Equal, a, b, r),
-        ExpressionRow::And(a, b) => binary_part(BinaryOperator::And, a, b, r),
-        ExpressionRow::Unknown => Part::Broken,
-    }
-}
-
-fn part_of(file: &[u8], r: u16) -> Part
-    ensures { λ x. ⌜ x ≡ partOf (now (file .entry)) r ⌝ }
-{
-    part_as(rows::expression_row(file, r), r)
 }
 
 // "int, long or double"
@@ -180,8 +116,8 @@ fn presence_type(file: &[u8], e: Environment, p: u16) -> Typing
 pub fn type_of(file: &[u8], e: Environment, r: u16) -> Typing
     ensures { λ x. ⌜ Typed (now (file .entry)) e r x ⌝ }
 {
-    match part_of(file, r) {
-        Part::Constant(b) => Typing::Leaf(b),
+    match row_parts::part_of(file, r) {
+        Part::Constant(b, _, _) => Typing::Leaf(b),
         Part::ValueAt(p) => value_type(file, e, p),
         Part::Presence(p) => presence_type(file, e, p),
         Part::Unary(o, a) => {

@@ -24,8 +24,8 @@ use Rattle.network.specs.Decode.{pathOf, expressionOf, behaviourOf, networkOf}
 use Rattle.network.specs.TestLaws.{told as held, untold as failed}
 use Rattle.rows.specs.declared.BehaviourRow.{BehaviourRow}
 use Rattle.rows.specs.Readers.{behaviourRowOf}
-use Rattle.behaviours.specs.Rows.{behaviourBy, KeptBy}
-use Rattle.behaviours.specs.KindLaws.{row-is}
+use Rattle.row_parts.specs.Behaviours.{behaviourBy, KeptBy}
+use Rattle.row_parts.specs.KindLaws.{row-is}
 use Rattle.state.specs.Session.{Progress, undone, done, taken, advance, reopen, Session, live, State, setSlot}
 use Rattle.state.specs.Bytes.{u16Bytes, padded, progressBytes, rowsBytes, treeBytes, slotBytes, stateBytes, readSession}
 use Rattle.state.specs.Shape.{isUndone, WellMade}

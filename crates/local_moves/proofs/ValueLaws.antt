@@ -33,7 +33,7 @@ use Rattle.evaluation.specs.Writing.{WritesLeaf}
 use Rattle.evaluation.specs.WritingLaws.{leaf-good}
 use Rattle.session_trees.specs.declared.Change.{Change}
 use Rattle.session_trees.specs.Changing.{ChangedTo, Assigns}
-use Rattle.types.specs.PathLaws.{path-is, ids-path}
+use Rattle.row_parts.specs.PathLaws.{path-is, ids-path}
 use Rattle.local_moves.specs.Local.{SetsRoot, AssignedTo, AssignsValue}
 
 -- ---- one value

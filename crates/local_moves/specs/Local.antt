@@ -17,7 +17,7 @@ use Rattle.network.specs.Form.{WellFormed}
 use Rattle.network.specs.Layout.{pathCount, expressionCount, behaviourCount}
 use Rattle.network.specs.Decode.{pathOf, expressionOf, behaviourOf}
 use Rattle.rows.specs.declared.BehaviourRow.{BehaviourRow}
-use Rattle.behaviours.specs.Rows.{behaviourBy, KeptBy}
+use Rattle.row_parts.specs.Behaviours.{behaviourBy, KeptBy}
 use Rattle.state.specs.Session.{Progress, undone, done, waits, received, taken, Session, State}
 use Rattle.moves.specs.Evaluation.{evaluate}
 use Rattle.moves.specs.Moves.{Result, refused, require, onTree, onBool, rootValue, voidValue, localAt}

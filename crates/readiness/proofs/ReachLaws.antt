@@ -23,8 +23,8 @@ use Rattle.rows.specs.Readers.{behaviourRowAs, behaviourRowOf}
 use Rattle.state.specs.Session.{Progress, undone, done, waits, received, taken, Progresses}
 use Rattle.moves.specs.Readiness.{ifReceived, ifTaken, thenOrElse, isDone, unreached, reached, offered, here, orElse, onlyIf, offeredIf, offer, reach, served}
 use Rattle.moves.specs.Readiness as moves
-use Rattle.behaviours.specs.Rows.{behaviourBy, Sub, BranchSubs, KeptBy}
-use Rattle.behaviours.specs.KindLaws.{row-is}
+use Rattle.row_parts.specs.Behaviours.{behaviourBy, Sub, BranchSubs, KeptBy}
+use Rattle.row_parts.specs.KindLaws.{row-is}
 use Rattle.readiness.specs.declared.Ways.{Ways}
 use Rattle.readiness.specs.declared.Body.{Body}
 use Rattle.readiness.specs.declared.Reached.{Reached}

@@ -8,7 +8,7 @@ use Rattle.network.specs.Decode.{branchesFrom, behaviourOf}
 use Rattle.state.specs.Session.{Progresses}
 use Rattle.moves.specs.Readiness.{unreached, reached, offered, orElse, offer, reach, served}
 use Rattle.moves.specs.Readiness as moves
-use Rattle.behaviours.specs.Rows.{Sub, BranchSubs}
+use Rattle.row_parts.specs.Behaviours.{Sub, BranchSubs}
 use Rattle.readiness.specs.declared.Reached.{Reached}
 
 -- Rows as the behaviours that they are.

@@ -25,7 +25,7 @@ use Rattle.slots.specs.SlotLaws.{living-holds}
 use Rattle.slots.specs.Living.{Living}
 use Rattle.session_trees.specs.declared.Change.{Change}
 use Rattle.session_trees.specs.Changing.{KeptTree, ChangedTo, Replaces}
-use Rattle.types.specs.PathLaws.{path-is, ids-path}
+use Rattle.row_parts.specs.PathLaws.{path-is, ids-path}
 use Rattle.receive_moves.specs.declared.Taking.{Taking}
 use Rattle.receive_moves.specs.Receiving.{Takes}
 

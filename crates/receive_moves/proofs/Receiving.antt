@@ -19,8 +19,8 @@ use Rattle.network.specs.Decode.{pathOf, operationOf, behaviourOf, networkOf}
 use Rattle.network.specs.TestLaws.{not-true, not-false}
 use Rattle.rows.specs.declared.BehaviourRow.{BehaviourRow}
 use Rattle.rows.specs.Readers.{behaviourRowOf}
-use Rattle.behaviours.specs.Rows.{behaviourBy, KeptBy}
-use Rattle.behaviours.specs.KindLaws.{row-is}
+use Rattle.row_parts.specs.Behaviours.{behaviourBy, KeptBy}
+use Rattle.row_parts.specs.KindLaws.{row-is}
 use Rattle.state.specs.Session.{Progress, undone, done, waits, received, taken, Progresses, advance, Queued, Session, live, State, setSlot}
 use Rattle.state.specs.Bytes.{readEntry, readSession, slotBytes}
 use Rattle.state.specs.Shape.{isUndone, WellMade}

@@ -21,8 +21,8 @@ use Rattle.network.specs.Rows.{fieldA, fieldB, fieldC, fieldD, kindAt}
 use Rattle.network.specs.Decode.{branchesFrom, behaviourFrom, behaviourTo, behaviourOf}
 use Rattle.network.specs.TestLaws.{one-less, or-false}
 use Rattle.rows.specs.Readers.{behaviourRowAs, behaviourRowOf}
-use Rattle.roots.specs.declared.Subs.{Subs}
-use Rattle.roots.specs.Parts.{subsIn, subsOf}
+use Rattle.row_parts.specs.declared.Subs.{Subs}
+use Rattle.row_parts.specs.Parts.{subsIn, subsOf}
 use Rattle.state.specs.Session.{undone}
 use Rattle.state.specs.Bytes.{zeros, progressBytes}
 use Rattle.state.specs.PartLaws.{length-zeros, byte-zeros}

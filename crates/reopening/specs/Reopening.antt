@@ -11,7 +11,7 @@ use Rattle.scalar.specs.Value.{pick}
 use Rattle.syntax.specs.Rows.{hasRow}
 use Rattle.network.specs.Layout.{behaviourAt}
 use Rattle.network.specs.Decode.{branchesFrom, behaviourTo, behaviourOf}
-use Rattle.roots.specs.declared.Subs.{Subs}
+use Rattle.row_parts.specs.declared.Subs.{Subs}
 
 -- Does the place k belong to the progress of a row of which f holds, in the slot that starts at `slot`? "2,416 to 3,951: the progress of B rows
 -- 0 to 255: six bytes each" (docs/STATE.md).

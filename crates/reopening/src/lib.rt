@@ -6,7 +6,7 @@ ghost use Prim.Native.Nat.{_+_, _*_, _≤_, _<_};
 ghost use lib.ListN.{length};
 ghost use Rattle.reopening.specs.Reopening.{isRow, behaviourRows, rowsBelow, withUndone, Clears, ClearsBranches};
 use progress::Progress;
-use roots::Subs;
+use row_parts::Subs;
 
 // Row r alone; rows past 255 have no progress.
 fn clear(state: &mut [u8], slot: usize, r: usize)
@@ -28,7 +28,7 @@ fn clear_row(file: &[u8], state: &mut [u8], slot: usize, r: u16, left: u16)
     if left == 0 {
         return;
     }
-    match roots::subs_of(file, r) {
+    match row_parts::subs_of(file, r) {
         Subs::Nothing => {
             return;
         }

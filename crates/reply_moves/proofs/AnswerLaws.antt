@@ -51,7 +51,7 @@ use Rattle.waiting_rows.specs.declared.Waiting.{Waiting}
 use Rattle.waiting_rows.specs.Waiting as waiting
 use Rattle.waiting_rows.specs.Waiting.{waitingAs, WaitsAt, replied, PutsReply}
 use Rattle.waiting_rows.specs.WaitingLaws.{waits-in}
-use Rattle.types.specs.PathLaws.{ids-path, path-is}
+use Rattle.row_parts.specs.PathLaws.{ids-path, path-is}
 use Rattle.reply_moves.specs.declared.Replying.{Replying}
 use Rattle.reply_moves.specs.declared.Reply.{Reply}
 use Rattle.reply_moves.specs.Replying.{replyingAs, RowsExist, ReplyingAt, ReadAs, ReadsReply, FitsReply, RepliesOutside, StoresReply, RepliesInside}

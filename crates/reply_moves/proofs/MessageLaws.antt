@@ -30,7 +30,7 @@ use Rattle.network.specs.Decode.{pathOf, operationOf}
 use Rattle.network.specs.TestLaws.{le-of, apart, unequal, not-true, told}
 use Rattle.rows.specs.Readers.{pathIds}
 use Rattle.types.specs.Tells.{FitsRow}
-use Rattle.types.specs.PathLaws.{ids-path, path-is}
+use Rattle.row_parts.specs.PathLaws.{ids-path, path-is}
 use Rattle.state.specs.Session.{Session}
 use Rattle.state.specs.Bytes.{u32Bytes}
 use Rattle.state.specs.SizeLaws.{session-tree-size}

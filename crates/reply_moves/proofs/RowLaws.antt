@@ -23,8 +23,8 @@ use Rattle.rows.proofs.BehaviourRow as rows
 use Rattle.rows.specs.Readers.{behaviourRowAs, behaviourRowOf}
 use Rattle.operations.specs.Directions.{directionOf}
 use Rattle.operations.specs.PermitsLaws.{two-way}
-use Rattle.behaviours.specs.Rows.{behaviourBy}
-use Rattle.behaviours.specs.KindLaws.{row-is}
+use Rattle.row_parts.specs.Behaviours.{behaviourBy}
+use Rattle.row_parts.specs.KindLaws.{row-is}
 use Rattle.state.specs.Session.{ReplyTo, Progress, undone, done, waits, received, taken, Session, State}
 use Rattle.state.specs.Bytes.{readSession}
 use Rattle.moves.specs.Readiness.{isDone}

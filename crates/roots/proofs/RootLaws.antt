@@ -28,8 +28,10 @@ use Rattle.typing.specs.Occurs.{isRoot, occursIn, occurs, noSharedRoot}
 use Rattle.typing.specs.OccursLaws.{no-shared-sound, no-shared-complete}
 use Rattle.roots.specs.declared.Operands.{Operands}
 use Rattle.roots.specs.declared.Own.{Own}
-use Rattle.roots.specs.declared.Subs.{Subs}
-use Rattle.roots.specs.Parts.{operandsIn, operandsOf, ownIn, ownOf, subsIn, subsOf}
+use Rattle.row_parts.specs.declared.Subs.{Subs}
+use Rattle.row_parts.specs.Parts.{subsIn, subsOf}
+use Rattle.row_parts.specs.PartLaws.{subs-of-row}
+use Rattle.roots.specs.Parts.{operandsIn, operandsOf, ownIn, ownOf}
 use Rattle.roots.specs.Sets.{inSet, rootAt, pathRoot, expressionRoots, behaviourRoots, branchRoots, operandRoots, ownRoots, subRoots}
 use Rattle.roots.specs.Sets.{rowFor, Represented, Represents, SetOf, SetsOf, WithPath, Joined, Stored, ExpressionSet, ExpressionSets, OwnKept, OwnSet, LaterRow}
 use Rattle.roots.specs.Sets.{LaterBranches, SubsKept, LaterSets, WithBranches, WithSubs, BehaviourSet, BehaviourSets, NoParallel, Apart, Separates, Fills}
@@ -45,10 +47,6 @@ pub own-are : (s : List ℕ) (r : ℕ) {x : BehaviourRow} {y : Own} → x ≡ be
 unfolding ownOf
 own-are s r e f = f ∙ ap ownIn e
 
-pub subs-of-row : (s : List ℕ) (r : ℕ) {x : BehaviourRow} {y : Subs} → x ≡ behaviourRowOf s r → y ≡ subsIn x → y ≡ subsOf s r
-unfolding subsOf
-subs-of-row s r e f = f ∙ ap subsIn e
-
 -- The parts of a row of a known kind.
 pub operands-by : {x y : ExpressionRow} {z : Operands} → x ≡ y → z ≡ operandsIn y → z ≡ operandsIn x
 operands-by e f = f ∙ sym (ap operandsIn e)
@@ -56,12 +54,9 @@ operands-by e f = f ∙ sym (ap operandsIn e)
 pub own-by : {x y : BehaviourRow} {z : Own} → x ≡ y → z ≡ ownIn y → z ≡ ownIn x
 own-by e f = f ∙ sym (ap ownIn e)
 
-pub subs-by : {x y : BehaviourRow} {z : Subs} → x ≡ y → z ≡ subsIn y → z ≡ subsIn x
-subs-by e f = f ∙ sym (ap subsIn e)
+pub ruleset kind-laws = (operands-by, own-by)
 
-pub ruleset kind-laws = (operands-by, own-by, subs-by)
-
-pub ruleset part-laws = (operands-are, own-are, subs-of-row)
+pub ruleset part-laws = (operands-are, own-are)
 
 -- ---- a set more
 

@@ -1,5 +1,4 @@
--- What of a row names paths, and where its parts are: the path or operands of an E row; a B row's own paths and expression, and its
--- sub-behaviours. 01, E and B.
+-- What of a row names paths: the path or operands of an E row; a B row's own paths and expression. 01, E and B.
 use mathlib.Core.List.{List}
 use Prim.Native.Nat.{ℕ}
 use Rattle.rows.specs.declared.ExpressionRow.{ExpressionRow}
@@ -7,7 +6,6 @@ use Rattle.rows.specs.declared.BehaviourRow.{BehaviourRow}
 use Rattle.rows.specs.Readers.{expressionRowOf, behaviourRowOf}
 use Rattle.roots.specs.declared.Operands.{Operands}
 use Rattle.roots.specs.declared.Own.{Own}
-use Rattle.roots.specs.declared.Subs.{Subs}
 
 -- E: "1 path a, 2 is path a present, 3 not, 4 negate, 5 add, 6 subtract, 7 less, 8 equal, 9 and. Operands a, b ..".
 abbrev pub operandsIn : ExpressionRow → Operands
@@ -44,22 +42,3 @@ ownIn BehaviourRow.Unknown = Own.Nothing
 
 unfoldable pub ownOf : List ℕ → ℕ → Own
 ownOf s r = ownIn (behaviourRowOf s r)
-
--- B: the sub-behaviours of each kind of row; a choice's branches.
-abbrev pub subsIn : BehaviourRow → Subs
-subsIn BehaviourRow.Nil = Subs.Nothing
-subsIn (BehaviourRow.OneWay a b) = Subs.Nothing
-subsIn (BehaviourRow.RequestResponse a b c d) = Subs.One d
-subsIn (BehaviourRow.Notification a b) = Subs.Nothing
-subsIn (BehaviourRow.SolicitResponse a b c) = Subs.Nothing
-subsIn (BehaviourRow.If a b c) = Subs.Two b c
-subsIn (BehaviourRow.While a b) = Subs.One b
-subsIn (BehaviourRow.Sequence a b) = Subs.Two a b
-subsIn (BehaviourRow.Parallel a b) = Subs.Two a b
-subsIn (BehaviourRow.Assign a b) = Subs.Nothing
-subsIn (BehaviourRow.Choice a b) = Subs.Run a b
-subsIn (BehaviourRow.Branch a b) = Subs.Nothing
-subsIn BehaviourRow.Unknown = Subs.Nothing
-
-unfoldable pub subsOf : List ℕ → ℕ → Subs
-subsOf s r = subsIn (behaviourRowOf s r)

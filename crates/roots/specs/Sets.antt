@@ -16,7 +16,7 @@ use Rattle.rows.specs.declared.BehaviourRow.{BehaviourRow}
 use Rattle.rows.specs.Readers.{behaviourRowOf}
 use Rattle.roots.specs.declared.Operands.{Operands}
 use Rattle.roots.specs.declared.Own.{Own}
-use Rattle.roots.specs.declared.Subs.{Subs}
+use Rattle.row_parts.specs.declared.Subs.{Subs}
 
 -- ---- bits
 

@@ -3,8 +3,9 @@
 // that they name, so no row is walked twice.
 ghost use mathlib.Core.Path.{_≡_};
 ghost use Prim.Native.Nat.{_+_, _*_, _^_, _<_};
-ghost use Rattle.roots.specs.Parts.{operandsIn, operandsOf, ownIn, ownOf, subsIn, subsOf};
+ghost use Rattle.roots.specs.Parts.{operandsIn, operandsOf, ownIn, ownOf};
 ghost use Rattle.roots.specs.Sets.{Represents, WithPath, Joined, Stored, ExpressionSet, ExpressionSets, OwnSet, WithBranches, WithSubs, BehaviourSet, BehaviourSets, NoParallel, Apart, Fills};
+use row_parts::Subs;
 use rows::BehaviourRow;
 use rows::ExpressionRow;
 
@@ -23,14 +24,6 @@ pub enum Own {
     Paths(u16, u16),
     Expression(u16),
     Both(u16, u16),
-}
-
-// The sub-behaviours of a B row; a choice's first row and count.
-pub enum Subs {
-    Nothing,
-    One(u16),
-    Two(u16, u16),
-    Run(u16, u16),
 }
 
 fn operands_in(row: ExpressionRow) -> Operands
@@ -81,32 +74,6 @@ pub fn own_of(s: &[u8], r: u16) -> Own
     ensures { λ x. ⌜ x ≡ ownOf (now (s .entry)) r ⌝ }
 {
     own_in(rows::behaviour_row(s, r))
-}
-
-fn subs_in(row: BehaviourRow) -> Subs
-    ensures { λ x. ⌜ x ≡ subsIn row ⌝ }
-{
-    match row {
-        BehaviourRow::Nil => Subs::Nothing,
-        BehaviourRow::OneWay(_, _) => Subs::Nothing,
-        BehaviourRow::RequestResponse(_, _, _, d) => Subs::One(d),
-        BehaviourRow::Notification(_, _) => Subs::Nothing,
-        BehaviourRow::SolicitResponse(_, _, _) => Subs::Nothing,
-        BehaviourRow::If(_, b, c) => Subs::Two(b, c),
-        BehaviourRow::While(_, b) => Subs::One(b),
-        BehaviourRow::Sequence(a, b) => Subs::Two(a, b),
-        BehaviourRow::Parallel(a, b) => Subs::Two(a, b),
-        BehaviourRow::Assign(_, _) => Subs::Nothing,
-        BehaviourRow::Choice(first, n) => Subs::Run(first, n),
-        BehaviourRow::Branch(_, _) => Subs::Nothing,
-        BehaviourRow::Unknown => Subs::Nothing,
-    }
-}
-
-pub fn subs_of(s: &[u8], r: u16) -> Subs
-    ensures { λ x. ⌜ x ≡ subsOf (now (s .entry)) r ⌝ }
-{
-    subs_in(rows::behaviour_row(s, r))
 }
 
 // For each root id of a P row one P row that has it.
@@ -250,7 +217,7 @@ fn behaviour_set(
 {
     let row = rows::behaviour_row(s, r);
     let own = own_set(s, table, known, own_in(row));
-    with_subs(s, sets, own, subs_in(row))
+    with_subs(s, sets, own, row_parts::subs_in(row))
 }
 
 fn behaviour_sets(s: &[u8], table: &[u8; 65536], known: &[u8; 8192], sets: &mut [u8; 8192])

@@ -18,8 +18,8 @@ use Rattle.rows.specs.declared.BehaviourRow.{BehaviourRow}
 use Rattle.rows.proofs.BehaviourRow as rows
 use Rattle.rows.specs.Readers.{behaviourRowOf}
 use Rattle.operations.specs.Directions.{directionOf}
-use Rattle.behaviours.specs.Rows.{behaviourBy, KeptBy}
-use Rattle.behaviours.specs.KindLaws.{row-is}
+use Rattle.row_parts.specs.Behaviours.{behaviourBy, KeptBy}
+use Rattle.row_parts.specs.KindLaws.{row-is}
 use Rattle.state.specs.Session.{ReplyTo, Progress, Session, State}
 use Rattle.state.specs.Bytes.{readSession}
 use Rattle.progress.specs.declared.Progress as coded

@@ -37,9 +37,9 @@ use Rattle.environments.specs.Environment.{standing, Shape, StandsFor, stepOf, 
 use Rattle.environments.specs.EnvironmentLaws.{answers-as, answers-done, answers-refused, answers-refuse, answers-pass, stands-empty}
 use Rattle.environments.specs.UnionLaws.{unionFrom-within, union-within, from-start}
 use Rattle.environments.specs.Tells.{OneTyped, Unites}
-use Rattle.behaviours.specs.Rows.{behaviourBy, Sub, BranchSubs, KeptBy}
+use Rattle.row_parts.specs.Behaviours.{behaviourBy, Sub, BranchSubs, KeptBy}
 use Rattle.behaviours.specs.Checks.{Checks, Sequences}
-use Rattle.behaviours.specs.KindLaws.{row-is}
+use Rattle.row_parts.specs.KindLaws.{row-is}
 use Rattle.outputs.specs.Outputs.{verdictOf}
 use Rattle.starters.specs.Starters.{branchAt, branchList, Run, Gives, Each, Against, OneEach, UnitesAll, Joins, Gathers, Starts, Clients}
 use Rattle.starters.specs.declared.Gathered.{Gathered}

@@ -21,7 +21,7 @@ use Rattle.network.specs.Decode.{branchesFrom, behaviourOf}
 use Rattle.environments.specs.declared.Environment.{Environment}
 use Rattle.environments.specs.declared.Step.{Step}
 use Rattle.environments.specs.Environment.{StandsFor, Answers}
-use Rattle.behaviours.specs.Rows.{BranchSubs}
+use Rattle.row_parts.specs.Behaviours.{BranchSubs}
 use Rattle.outputs.specs.Outputs.{verdictOf}
 use Rattle.starters.specs.declared.Gathered.{Gathered}
 

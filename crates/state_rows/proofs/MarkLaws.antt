@@ -17,8 +17,8 @@ use Rattle.network.specs.Rows.{fieldA, fieldB, fieldC, fieldD, kindAt}
 use Rattle.network.specs.Decode.{branchesFrom, behaviourFrom, behaviourTo, behaviourOf}
 use Rattle.network.specs.TestLaws.{one-less, or-false, or-assoc}
 use Rattle.rows.specs.Readers.{behaviourRowAs, behaviourRowOf}
-use Rattle.roots.specs.declared.Subs.{Subs}
-use Rattle.roots.specs.Parts.{subsIn, subsOf}
+use Rattle.row_parts.specs.declared.Subs.{Subs}
+use Rattle.row_parts.specs.Parts.{subsIn, subsOf}
 use Rattle.syntax.specs.Rows.{hasRow}
 use Rattle.scalar.specs.Value.{pick}
 use Rattle.state_rows.specs.Marks.{markFor, Adds, itselfRow, rowsTo, branchRows, subRows, AddsBranches, RowsOf}

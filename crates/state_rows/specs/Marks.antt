@@ -7,7 +7,7 @@ use Prim.Native.Nat.{ℕ, _<_}
 use lib.ListN.{getD, length}
 use lib.Dec.{eqb}
 use Rattle.network.specs.Decode.{branchesFrom, behaviourTo, behaviourOf}
-use Rattle.roots.specs.declared.Subs.{Subs}
+use Rattle.row_parts.specs.declared.Subs.{Subs}
 use Rattle.scalar.specs.Value.{pick}
 use Rattle.syntax.specs.Rows.{hasRow}
 

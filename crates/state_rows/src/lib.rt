@@ -8,7 +8,7 @@ ghost use Rattle.state.specs.Bytes.{readReply, readProgress};
 ghost use Rattle.state.specs.Shape.{isDestination};
 ghost use Rattle.state_rows.specs.Marks.{Adds, itselfRow, rowsTo, AddsBranches, RowsOf};
 ghost use Rattle.state_rows.specs.Allowed.{allowing, allowedBy, allowedAt, permits, permitted};
-use roots::Subs;
+use row_parts::Subs;
 use rows::BehaviourRow;
 
 // What progress a row can have besides undone: done, waiting for its reply, received, or one of so many parts taken.
@@ -36,7 +36,7 @@ fn mark_row(s: &[u8], marks: &mut [u8; 256], r: u16, left: u16)
     if left == 0 {
         return;
     }
-    match roots::subs_of(s, r) {
+    match row_parts::subs_of(s, r) {
         Subs::Nothing => {
             return;
         }

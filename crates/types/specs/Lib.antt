@@ -1,6 +1,5 @@
 pub mod Image
 pub mod TypeRows
-pub mod PathLaws
 pub mod Tells
 pub mod TellsLaws
 pub mod ImageLaws

@@ -31,7 +31,7 @@ use Rattle.slots.specs.Living.{Living}
 use Rattle.session_trees.specs.declared.Change.{Change}
 use Rattle.session_trees.specs.Changing.{KeptTree, ChangedTo, Replaces}
 use Rattle.moving.specs.Made.{InSession}
-use Rattle.types.specs.PathLaws.{ids-path, path-is}
+use Rattle.row_parts.specs.PathLaws.{ids-path, path-is}
 use Rattle.waiting_rows.specs.Waiting.{replied, PutsReply, TakesReply}
 
 -- ---- `put_reply`

@@ -1,5 +1,5 @@
 use borrow.Author.Needs.{needs}
-use Rattle.evaluation.proofs.PartLaws.{unary-falls, binary-falls}
+use Rattle.row_parts.specs.PartLaws.{unary-falls, binary-falls}
 use native.Mathlib.Omega.{arith}
 use Rattle.evaluation.proofs.EvaluationLaws.{row-laws}
 use Prim.Native.Nat.{ℕ, _<_}
@@ -10,7 +10,7 @@ use Rattle.evaluation.proofs.evaluate.Kinds as evaluate-kinds
 use Rattle.evaluation.proofs.+evaluate.Lts-evaluate as evaluate-lts
 use Rattle.evaluation.proofs.binary.Reads as binary-reads
 use Rattle.evaluation.proofs.constant.Reads as constant-reads
-use Rattle.evaluation.proofs.part_of.Reads as part-of-reads
+use Rattle.row_parts.proofs.part_of.Reads as part-of-reads
 use Rattle.evaluation.proofs.presence.Reads as presence-reads
 use Rattle.evaluation.proofs.stuck.Reads as stuck-reads
 use Rattle.evaluation.proofs.unary.Reads as unary-reads

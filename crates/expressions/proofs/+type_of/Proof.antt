@@ -1,4 +1,4 @@
-use Rattle.expressions.proofs.PartLaws.{unary-falls, binary-falls}
+use Rattle.row_parts.specs.PartLaws.{unary-falls, binary-falls}
 use Rattle.expressions.proofs.TypingLaws.{type-laws}
 use borrow.Author.Needs.{needs}
 use native.Mathlib.Omega.{arith}
@@ -9,7 +9,7 @@ use Rattle.expressions.proofs.type_of.Reads as type-of
 use Rattle.expressions.proofs.type_of.Kinds as type-of-kinds
 use Rattle.expressions.proofs.+type_of.Lts-type_of as type-of-lts
 use Rattle.expressions.proofs.binary.Reads as binary-reads
-use Rattle.expressions.proofs.part_of.Reads as part-of-reads
+use Rattle.row_parts.proofs.part_of.Reads as part-of-reads
 use Rattle.expressions.proofs.presence_type.Reads as presence-type-reads
 use Rattle.expressions.proofs.unary.Reads as unary-reads
 use Rattle.expressions.proofs.value_type.Reads as value-type-reads

@@ -13,7 +13,7 @@ use Rattle.reopening.proofs.clear_row.Kinds as clear-row-kinds
 use Rattle.reopening.proofs.+clear_branches+clear_row.Lts-clear_row as clear-row-lts
 use Rattle.layout.proofs.behaviour_at.Reads as behaviour-at-reads
 use Rattle.reopening.proofs.clear.Reads as clear-reads
-use Rattle.roots.proofs.subs_of.Reads as subs-of-reads
+use Rattle.row_parts.proofs.subs_of.Reads as subs-of-reads
 use Rattle.wire.proofs.index.Reads as index-reads
 use Rattle.wire.proofs.u16_at.Reads as u16-at-reads
 use Rattle.reopening.proofs.+clear_branches+clear_row.{statement}

@@ -6,7 +6,7 @@ use Rattle.roots.proofs.behaviour_set.Reads as reads
 use Rattle.roots.proofs.behaviour_set.Lts as lts
 use Rattle.roots.proofs.own_in.Reads as own-in-reads
 use Rattle.roots.proofs.own_set.Reads as own-set-reads
-use Rattle.roots.proofs.subs_in.Reads as subs-in-reads
+use Rattle.row_parts.proofs.subs_in.Reads as subs-in-reads
 use Rattle.roots.proofs.with_subs.Reads as with-subs-reads
 use Rattle.rows.proofs.behaviour_row.Reads as behaviour-row-reads
 

@@ -1,9 +1,9 @@
-use Rattle.evaluation.proofs.PartLaws.{part-laws}
+use Rattle.row_parts.specs.PartLaws.{part-laws}
 use borrow.Author.Needs.{needs}
-use Rattle.evaluation.proofs.binary_part.Statement.{statement}
-use Rattle.evaluation.proofs.binary_part.Tie as tie
-use Rattle.evaluation.proofs.binary_part.Reads as reads
-use Rattle.evaluation.proofs.binary_part.Lts as lts
+use Rattle.row_parts.proofs.binary_part.Statement.{statement}
+use Rattle.row_parts.proofs.binary_part.Tie as tie
+use Rattle.row_parts.proofs.binary_part.Reads as reads
+use Rattle.row_parts.proofs.binary_part.Lts as lts
 use Rattle.layout.proofs.both.Reads as both-reads
 
 both-requires : tie.Need-both-requires

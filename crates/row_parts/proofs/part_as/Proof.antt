@@ -1,12 +1,11 @@
-use Rattle.expressions.proofs.PartLaws.{part-laws}
-use native.Mathlib.Omega.{arith}
+use Rattle.row_parts.specs.PartLaws.{part-laws}
 use borrow.Author.Needs.{needs}
-use Rattle.expressions.proofs.part_as.Statement.{statement}
-use Rattle.expressions.proofs.part_as.Tie as tie
-use Rattle.expressions.proofs.part_as.Reads as reads
-use Rattle.expressions.proofs.part_as.Lts as lts
-use Rattle.expressions.proofs.binary_part.Reads as binary-part-reads
-use Rattle.expressions.proofs.unary_part.Reads as unary-part-reads
+use Rattle.row_parts.proofs.part_as.Statement.{statement}
+use Rattle.row_parts.proofs.part_as.Tie as tie
+use Rattle.row_parts.proofs.part_as.Reads as reads
+use Rattle.row_parts.proofs.part_as.Lts as lts
+use Rattle.row_parts.proofs.binary_part.Reads as binary-part-reads
+use Rattle.row_parts.proofs.unary_part.Reads as unary-part-reads
 
 enum-known-row : tie.Need-enum-known-row
 enum-known-row c = search needs
@@ -93,7 +92,7 @@ returns-10 : tie.Need-returns-10
 returns-10 c = search part-laws depth 12
 
 returns-11 : tie.Need-returns-11
-returns-11 c = search part-laws depth 12
+returns-11 c = search needs
 
 pub part-as-spec : {M : Type 1} → statement M
 part-as-spec =

@@ -13,7 +13,7 @@ use Rattle.network.specs.UseLaws.{Child, SubKept, InputKept, BranchKept, RowKep
 use Rattle.network.specs.BehaviourLaws.{behaviour-row}
 use Rattle.rows.specs.declared.BehaviourRow.{BehaviourRow}
 use Rattle.rows.specs.Readers.{behaviourRowAs, behaviourRowOf}
-use Rattle.behaviours.specs.Rows.{behaviourBy, Sub, BranchSubs, KeptBy}
+use Rattle.row_parts.specs.Behaviours.{behaviourBy, Sub, BranchSubs, KeptBy}
 
 kind-is : (s : List ℕ) (r at : ℕ) (k : BehaviourKind) → behaviourFrom s (behaviourOf s) r at k ≡ behaviourBy s r (behaviourRowAs k (fieldA s at) (fieldB s at) (fieldC s at) (fieldD s at))
 unfolding behaviourFrom behaviourRowAs

@@ -1,10 +1,10 @@
-use Rattle.evaluation.proofs.PartLaws.{part-laws}
+use Rattle.row_parts.specs.PartLaws.{part-laws}
 use borrow.Author.Needs.{needs}
-use Rattle.evaluation.proofs.part_of.Statement.{statement}
-use Rattle.evaluation.proofs.part_of.Tie as tie
-use Rattle.evaluation.proofs.part_of.Reads as reads
-use Rattle.evaluation.proofs.part_of.Lts as lts
-use Rattle.evaluation.proofs.part_as.Reads as part-as-reads
+use Rattle.row_parts.proofs.part_of.Statement.{statement}
+use Rattle.row_parts.proofs.part_of.Tie as tie
+use Rattle.row_parts.proofs.part_of.Reads as reads
+use Rattle.row_parts.proofs.part_of.Lts as lts
+use Rattle.row_parts.proofs.part_as.Reads as part-as-reads
 use Rattle.rows.proofs.expression_row.Reads as expression-row-reads
 
 expression-row-requires : tie.Need-expression-row-requires

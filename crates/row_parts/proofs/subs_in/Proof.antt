@@ -1,10 +1,10 @@
-use Rattle.roots.proofs.RootLaws.{kind-laws}
+use Rattle.row_parts.specs.PartLaws.{sub-laws}
 use native.Mathlib.Omega.{arith}
 use borrow.Author.Needs.{needs}
-use Rattle.roots.proofs.subs_in.Statement.{statement}
-use Rattle.roots.proofs.subs_in.Tie as tie
-use Rattle.roots.proofs.subs_in.Reads as reads
-use Rattle.roots.proofs.subs_in.Lts as lts
+use Rattle.row_parts.proofs.subs_in.Statement.{statement}
+use Rattle.row_parts.proofs.subs_in.Tie as tie
+use Rattle.row_parts.proofs.subs_in.Reads as reads
+use Rattle.row_parts.proofs.subs_in.Lts as lts
 
 enum-told : tie.Need-enum-told
 enum-told c = search needs
@@ -46,43 +46,43 @@ enum-told-7 : tie.Need-enum-told-7
 enum-told-7 c = search needs
 
 returns : tie.Need-returns
-returns c = search kind-laws depth 12
+returns c = search sub-laws depth 12
 
 returns-2 : tie.Need-returns-2
-returns-2 c = search kind-laws depth 12
+returns-2 c = search sub-laws depth 12
 
 returns-3 : tie.Need-returns-3
-returns-3 c = search kind-laws depth 12
+returns-3 c = search sub-laws depth 12
 
 returns-4 : tie.Need-returns-4
-returns-4 c = search kind-laws depth 12
+returns-4 c = search sub-laws depth 12
 
 returns-5 : tie.Need-returns-5
-returns-5 c = search kind-laws depth 12
+returns-5 c = search sub-laws depth 12
 
 returns-6 : tie.Need-returns-6
-returns-6 c = search kind-laws depth 12
+returns-6 c = search sub-laws depth 12
 
 returns-7 : tie.Need-returns-7
-returns-7 c = search kind-laws depth 12
+returns-7 c = search sub-laws depth 12
 
 returns-8 : tie.Need-returns-8
-returns-8 c = search kind-laws depth 12
+returns-8 c = search sub-laws depth 12
 
 returns-9 : tie.Need-returns-9
-returns-9 c = search kind-laws depth 12
+returns-9 c = search sub-laws depth 12
 
 returns-10 : tie.Need-returns-10
-returns-10 c = search kind-laws depth 12
+returns-10 c = search sub-laws depth 12
 
 returns-11 : tie.Need-returns-11
-returns-11 c = search kind-laws depth 12
+returns-11 c = search sub-laws depth 12
 
 returns-12 : tie.Need-returns-12
-returns-12 c = search kind-laws depth 12
+returns-12 c = search sub-laws depth 12
 
 returns-13 : tie.Need-returns-13
-returns-13 c = search kind-laws depth 12
+returns-13 c = search sub-laws depth 12
 
 pub subs-in-spec : {M : Type 1} → statement M
 subs-in-spec =

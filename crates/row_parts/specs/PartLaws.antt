@@ -2,27 +2,29 @@
 use Prim.Native.Nat.{ℕ, _+_, _<_, _≤_}
 use mathlib.Core.Path.{_≡_, refl, sym, _∙_, ap, subst}
 use mathlib.Core.List.{List}
-use mathlib.Core.Bool.{Bool, true, false, not, _&&_}
-use lib.Dec.{eqb, leb, ltb}
+use mathlib.Core.Bool.{Bool, true, false, _&&_}
+use lib.Dec.{ltb}
 use borrow.Author.Tests.{ltb-true, leb-true, lt-ltb, le-ltb}
 use Rattle.scalar.specs.Basic.{lastBasic}
-use Rattle.scalar.specs.Value.{Value, value, pick}
+use Rattle.scalar.specs.Value.{value, pick}
 use Rattle.syntax.specs.Syntax.{Expression, constant, valueAt, presence, unary, binary}
 use Rattle.wire.specs.Wire.{byteAt}
 use Rattle.network.specs.declared.ExpressionKind.{ExpressionKind}
 use Rattle.network.specs.Kinds.{expressionFields}
-use Rattle.network.specs.Layout.{pathCount, expressionCount, expressionAt}
-use Rattle.network.specs.Rows.{fieldA, fieldB, fieldC, expressionKindAt, fieldFits, basicFits}
+use Rattle.network.specs.Layout.{pathCount, expressionCount, expressionAt, dataPart}
+use Rattle.network.specs.Rows.{fieldA, fieldB, fieldC, expressionKindAt, fieldFits, basicFits, constantFits}
 use Rattle.network.specs.Form.{WellFormed}
 use Rattle.network.specs.Decode.{pathOf, expressionFrom, expressionOf}
-use Rattle.network.specs.DecodeLaws.{ExpressionKept, expression-kept, expression-row, known-expression}
+use Rattle.network.specs.DecodeLaws.{expression-kept, expression-row, known-expression}
 use Rattle.network.specs.TestLaws.{and-of, both-true}
 use Rattle.rows.specs.declared.ExpressionRow.{ExpressionRow}
-use Rattle.rows.specs.Readers.{expressionRowAs, expressionRowOf}
-use Rattle.expressions.specs.declared.UnaryOperator.{UnaryOperator}
-use Rattle.expressions.specs.declared.BinaryOperator.{BinaryOperator}
-use Rattle.expressions.specs.declared.Part.{Part}
-use Rattle.expressions.specs.Parts.{unaryOf, binaryOf, unaryPart, binaryPart, partAs, partOf}
+use Rattle.rows.specs.Readers.{expressionRowAs, expressionRowOf, behaviourRowOf}
+use Rattle.rows.specs.declared.BehaviourRow.{BehaviourRow}
+use Rattle.row_parts.specs.declared.UnaryOperator.{UnaryOperator}
+use Rattle.row_parts.specs.declared.BinaryOperator.{BinaryOperator}
+use Rattle.row_parts.specs.declared.Part.{Part}
+use Rattle.row_parts.specs.declared.Subs.{Subs}
+use Rattle.row_parts.specs.Parts.{unaryOf, binaryOf, unaryPart, binaryPart, partAs, partOf, subsIn, subsOf}
 
 pub part-are : (s : List ℕ) (r : ℕ) {x : ExpressionRow} {y : Part} → x ≡ expressionRowOf s r → y ≡ partAs r x → y ≡ partOf s r
 unfolding partOf
@@ -47,12 +49,21 @@ pub binary-later : (o : BinaryOperator) (a b r : ℕ) (t : Bool) → t ≡ (ltb 
 unfolding binaryPart
 binary-later o a b r t e f = rw (sym e ∙ f) refl
 
+pub subs-of-row : (s : List ℕ) (r : ℕ) {x : BehaviourRow} {y : Subs} → x ≡ behaviourRowOf s r → y ≡ subsIn x → y ≡ subsOf s r
+unfolding subsOf
+subs-of-row s r e f = f ∙ ap subsIn e
+
+pub subs-by : {x y : BehaviourRow} {z : Subs} → x ≡ y → z ≡ subsIn y → z ≡ subsIn x
+subs-by e f = f ∙ sym (ap subsIn e)
+
 pub ruleset part-laws = (part-are, part-by, unary-earlier, unary-later, binary-earlier, binary-later)
+
+pub ruleset sub-laws = (subs-of-row, subs-by)
 
 -- ---- operands are earlier rows
 
 abbrev Falls : ℕ → Part → Type 0
-Falls r (Part.Constant b) = Unit {0}
+Falls r (Part.Constant b v n) = Unit {0}
 Falls r (Part.ValueAt p) = Unit {0}
 Falls r (Part.Presence p) = Unit {0}
 Falls r (Part.Unary o a) = a < r
@@ -100,14 +111,15 @@ binary-falls s r e f = subst (Falls r) (sym e ∙ f) (falls-as r (expressionRowO
 
 -- What the parts say of the row's expression.
 abbrev pub PartIs : List ℕ → ℕ → Expression → Part → Type 0
-PartIs s r e (Part.Constant b) = (v : List ℕ) × (e ≡ constant (value b v)) × (b ≤ lastBasic)
+PartIs s r e (Part.Constant b v n) = (e ≡ constant (value b (dataPart s v n))) × (constantFits s b v n ≡ true) × (b ≤ lastBasic)
 PartIs s r e (Part.ValueAt p) = (e ≡ valueAt (pathOf s p)) × (p < pathCount s)
 PartIs s r e (Part.Presence p) = (e ≡ presence (pathOf s p)) × (p < pathCount s)
 PartIs s r e (Part.Unary o a) = (e ≡ unary (unaryOf o) (expressionOf s a)) × (a < r)
 PartIs s r e (Part.Binary o a b) = (e ≡ binary (binaryOf o) (expressionOf s a) (expressionOf s b)) × (a < r) × (b < r)
 PartIs s r e Part.Broken = ⊥
 
-unary-is : (s : List ℕ) (r a : ℕ) (e : Expression) (o : UnaryOperator) → e ≡ unary (unaryOf o) (expressionOf s a) → ltb a r ≡ true → PartIs s r e (unaryPart o a r)
+unary-is : (s : List ℕ) (r a : ℕ) (e : Expression) (o : UnaryOperator) → e ≡ unary (unaryOf o) (expressionOf s a) → ltb a r ≡ true
+    → PartIs s r e (unaryPart o a r)
 unfolding unaryPart
 unary-is s r a e o p h = subst (λ (t : Bool). PartIs s r e (pick t (Part.Unary o a) Part.Broken)) (sym h) (p, ltb-true a r h)
 
@@ -122,7 +134,7 @@ kind-is : (s : List ℕ) (r at : ℕ) (e : Expression) (k : ExpressionKind) → 
     → fieldFits s r (byteAt s (at + 1)) (expressionFields k .b) (fieldB s at) (fieldC s at) ≡ true
     → PartIs s r e (partAs r (expressionRowAs k (byteAt s (at + 1)) (fieldA s at) (fieldB s at)))
 unfolding expressionFrom basicFits fieldFits expressionFields expressionRowAs
-kind-is s r at e ExpressionKind.Constant u p b x y = (_, p, leb-true (byteAt s (at + 1)) lastBasic b)
+kind-is s r at e ExpressionKind.Constant u p b x y = (p, x, leb-true (byteAt s (at + 1)) lastBasic b)
 kind-is s r at e ExpressionKind.ValueAt u p b x y = (p, ltb-true (fieldA s at) (pathCount s) x)
 kind-is s r at e ExpressionKind.Presence u p b x y = (p, ltb-true (fieldA s at) (pathCount s) x)
 kind-is s r at e ExpressionKind.Not u p b x y = unary-is s r (fieldA s at) e UnaryOperator.Not p x

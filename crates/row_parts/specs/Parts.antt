@@ -1,5 +1,5 @@
--- E rows by their parts. 01, E: "0 constant (basic; ..), 1 path a, 2 is path a present, 3 not, 4 negate, 5 add, 6 subtract, 7 less, 8 equal,
--- 9 and. Operands a, b are earlier rows." A row with an operand that is no earlier row is broken.
+-- E rows by their parts, and the sub-behaviours of B rows. 01, E: "0 constant (basic; a start in D, b length), 1 path a, 2 is path a present, 3 not, 4 negate, 5 add,
+-- 6 subtract, 7 less, 8 equal, 9 and. Operands a, b are earlier rows." A row with an operand that is no earlier row is broken.
 use mathlib.Core.List.{List}
 use mathlib.Core.Bool.{_&&_}
 use Prim.Native.Nat.{ℕ}
@@ -7,10 +7,12 @@ use lib.Dec.{ltb}
 use Rattle.scalar.specs.Value.{pick}
 use Rattle.syntax.specs.Syntax.{Unary, logicalNot, negate, Binary, add, subtract, less, equal, logicalAnd}
 use Rattle.rows.specs.declared.ExpressionRow.{ExpressionRow}
-use Rattle.rows.specs.Readers.{expressionRowOf}
-use Rattle.expressions.specs.declared.UnaryOperator.{UnaryOperator}
-use Rattle.expressions.specs.declared.BinaryOperator.{BinaryOperator}
-use Rattle.expressions.specs.declared.Part.{Part}
+use Rattle.rows.specs.declared.BehaviourRow.{BehaviourRow}
+use Rattle.rows.specs.Readers.{expressionRowOf, behaviourRowOf}
+use Rattle.row_parts.specs.declared.UnaryOperator.{UnaryOperator}
+use Rattle.row_parts.specs.declared.BinaryOperator.{BinaryOperator}
+use Rattle.row_parts.specs.declared.Part.{Part}
+use Rattle.row_parts.specs.declared.Subs.{Subs}
 
 -- The operators of the syntax.
 abbrev pub unaryOf : UnaryOperator → Unary
@@ -32,7 +34,7 @@ unfoldable pub binaryPart : BinaryOperator → ℕ → ℕ → ℕ → Part
 binaryPart o a b r = pick (ltb a r && ltb b r) (Part.Binary o a b) Part.Broken
 
 abbrev pub partAs : ℕ → ExpressionRow → Part
-partAs r (ExpressionRow.Constant basic a b) = Part.Constant basic
+partAs r (ExpressionRow.Constant basic v n) = Part.Constant basic v n
 partAs r (ExpressionRow.ValueAt a) = Part.ValueAt a
 partAs r (ExpressionRow.Presence a) = Part.Presence a
 partAs r (ExpressionRow.Not a) = unaryPart UnaryOperator.Not a r
@@ -46,3 +48,22 @@ partAs r ExpressionRow.Unknown = Part.Broken
 
 unfoldable pub partOf : List ℕ → ℕ → Part
 partOf s r = partAs r (expressionRowOf s r)
+
+-- B: the sub-behaviours of each kind of row; a choice's branches.
+abbrev pub subsIn : BehaviourRow → Subs
+subsIn BehaviourRow.Nil = Subs.Nothing
+subsIn (BehaviourRow.OneWay a b) = Subs.Nothing
+subsIn (BehaviourRow.RequestResponse a b c d) = Subs.One d
+subsIn (BehaviourRow.Notification a b) = Subs.Nothing
+subsIn (BehaviourRow.SolicitResponse a b c) = Subs.Nothing
+subsIn (BehaviourRow.If a b c) = Subs.Two b c
+subsIn (BehaviourRow.While a b) = Subs.One b
+subsIn (BehaviourRow.Sequence a b) = Subs.Two a b
+subsIn (BehaviourRow.Parallel a b) = Subs.Two a b
+subsIn (BehaviourRow.Assign a b) = Subs.Nothing
+subsIn (BehaviourRow.Choice a b) = Subs.Run a b
+subsIn (BehaviourRow.Branch a b) = Subs.Nothing
+subsIn BehaviourRow.Unknown = Subs.Nothing
+
+unfoldable pub subsOf : List ℕ → ℕ → Subs
+subsOf s r = subsIn (behaviourRowOf s r)

@@ -1,10 +1,10 @@
-use Rattle.roots.proofs.RootLaws.{part-laws}
+use Rattle.row_parts.specs.PartLaws.{sub-laws}
 use borrow.Author.Needs.{needs}
-use Rattle.roots.proofs.subs_of.Statement.{statement}
-use Rattle.roots.proofs.subs_of.Tie as tie
-use Rattle.roots.proofs.subs_of.Reads as reads
-use Rattle.roots.proofs.subs_of.Lts as lts
-use Rattle.roots.proofs.subs_in.Reads as subs-in-reads
+use Rattle.row_parts.proofs.subs_of.Statement.{statement}
+use Rattle.row_parts.proofs.subs_of.Tie as tie
+use Rattle.row_parts.proofs.subs_of.Reads as reads
+use Rattle.row_parts.proofs.subs_of.Lts as lts
+use Rattle.row_parts.proofs.subs_in.Reads as subs-in-reads
 use Rattle.rows.proofs.behaviour_row.Reads as behaviour-row-reads
 
 behaviour-row-requires : tie.Need-behaviour-row-requires
@@ -14,7 +14,7 @@ subs-in-requires : tie.Need-subs-in-requires
 subs-in-requires c κs = search needs
 
 returns : tie.Need-returns
-returns c = search part-laws depth 12
+returns c = search sub-laws depth 12
 
 pub subs-of-spec : {M : Type 1} → statement M
 subs-of-spec = tie.close (tie.spec behaviour-row-requires subs-in-requires returns)

@@ -1,0 +1,5 @@
+pub mod Parts
+pub mod PartLaws
+pub mod Behaviours
+pub mod KindLaws
+pub mod PathLaws
