@@ -281,7 +281,7 @@ module _ (N : Network) (rows : ℕ) (acc : Accepted N rows) where
       let msg : Queued = record { operation = i .row; message = x; replyTo = back } in
       by-live N rows strict (G (i .service) n) (λ S. moved (setSlot G (i .service) n (live (withQueue S (S .queue ++ (msg ∷ []))))) [])
       (λ S e. sound-set N rows G (i .service) n (live (withQueue S (S .queue ++ (msg ∷ [])))) hG
-      (queue-sound N rows acc (i .service) n S (hG (i .service) n S e) msg (queued-sound i x back arr) (f S e)))
+      (queue-sound N rows acc (i .service) n S (hG .sessions (i .service) n S e) msg (queued-sound i x back arr) (f S e)))
   deliver-keeps strict G hG i n x back arr (starts c k a) f ad =
       goes-keeps N rows strict (saveWithin G (i .service) n (started c k a back x) [])
       (save-goes N rows acc G (i .service) n (started c k a back x) [] hG (started-sound i n c k a x back arr f ad))

@@ -8,7 +8,7 @@ use native.Mathlib.Omega.{arith}
 use lib.Dec.{eqb}
 use Rattle.scalar.specs.Value.{bytesOf, pick}
 use Rattle.wire.specs.Wire.{u16At}
-use Rattle.syntax.specs.Syntax.{none, Expression, constant, valueAt, presence, unary, binary, Operation, Service, Behaviour}
+use Rattle.syntax.specs.Syntax.{Expression, constant, valueAt, presence, unary, binary, Behaviour}
 use Rattle.network.specs.declared.ExpressionKind.{ExpressionKind}
 use Rattle.network.specs.declared.BehaviourKind.{BehaviourKind}
 use Rattle.network.specs.Layout.{pathCount, expressionCount, behaviourCount, operationCount, D, start, pathAt, expressionAt, behaviourAt, dataPart}
@@ -16,7 +16,6 @@ use Rattle.network.specs.Rows.{fieldA, fieldB, fieldC, fieldD, expressionKindAt
 use Rattle.network.specs.Form.{WellFormed}
 use Rattle.network.specs.Decode.{untilZero, pathOf, expressionFrom, expressionTo, expressionOf, operationOf, branchesFrom, behaviourFrom, behaviourTo}
 use Rattle.network.specs.Decode.{behaviourOf, networkOf}
-use Rattle.syntax.specs.Rows.{entry}
 use Rattle.network.specs.Shapes.{AllPositive, PartsShape}
 use Rattle.network.specs.DecodeLaws.{path-shape, expression-shape}
 use Rattle.network.specs.UseLaws.{RowKept, behaviour-kept, branch-kept}
@@ -24,7 +23,7 @@ use Rattle.network.specs.BehaviourLaws.{Branches, Later}
 use Rattle.network.specs.NetworkLaws.{operation-entry}
 use Rattle.tree.specs.Encode.{Octets}
 use Rattle.tree.specs.EncodeLaws.{octets-part, octets-nil}
-use Rattle.state.specs.Shape.{operationAt, serviceAt}
+use Rattle.state.specs.Shape.{operationAt}
 use Rattle.soundness.specs.GoodTrees.{AllIds, GoodPath, GoodExpression}
 use Rattle.soundness.specs.Accepted.{OfFile, MadeOf}
 

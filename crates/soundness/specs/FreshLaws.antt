@@ -21,10 +21,7 @@ use Rattle.soundness.specs.Accepted.{Accepted}
 use Rattle.soundness.specs.AcceptedLaws.{accepted}
 use Rattle.soundness.specs.Invariant.{SessionSound, Sound}
 use Rattle.soundness.specs.StartLaws.{client-sound}
-use Rattle.soundness.specs.ResultLaws.{not-live}
-
-live-inj : {R S : Session} → live R ≡ live S → R ≡ S
-live-inj e = cc
+use Rattle.soundness.specs.ResultLaws.{live-inj, not-live}
 
 module _ (N : Network) (rows : ℕ) (acc : Accepted N rows) where
   -- The client of the service q, if it has one.
@@ -40,7 +37,7 @@ module _ (N : Network) (rows : ℕ) (acc : Accepted N rows) where
 
   -- Every session of fresh state is sound.
   pub fresh-sound : Sound N rows (freshState N)
-  fresh-sound q n S h = slot-sound q n S (ℕ-discrete n 0) h
+  fresh-sound = record { sessions = λ q n S h. slot-sound q n S (ℕ-discrete n 0) h }
 
 -- Of every accepted file: fresh state has the file's shape, and the invariant of property 3 holds there.
 pub fresh-of-file : (s : List ℕ) (Es : List Environments) → Octets s → checkFile s ≡ passed Es

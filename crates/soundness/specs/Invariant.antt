@@ -63,6 +63,7 @@ pub record SessionSound (N : Network) (rows q n : ℕ) (S : Session) : Type 0 wh
   pub few : length (S .queue) ≤ 4
   pub queued : AllQueued N rows q (S .queue)
 
--- Every live session of the state.
-abbrev pub Sound : Network → ℕ → State → Type 0
-Sound N rows G = (q n : ℕ) (S : Session) → G q n ≡ live S → SessionSound N rows q n S
+-- The invariant of a state: every move keeps it, and all that is claimed of a state from fresh follows from it.
+pub record Sound (N : Network) (rows : ℕ) (G : State) : Type 0 where
+  -- "A session that isn't free is *live*": each such session.
+  pub sessions : (q n : ℕ) (S : Session) → G q n ≡ live S → SessionSound N rows q n S

@@ -313,14 +313,14 @@ module _ (N : Network) (rows : ℕ) (acc : Accepted N rows) where
   pub local-move : (strict : Bool) (G : State) → Sound N rows G → (q n r : ℕ) → Keeps N rows strict (localMove N G q n r)
   local-move strict G hG q n r =
       by-session N rows strict G q n (λ B S. localReached G q n S (reach (S .progress) 0 r B))
-      (λ B S e eS. let h = hG q n S eS in
+      (λ B S e eS. let h = hG .sessions q n S eS in
       subst (λ (z : Behaviour). Keeps N rows strict (localReached G q n S (reach (S .progress) 0 r z))) (some-inj (sym (h .runs) ∙ e))
       (local-keeps G hG q n S h strict r))
 
   pub receive-move : (strict : Bool) (G : State) → Sound N rows G → (q n r : ℕ) → Keeps N rows strict (receiveMove N G q n r)
   receive-move strict G hG q n r =
       by-session N rows strict G q n (λ B S. receiveReached G q n S (reach (S .progress) 0 r B))
-      (λ B S e eS. let h = hG q n S eS in
+      (λ B S e eS. let h = hG .sessions q n S eS in
       subst (λ (z : Behaviour). Keeps N rows strict (receiveReached G q n S (reach (S .progress) 0 r z))) (some-inj (sym (h .runs) ∙ e))
       (receive-keeps G hG q n S h strict r))
 

@@ -25,7 +25,7 @@ use Rattle.network.specs.Layout.{behaviourCount}
 use Rattle.network.specs.Decode.{networkOf}
 use Rattle.state.specs.Session.{Progress, Progresses, undone, done, waits, received, taken, Queued, Session, live, State}
 use Rattle.state.specs.Bytes.{stateBytes}
-use Rattle.state.specs.Shape.{isUndone, behaviourIn, operationAt, decodeState, freshState}
+use Rattle.state.specs.Shape.{isUndone, behaviourIn, operationAt, Stands}
 use Rattle.moves.specs.Readiness.{isDone, reached, reach, rest}
 use Rattle.moves.specs.Moves.{Move, local, receive, send, reply, outside, outsideReply, close}
 use Rattle.moves.specs.Step.{step}
@@ -136,19 +136,30 @@ sendsOrReplies (outside q id n k) = false
 sendsOrReplies (outsideReply q n r) = false
 sendsOrReplies (close q n) = false
 
--- What holds of the state's bytes s.
-pub record Holds (file s : List ℕ) : Type 0 where
-  pub state : State
-  pub stands : decodeState (networkOf file) (behaviourCount file) s ≡ some state
-  -- "after it live sessions are well typed"
-  pub wellTyped : (q n : ℕ) (S : Session) → state q n ≡ live S → LiveWellTyped (networkOf file) q n S
-  -- "no next move gives 18"
-  pub never18 : (t : Turn) → Given t → numberOfNext file s t ≡ 18 → ⊥
-  -- "no send or reply gives 19"
-  pub never19 : (t : Turn) → Given t → T (sendsOrReplies (t .move)) → numberOfNext file s t ≡ 19 → ⊥
-  -- "a ready assign, if or while gives 0, or 1 for its out buffer"
-  pub readyMoves : (q n r : ℕ) (bytes out : List ℕ) → Ready (networkOf file) state q n r
-      → numberOfNext file s (record { move = local q n r; bytes = bytes; out = out }) ≡ pick (leb 512 (length out)) 0 1
+-- The claims about a state G of the file; its next move is on its bytes. "after it live sessions are well typed"
+abbrev pub AllWellTyped : List ℕ → State → Type 0
+AllWellTyped file G = (q n : ℕ) (S : Session) → G q n ≡ live S → LiveWellTyped (networkOf file) q n S
+
+-- "no next move, on the same file and the state so left, gives 18"
+abbrev pub Never18 : List ℕ → State → Type 0
+Never18 file G = (t : Turn) → Given t → numberOfNext file (stateBytes G) t ≡ 18 → ⊥
+
+-- "no send or reply gives 19, one to an outsider included"
+abbrev pub Never19 : List ℕ → State → Type 0
+Never19 file G = (t : Turn) → Given t → T (sendsOrReplies (t .move)) → numberOfNext file (stateBytes G) t ≡ 19 → ⊥
+
+-- "a ready assign, if or while gives 0, or 1 for its out buffer"
+abbrev pub ReadyMoves : List ℕ → State → Type 0
+ReadyMoves file G =
+    (q n r : ℕ) (bytes out : List ℕ) → Ready (networkOf file) G q n r
+    → numberOfNext file (stateBytes G) (record { move = local q n r; bytes = bytes; out = out }) ≡ pick (leb 512 (length out)) 0 1
+
+-- What holds of a state from fresh.
+pub record Holds (file : List ℕ) (G : State) : Type 0 where
+  pub wellTyped : AllWellTyped file G
+  pub never18 : Never18 file G
+  pub never19 : Never19 file G
+  pub readyMoves : ReadyMoves file G
 
 -- An accepted file: bytes that the checker, which tries 2 to 13, passes.
 pub record AcceptedFile (file : List ℕ) : Type 0 where
@@ -156,6 +167,8 @@ pub record AcceptedFile (file : List ℕ) : Type 0 where
   pub environments : List Environments
   pub passes : checkFile file ≡ passed environments
 
--- Property 3, as the single claim about the list of moves l.
-abbrev pub Property3 : List ℕ → List Turn → Type 0
-Property3 file l = Holds file (after file (freshBytes file) l)
+-- Property 3, as the single claim about the list of moves l: the bytes after it are those of a state of the file's shape of which all this holds.
+pub record Property3 (file : List ℕ) (l : List Turn) : Type 0 where
+  pub state : State
+  pub stands : Stands (networkOf file) (behaviourCount file) (after file (freshBytes file) l) state
+  pub holds : Holds file state

@@ -1,4 +1,4 @@
--- Property 3 holds: every move keeps the invariant, and the invariant gives what property 3 says.
+-- Property 3 holds: fresh state has the invariant, every move keeps it, and each claim of property 3 follows from it by its own law.
 use mathlib.Core.Path.{_≡_, refl, sym, ap, subst, _∙_}
 use Prim.Native.Nat.{ℕ}
 use mathlib.Core.Bool.{Bool, true, false, _&&_, _||_}
@@ -8,28 +8,27 @@ use lib.Dec.{T, eqb, leb}
 use lib.ListN.{length}
 use Rattle.forest.specs.Compare.{of-T}
 use Rattle.scalar.specs.Value.{pick}
-use Rattle.syntax.specs.Syntax.{Optional, some, Network, Behaviour, nil, oneWay, requestResponse, notification, solicitResponse, ifThenElse, whileDo}
+use Rattle.syntax.specs.Syntax.{Optional, Network, Behaviour, nil, oneWay, requestResponse, notification, solicitResponse, ifThenElse, whileDo}
 use Rattle.syntax.specs.Syntax.{sequence, parallel, assign, choice, branch, lastBranch, waiting, answering}
 use Rattle.refusal.specs.declared.Refusal.the-variants.{BufferSize, MoveNotAllowed}
 use Rattle.refusal.specs.Refusal.{number, doneWith}
 use Rattle.typing.specs.TypedLaws.{within-before}
 use Rattle.typing.specs.DerivesLaws.{typed-derives}
 use Rattle.tree.specs.Encode.{Octets}
-use Rattle.refusal.specs.declared.Verdict.{Verdict}
 use Rattle.refusal.specs.declared.Verdict.the-variants.{Done}
 use Rattle.network.specs.Form.{formOf}
 use Rattle.network.specs.Layout.{behaviourCount}
 use Rattle.network.specs.Decode.{networkOf}
 use Rattle.state.specs.Session.{Progress, undone, done, waits, received, taken, Queued, Session, Slot, State}
 use Rattle.state.specs.Bytes.{stateBytes}
-use Rattle.state.specs.Shape.{isUndone, Stands, decodeState, freshState}
+use Rattle.state.specs.Shape.{isUndone, Stands, freshState}
 use Rattle.state.specs.ShapeLaws.{decode-state-complete, stands-length}
 use Rattle.moves.specs.Readiness.{isDone, Reached, reached, reach, rest}
 use Rattle.moves.specs.Evaluation.{evaluate}
 use Rattle.moves.specs.Moves.{Result, refused, moved, require, onTree, onBool, rootValue, ifUndone, ifReadyWhile, assigned, decided, repeated}
 use Rattle.moves.specs.Moves.{localAt, localReached, onBehaviour, onLive, localMove, Move, local, receive, send, reply, outside, outsideReply, close}
 use Rattle.moves.specs.Moves.{move}
-use Rattle.moves.specs.Step.{Step, refuse, finish, onForm, onState, buffersFit, step}
+use Rattle.moves.specs.Step.{Step, refuse, finish, buffersFit, step}
 use Rattle.soundness.specs.Parts.{Reaches}
 use Rattle.soundness.specs.ReachLaws.{Found, found-alone, clean-shut}
 use Rattle.soundness.specs.Accepted.{Accepted}
@@ -46,7 +45,7 @@ use Rattle.soundness.specs.FreshLaws.{fresh-sound}
 use Rattle.soundness.specs.ShapeLaws.{sound-shape}
 use Rattle.soundness.specs.Property3.{QueueFits, LiveWellTyped, isTaken, isReadyLocal, Ready, Turn, NumberFits, Given, AllGiven, after}
 use Rattle.moves.specs.Fresh.{freshBytes, fresh}
-use Rattle.soundness.specs.Property3.{numberOfNext, sendsOrReplies, Holds, AcceptedFile, Property3}
+use Rattle.soundness.specs.Property3.{sendsOrReplies, AllWellTyped, Never18, Never19, ReadyMoves, Holds, AcceptedFile, Property3}
 
 is-undone : (s : Progress) → T (isUndone s) → s ≡ undone
 is-undone undone t = refl
@@ -74,8 +73,8 @@ module _ (N : Network) (rows : ℕ) (acc : Accepted N rows) where
   move-keeps G h (close q n) bytes k oct = close-move N rows acc false G h q n
 
   -- A sound session is well typed.
-  pub sound-typed : (q n : ℕ) (S : Session) → SessionSound N rows q n S → LiveWellTyped N q n S
-  sound-typed q n S h =
+  session-typed : (q n : ℕ) (S : Session) → SessionSound N rows q n S → LiveWellTyped N q n S
+  session-typed q n S h =
       let R = rest (S .progress) 0 (h .what) in
       let ws = rest-sorted (h .what) 0 (S .progress) (made-sorted N rows acc (h .what) (made-of N rows acc q n (h .what) (h .runs))) in
       record {
@@ -136,7 +135,7 @@ module _ (N : Network) (rows : ℕ) (acc : Accepted N rows) where
   pub ready-goes : (G : State) → Sound N rows G → (q n r : ℕ) → Ready N G q n r → Goes N rows (localMove N G q n r)
   ready-goes G hG q n r k =
       let S = k .session in
-      let h = hG q n S (k .alive) in
+      let h = hG .sessions q n S (k .alive) in
       let sameB : h .what ≡ k .what = some-inj (sym (h .runs) ∙ k .runs) in
       let there : reach (S .progress) 0 r (h .what) ≡ reached (k .row) = ap (reach (S .progress) 0 r) sameB ∙ k .there in
       let found = subst (Found (S .progress) r (h .what)) there (found-alone (S .progress) r (h .what) (once-of N rows acc q n (h .what) (h .runs)) (clean-shut N rows (S .progress) (h .what) (h .clean) (h .suit))) in
@@ -162,110 +161,103 @@ module _ (file : List ℕ) (acc : AcceptedFile file) where
   whole : formOf file ≡ Done
   whole = accepted-derived file (acc .environments) (acc .passes) .0
 
+  -- What holds of a sound state, each claim by its own law.
+  module _ (G : State) (h : Sound N rows G) where
+    pub sound-stands : Stands N rows (stateBytes G) G
+    sound-stands = record { shape = sound-shape N rows network G h; bytes = refl }
+
+    buffers : (out : List ℕ) → buffersFit (stateBytes G) out ≡ leb 512 (length out)
+    buffers out = ap (λ (b : Bool). b && leb 512 (length out))
+        (of-T (eqb (length (stateBytes G)) 65536) (subst (λ (k : ℕ). T (eqb k 65536)) (sym (stands-length sound-stands)) tt))
+
+    -- A move on bytes is a move on the state, if the out buffer fits.
+    pub step-is : (t : Turn)
+        → step file (stateBytes G) (t .out) (t .move) (t .bytes)
+        ≡ pick (leb 512 (length (t .out))) (finish (stateBytes G) (t .out) (move N G (t .move) (t .bytes))) (refuse BufferSize (stateBytes G) (t .out))
+    unfolding step
+    step-is t = rw (buffers (t .out), whole, decode-state-complete sound-stands)
+
+    -- What holds of a step by its result.
+    step-by : (P : Step → Type 0) (t : Turn) → P (refuse BufferSize (stateBytes G) (t .out))
+        → ((R : Result) → Keeps N rows (sendsOrReplies (t .move)) R → P (finish (stateBytes G) (t .out) R)) → Given t
+        → P (step file (stateBytes G) (t .out) (t .move) (t .bytes))
+    step-by P t f k g = subst P (sym (step-is t)) (go (leb 512 (length (t .out))))
+      where
+        R : Result
+        R = move N G (t .move) (t .bytes)
+
+        go : (b : Bool) → P (pick b (finish (stateBytes G) (t .out) R) (refuse BufferSize (stateBytes G) (t .out)))
+        go true = k R (move-keeps N rows network G h (t .move) (t .bytes) (g .replyNumber) (g .octets))
+        go false = f
+
+    pub sound-typed : AllWellTyped file G
+    sound-typed q n S e = session-typed N rows network q n S (h .sessions q n S e)
+
+    pub sound-never-18 : Never18 file G
+    sound-never-18 t = step-by (λ x. number (x .outcome) ≡ 18 → ⊥) t (λ e. omega arith) go
+      where
+        go : (R : Result) → Keeps N rows (sendsOrReplies (t .move)) R → number (finish (stateBytes G) (t .out) R .outcome) ≡ 18 → ⊥
+        go (refused why) k e = k .not18 e
+        go (moved G2 out) k e = omega arith
+
+    pub sound-never-19 : Never19 file G
+    sound-never-19 t g b = step-by (λ x. number (x .outcome) ≡ 19 → ⊥) t (λ e. omega arith) go g
+      where
+        go : (R : Result) → Keeps N rows (sendsOrReplies (t .move)) R → number (finish (stateBytes G) (t .out) R .outcome) ≡ 19 → ⊥
+        go (refused why) k e = k .not19 b e
+        go (moved G2 out) k e = omega arith
+
+    pub sound-ready : ReadyMoves file G
+    unfolding move
+    sound-ready q n r bytes out k =
+        ap (λ (x : Step). number (x .outcome)) (step-is (record { move = local q n r; bytes = bytes; out = out }))
+        ∙ go (leb 512 (length out)) (move N G (local q n r) bytes) (ready-goes N rows network G h q n r k)
+      where
+        go : (b : Bool) (R : Result) → Goes N rows R
+            → number (pick b (finish (stateBytes G) out R) (refuse BufferSize (stateBytes G) out) .outcome) ≡ pick b 0 1
+        go true (refused why) g = absurd g
+        go true (moved G2 o) g = refl
+        go false R g = refl
+
+    pub sound-holds : Holds file G
+    sound-holds = record { wellTyped = sound-typed; never18 = sound-never-18; never19 = sound-never-19; readyMoves = sound-ready }
+
   -- The bytes are those of a sound state.
-  pub record Standing (s : List ℕ) : Type 0 where
+  pub record SoundBytes (s : List ℕ) : Type 0 where
     pub state : State
     pub sound : Sound N rows state
     pub bytes : s ≡ stateBytes state
 
-  stands : (s : List ℕ) (h : Standing s) → Stands N rows s (h .state)
-  stands s h = record { shape = sound-shape N rows network (h .state) (h .sound); bytes = h .bytes }
-
-  decoded : (s : List ℕ) (h : Standing s) → decodeState N rows s ≡ some (h .state)
-  decoded s h = decode-state-complete (stands s h)
-
-  buffers : (s out : List ℕ) → Standing s → buffersFit s out ≡ leb 512 (length out)
-  buffers s out h = ap (λ (b : Bool). b && leb 512 (length out))
-      (of-T (eqb (length s) 65536) (subst (λ (k : ℕ). T (eqb k 65536)) (sym (stands-length (stands s h))) tt))
-
-  -- A move on bytes is a move on the state, if the out buffer fits.
-  pub step-is : (s : List ℕ) (h : Standing s) (t : Turn)
-      → step file s (t .out) (t .move) (t .bytes) ≡ pick (leb 512 (length (t .out))) (finish s (t .out) (move N (h .state) (t .move) (t .bytes)))
-      (refuse BufferSize s (t .out))
-  unfolding step
-  step-is s h t =
-      ap (λ (b : Bool). pick b (onForm (formOf file) s (t .out)
-      (onState (decodeState N rows s) s (t .out) (λ G. finish s (t .out) (move N G (t .move) (t .bytes))))) (refuse BufferSize s (t .out)))
-      (buffers s (t .out) h)
-      ∙ (ap (λ (f : Verdict). pick (leb 512 (length (t .out)))
-      (onForm f s (t .out) (onState (decodeState N rows s) s (t .out) (λ G. finish s (t .out) (move N G (t .move) (t .bytes)))))
-      (refuse BufferSize s (t .out))) whole
-      ∙ ap (λ (g : Optional State). pick (leb 512 (length (t .out))) (onState g s (t .out) (λ G. finish s (t .out) (move N G (t .move) (t .bytes))))
-      (refuse BufferSize s (t .out)))
-      (decoded s h))
-
-  -- What holds of a step by its result.
-  step-by : (P : Step → Type 0) (s : List ℕ) (h : Standing s) (t : Turn) → P (refuse BufferSize s (t .out))
-      → ((R : Result) → move N (h .state) (t .move) (t .bytes) ≡ R → P (finish s (t .out) R))
-      → P (step file s (t .out) (t .move) (t .bytes))
-  step-by P s h t f g = subst P (sym (step-is s h t)) (go (leb 512 (length (t .out))))
+  step-sound : (G : State) → Sound N rows G → (t : Turn) → Given t → SoundBytes (step file (stateBytes G) (t .out) (t .move) (t .bytes) .state)
+  step-sound G h t = step-by G h (λ x. SoundBytes (x .state)) t same go
     where
-      go : (b : Bool) → P (pick b (finish s (t .out) (move N (h .state) (t .move) (t .bytes))) (refuse BufferSize s (t .out)))
-      go true = g (move N (h .state) (t .move) (t .bytes)) refl
-      go false = f
+      same : SoundBytes (stateBytes G)
+      same = record { state = G; sound = h; bytes = refl }
 
-  pub kept : (s : List ℕ) (h : Standing s) (t : Turn) → Given t → Keeps N rows (sendsOrReplies (t .move)) (move N (h .state) (t .move) (t .bytes))
-  kept s h t g = move-keeps N rows network (h .state) (h .sound) (t .move) (t .bytes) (g .replyNumber) (g .octets)
+      go : (R : Result) → Keeps N rows (sendsOrReplies (t .move)) R → SoundBytes (finish (stateBytes G) (t .out) R .state)
+      go (refused why) k = same
+      go (moved G2 out) k = record { state = G2; sound = k; bytes = refl }
 
-  pub step-standing : (s : List ℕ) (h : Standing s) (t : Turn) → Given t → Standing (step file s (t .out) (t .move) (t .bytes) .state)
-  step-standing s h t g =
-      step-by (λ x. Standing (x .state)) s h t h (λ R e. go R (subst (Keeps N rows (sendsOrReplies (t .move))) e (kept s h t g)))
-    where
-      go : (R : Result) → Keeps N rows (sendsOrReplies (t .move)) R → Standing (finish s (t .out) R .state)
-      go (refused why) k = h
-      go (moved G out) k = record { state = G; sound = k; bytes = refl }
-
-  step-18 : (s : List ℕ) (h : Standing s) (t : Turn) → Given t → numberOfNext file s t ≡ 18 → ⊥
-  step-18 s h t g =
-      step-by (λ x. number (x .outcome) ≡ 18 → ⊥) s h t (λ e. omega arith) (λ R e. go R (subst (Keeps N rows (sendsOrReplies (t .move))) e (kept s h t g)))
-    where
-      go : (R : Result) → Keeps N rows (sendsOrReplies (t .move)) R → number (finish s (t .out) R .outcome) ≡ 18 → ⊥
-      go (refused why) k e = k .not18 e
-      go (moved G out) k e = omega arith
-
-  step-19 : (s : List ℕ) (h : Standing s) (t : Turn) → Given t → T (sendsOrReplies (t .move)) → numberOfNext file s t ≡ 19 → ⊥
-  step-19 s h t g b =
-      step-by (λ x. number (x .outcome) ≡ 19 → ⊥) s h t (λ e. omega arith) (λ R e. go R (subst (Keeps N rows (sendsOrReplies (t .move))) e (kept s h t g)))
-    where
-      go : (R : Result) → Keeps N rows (sendsOrReplies (t .move)) R → number (finish s (t .out) R .outcome) ≡ 19 → ⊥
-      go (refused why) k e = k .not19 b e
-      go (moved G out) k e = omega arith
-
-  step-ready : (s : List ℕ) (h : Standing s) (q n r : ℕ) (bytes out : List ℕ) → Ready N (h .state) q n r
-      → numberOfNext file s (record { move = local q n r; bytes = bytes; out = out }) ≡ pick (leb 512 (length out)) 0 1
-  unfolding move
-  step-ready s h q n r bytes out k =
-      let t : Turn = record { move = local q n r; bytes = bytes; out = out } in
-      ap (λ (x : Step). number (x .outcome)) (step-is s h t) ∙ go (leb 512 (length out)) (move N (h .state) (local q n r) bytes)
-      (ready-goes N rows network (h .state) (h .sound) q n r k)
-    where
-      go : (b : Bool) (R : Result) → Goes N rows R → number (pick b (finish s out R) (refuse BufferSize s out) .outcome) ≡ pick b 0 1
-      go true (refused why) g = absurd g
-      go true (moved G o) g = refl
-      go false R g = refl
-
-  pub holds : (s : List ℕ) → Standing s → Holds file s
-  holds s h =
-      record {
-        state = h .state;
-        stands = decoded s h;
-        wellTyped = λ q n S e. sound-typed N rows network q n S (h .sound q n S e);
-        never18 = step-18 s h;
-        never19 = step-19 s h;
-        readyMoves = step-ready s h;
-      }
-
-  after-standing : (l : List Turn) → AllGiven l → (s : List ℕ) → Standing s → Standing (after file s l)
+  after-sound : (l : List Turn) → AllGiven l → (s : List ℕ) → SoundBytes s → SoundBytes (after file s l)
   unfolding after AllGiven
-  after-standing [] g s h = h
-  after-standing (t ∷ l) g s h = after-standing l (g .1) (step file s (t .out) (t .move) (t .bytes) .state) (step-standing s h t (g .0))
+  after-sound [] g s h = h
+  after-sound (t ∷ l) g s h =
+      after-sound l (g .1) (step file s (t .out) (t .move) (t .bytes) .state)
+      (subst (λ (b : List ℕ). SoundBytes (step file b (t .out) (t .move) (t .bytes) .state)) (sym (h .bytes)) (step-sound (h .state) (h .sound) t (g .0)))
 
-  pub fresh-standing : Standing (freshBytes file)
-  fresh-standing = record { state = freshState N; sound = fresh-sound N rows network; bytes = refl }
+  -- A state from fresh is sound.
+  pub from-fresh : (l : List Turn) → AllGiven l → SoundBytes (after file (freshBytes file) l)
+  from-fresh l g = after-sound l g (freshBytes file) (record { state = freshState N; sound = fresh-sound N rows network; bytes = refl })
 
   -- Property 3.
   pub property3 : (l : List Turn) → AllGiven l → Property3 file l
-  property3 l g = holds (after file (freshBytes file) l) (after-standing l g (freshBytes file) fresh-standing)
+  property3 l g =
+      let h = from-fresh l g in
+      record {
+        state = h .state;
+        stands = record { shape = sound-stands (h .state) (h .sound) .shape; bytes = h .bytes };
+        holds = sound-holds (h .state) (h .sound);
+      }
 
 -- Of an accepted file, fresh writes the state that the list of moves starts from.
 pub fresh-writes : (file state : List ℕ) → AcceptedFile file → length state ≡ 65536

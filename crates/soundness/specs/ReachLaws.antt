@@ -5,8 +5,7 @@ use mathlib.Core.Bool.{Bool, true, false, _||_, _&&_}
 use native.Mathlib.Omega.{arith}
 use lib.Dec.{T, eqb, ltb, eqb→eq, eqb-refl, ltb→lt, lt→ltb}
 use Rattle.forest.specs.Compare.{and-l, and-r}
-use Rattle.forest.specs.Path.{Path}
-use Rattle.syntax.specs.Syntax.{Network, Expression, Operation, Behaviour, nil, oneWay, requestResponse, notification, solicitResponse, ifThenElse, whileDo}
+use Rattle.syntax.specs.Syntax.{Network, Behaviour, nil, oneWay, requestResponse, notification, solicitResponse, ifThenElse, whileDo}
 use Rattle.syntax.specs.Syntax.{sequence, parallel, assign, choice, branch, lastBranch, waiting, answering}
 use Rattle.syntax.specs.Rows.{rowOf, hasRow}
 use Rattle.network.specs.OnceLaws.{or-left, or-right}
@@ -17,7 +16,7 @@ use Rattle.state.specs.Shape.{branches, isUndone, undoneDoneOrReceived, undoneO
 use Rattle.moves.specs.Readiness.{ifDone, ifReceived, ifTaken, thenOrElse, isDone, Reached, unreached, reached, offered, here, orElse, onlyIf}
 use Rattle.moves.specs.Readiness.{offeredIf, offer, reach, served}
 use Rattle.soundness.specs.Parts.{branchAt, Once, Fresh, Clean, Reaches, atSelf, atFirst, atSecond, atLeft, atRight, atThen, atElse, atLoop, atServed}
-use Rattle.soundness.specs.Parts.{atBranch, isOpen, Opens, asking, serving, Open, AllOpen}
+use Rattle.soundness.specs.Parts.{atBranch, isOpen, Opens, asking, serving, AllOpen}
 use Rattle.soundness.specs.RowLaws.{in-own, in-first, in-second, in-only, taken-at, branch-done, branch-rows, branch-once, branch-alone}
 use Rattle.soundness.specs.RowLaws.{get-alone, get-choice, reaches-rows, done-same, Off}
 use Rattle.soundness.specs.CleanLaws.{once-at}

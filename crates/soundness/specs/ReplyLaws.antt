@@ -32,9 +32,9 @@ use Rattle.soundness.specs.MadeLaws.{made-at, isSequence, reaches-atRow,
 use Rattle.soundness.specs.Invariant.{SessionSound, Sound}
 use Rattle.soundness.specs.SessionLaws.{once-of, made-of, advance-other, answer-sound, waiting-sound, waits-received}
 use Rattle.soundness.specs.ResultLaws.{Keeps, goes-keeps, keeps-15, by-require, by-received, by-waiting, by-session, by-live, by-message}
-use Rattle.soundness.specs.ResultLaws.{live-inj, by-pick, keeps-found, keeps-fit, outside-fit, sound-set}
+use Rattle.soundness.specs.ResultLaws.{live-inj, set-elim, by-pick, keeps-found, keeps-fit, outside-fit, sound-set}
 use Rattle.soundness.specs.LocalLaws.{save-goes}
-use Rattle.soundness.specs.SendLaws.{set-elim, decoded-good}
+use Rattle.soundness.specs.SendLaws.{decoded-good}
 
 opens-row : {i : ℕ} {W : Behaviour} → Opens i W → rowOf W ≡ i
 unfolding rowOf
@@ -66,7 +66,7 @@ module _ (N : Network) (rows : ℕ) (acc : Accepted N rows) where
   take-keeps strict G hG q n r B eB o e x at m gm f w =
       by-live N rows strict (G q n) (λ S. saveWithin G q n (withTree S (replaceAt voidValue x m (S .tree)) (advance (S .progress) r done)) [])
       (λ S eS.
-      let h = hG q n S eS in
+      let h = hG .sessions q n S eS in
       let at2 : atRow r (h .what) ≡ some (solicitResponse r o e x) = ap (atRow r) (some-inj (sym (h .runs) ∙ eB)) ∙ at in
       let ew = w S eS in
       let way = open-reached q n S h r (solicitResponse r o e x) at2 (subst (λ (s : Progress). T (isOpen s)) (sym ew) tt) in
@@ -135,7 +135,7 @@ module _ (N : Network) (rows : ℕ) (acc : Accepted N rows) where
             by-session N rows true G q2 n2 K
             (λ B2 S2 eB eS2. by-waiting-row true q2 S2 r2 B2 (λ o2 x2. onFound (read c (S .tree)) (λ m. mustFit m (o2 .reply) (takeReply G2 q2 n2 r2 x2 m)))
             (λ o2 e2 x2 at2 ew pm.
-            let h3 = hG q2 n2 S2 eS2 in
+            let h3 = hG .sessions q2 n2 S2 eS2 in
             let at3 : atRow r2 (h3 .what) ≡ some (solicitResponse r2 o2 e2 x2) = ap (atRow r2) (some-inj (sym (h3 .runs) ∙ eB)) ∙ at2 in
             let way2 = open-reached q2 n2 S2 h3 r2 (solicitResponse r2 o2 e2 x2) at3 (subst (λ (s : Progress). T (isOpen s)) (sym ew) tt) in
             let f2 = acc .operations (o2 .row) o2 (made-at N rows way2 (made-of N rows acc q2 n2 (h3 .what) (h3 .runs)) .1) in
@@ -180,7 +180,7 @@ module _ (N : Network) (rows : ℕ) (acc : Accepted N rows) where
   reply-move G hG q n r =
       by-session N rows true G q n (λ B S. replyAt N G q n S (atRow r B))
       (λ B S e eS.
-      let h = hG q n S eS in
+      let h = hG .sessions q n S eS in
       subst (λ (z : Behaviour). Keeps N rows true (replyAt N G q n S (atRow r z))) (some-inj (sym (h .runs) ∙ e))
       (reply-at G hG q n S eS h r (atRow r (h .what)) refl))
 

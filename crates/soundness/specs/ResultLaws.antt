@@ -49,6 +49,17 @@ live-inj h = cc
 pub not-live : {S : Session} → free ≡ live S → ⊥
 not-live h = let z : _≡_ {A = ℕ} 0 1 = cc in omega arith
 
+-- A slot of a state with one slot changed.
+pub set-elim : {X : Type 0} (G : State) (q n : ℕ) (x : Slot) (i j : ℕ) (y : Slot) → (i ≡ q → j ≡ n → x ≡ y → X) → (G i j ≡ y → X)
+    → setSlot G q n x i j ≡ y → X
+set-elim G q n x i j y f g e =
+    by-bool (eqb i q)
+    (λ t. let e1 : pick (eqb j n) x (G i j) ≡ y = sym (ap (λ (b : Bool). pick b (pick (eqb j n) x (G i j)) (G i j)) (of-T (eqb i q) t)) ∙ e in
+    by-bool (eqb j n)
+    (λ u. f (eqb→eq i q t) (eqb→eq j n u) (sym (ap (λ (b : Bool). pick b x (G i j)) (of-T (eqb j n) u)) ∙ e1))
+    (λ u. g (sym (ap (λ (b : Bool). pick b x (G i j)) (not-T-false (eqb j n) u)) ∙ e1)))
+    (λ t. g (sym (ap (λ (b : Bool). pick b (pick (eqb j n) x (G i j)) (G i j)) (not-T-false (eqb i q) t)) ∙ e))
+
 module _ (N : Network) (rows : ℕ) where
   abbrev pub Keeps : Bool → Result → Type 0
   Keeps strict (refused why) = Allowed strict why
@@ -174,18 +185,10 @@ module _ (N : Network) (rows : ℕ) where
   SlotSound q n (live S) = SessionSound N rows q n S
 
   pub sound-set : (G : State) (q n : ℕ) (x : Slot) → Sound N rows G → SlotSound q n x → Sound N rows (setSlot G q n x)
-  sound-set G q n x h k i j S e =
-      by-bool (eqb i q)
-      (λ t. by-bool (eqb j n)
-      (λ u. go x k (sym (ap (λ (b : Bool). pick b x (G i j)) (of-T (eqb j n) u)) ∙ inner t) (eqb→eq i q t) (eqb→eq j n u))
-      (λ u. h i j S (sym (ap (λ (b : Bool). pick b x (G i j)) (not-T-false (eqb j n) u)) ∙ inner t)))
-      (λ t. h i j S (sym (ap (λ (b : Bool). pick b (pick (eqb j n) x (G i j)) (G i j)) (not-T-false (eqb i q) t)) ∙ e))
+  sound-set G q n x h k = record { sessions = λ i j S. set-elim G q n x i j (live S) (go x k i j S) (h .sessions i j S) }
     where
-      inner : T (eqb i q) → pick (eqb j n) x (G i j) ≡ live S
-      inner t = sym (ap (λ (b : Bool). pick b (pick (eqb j n) x (G i j)) (G i j)) (of-T (eqb i q) t)) ∙ e
-
-      go : (x : Slot) → SlotSound q n x → x ≡ live S → i ≡ q → j ≡ n → SessionSound N rows i j S
-      go free k e a b = absurd (not-live e)
-      go (live S2) k e a b =
+      go : (x : Slot) → SlotSound q n x → (i j : ℕ) (S : Session) → i ≡ q → j ≡ n → x ≡ live S → SessionSound N rows i j S
+      go free k i j S a b e = absurd (not-live e)
+      go (live S2) k i j S a b e =
           subst (λ (z : ℕ). SessionSound N rows z j S) (sym a)
           (subst (λ (z : ℕ). SessionSound N rows q z S) (sym b) (subst (SessionSound N rows q n) (live-inj e) k))

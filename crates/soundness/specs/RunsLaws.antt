@@ -1,5 +1,5 @@
 -- What moves on bytes give, on an accepted file from a state's bytes, is what they give on states.
-use mathlib.Core.Path.{_≡_, refl, sym, ap, subst, _∙_}
+use mathlib.Core.Path.{_≡_, refl, ap, _∙_}
 use mathlib.Core.Bool.{Bool}
 use mathlib.Core.List.{List, [], _∷_}
 use Prim.Native.Nat.{ℕ}
@@ -11,61 +11,58 @@ use Rattle.refusal.specs.declared.Refusal.the-variants.{BufferSize}
 use Rattle.refusal.specs.Refusal.{number as outcomeNumber}
 use Rattle.network.specs.Layout.{behaviourCount}
 use Rattle.network.specs.Decode.{networkOf}
+use Rattle.syntax.specs.Syntax.{Network}
 use Rattle.state.specs.Session.{State}
+use Rattle.state.specs.Bytes.{stateBytes}
 use Rattle.state.specs.Shape.{freshState}
 use Rattle.moves.specs.Moves.{Result, refused, moved, move}
 use Rattle.moves.specs.Step.{Step, refuse, finish, step}
+use Rattle.soundness.specs.Invariant.{Sound}
 use Rattle.soundness.specs.ResultLaws.{Keeps}
 use Rattle.soundness.specs.FreshLaws.{fresh-sound}
 use Rattle.moves.specs.Fresh.{freshBytes}
-use Rattle.soundness.specs.Property3.{Turn, Given, AllGiven, AcceptedFile, numberOfNext, sendsOrReplies}
-use Rattle.soundness.specs.Property3Laws.{network, Standing, step-is, kept}
+use Rattle.soundness.specs.Property3.{Turn, AllGiven, AcceptedFile, numberOfNext, sendsOrReplies}
+use Rattle.soundness.specs.Property3Laws.{network, move-keeps, step-is}
 use Rattle.soundness.specs.Runs.{given, stateAfter, numbers, numbersOnBytes, AllRoomy}
 
 module _ (file : List ℕ) (acc : AcceptedFile file) where
-  roomy : (s : List ℕ) (h : Standing file acc s) (t : Turn) → T (leb 512 (length (t .out)))
-      → step file s (t .out) (t .move) (t .bytes) ≡ finish s (t .out) (move (networkOf file) (h .state) (t .move) (t .bytes))
-  roomy s h t r =
-      let R = move (networkOf file) (h .state) (t .move) (t .bytes) in
-      step-is file acc s h t ∙ ap (λ (b : Bool). pick b (finish s (t .out) R) (refuse BufferSize s (t .out))) (of-T (leb 512 (length (t .out))) r)
+  abbrev N : Network
+  N = networkOf file
 
-  goes-on : (s : List ℕ) (h : Standing file acc s) (t : Turn) → Given t → T (leb 512 (length (t .out)))
-      → (k : Standing file acc (step file s (t .out) (t .move) (t .bytes) .state))
-      × (k .state ≡ stateAfter (h .state) (move (networkOf file) (h .state) (t .move) (t .bytes)))
-  goes-on s h t g r =
-      subst (λ (x : Step). (k : Standing file acc (x .state)) × (k .state ≡ stateAfter (h .state) R)) (sym (roomy s h t r)) (go R (kept file acc s h t g))
-    where
-      R : Result
-      R = move (networkOf file) (h .state) (t .move) (t .bytes)
+  roomy : (G : State) → Sound N (behaviourCount file) G → (t : Turn) → T (leb 512 (length (t .out)))
+      → step file (stateBytes G) (t .out) (t .move) (t .bytes) ≡ finish (stateBytes G) (t .out) (move N G (t .move) (t .bytes))
+  roomy G h t r =
+      let R = move N G (t .move) (t .bytes) in
+      step-is file acc G h t
+      ∙ ap (λ (b : Bool). pick b (finish (stateBytes G) (t .out) R) (refuse BufferSize (stateBytes G) (t .out))) (of-T (leb 512 (length (t .out))) r)
 
-      go : (R : Result) → Keeps (networkOf file) (behaviourCount file) (sendsOrReplies (t .move)) R
-          → (k : Standing file acc (finish s (t .out) R .state)) × (k .state ≡ stateAfter (h .state) R)
-      go (refused why) k = (h, refl)
-      go (moved G out) k = (record { state = G; sound = k; bytes = refl }, refl)
+  finish-number : (s out : List ℕ) (R : Result) → outcomeNumber (finish s out R .outcome) ≡ given R
+  finish-number s out (refused why) = refl
+  finish-number s out (moved G bytes) = refl
 
-  number-given : (s : List ℕ) (h : Standing file acc s) (t : Turn) → T (leb 512 (length (t .out)))
-      → numberOfNext file s t ≡ given (move (networkOf file) (h .state) (t .move) (t .bytes))
-  number-given s h t r = ap (λ (x : Step). outcomeNumber (x .outcome)) (roomy s h t r) ∙ go (move (networkOf file) (h .state) (t .move) (t .bytes))
-    where
-      go : (R : Result) → outcomeNumber (finish s (t .out) R .outcome) ≡ given R
-      go (refused why) = refl
-      go (moved G out) = refl
+  finish-bytes : (G : State) (out : List ℕ) (R : Result) → finish (stateBytes G) out R .state ≡ stateBytes (stateAfter G R)
+  finish-bytes G out (refused why) = refl
+  finish-bytes G out (moved G2 bytes) = refl
 
-  pub numbers-on-bytes : (l : List Turn) → AllGiven l → AllRoomy l → (s : List ℕ) (h : Standing file acc s)
-      → numbersOnBytes file s l ≡ numbers (networkOf file) (h .state) l
+  state-after-sound : (strict : Bool) (G : State) → Sound N (behaviourCount file) G → (R : Result) → Keeps N (behaviourCount file) strict R
+      → Sound N (behaviourCount file) (stateAfter G R)
+  state-after-sound strict G h (refused why) k = h
+  state-after-sound strict G h (moved G2 bytes) k = k
+
+  pub numbers-on-bytes : (l : List Turn) → AllGiven l → AllRoomy l → (G : State) → Sound N (behaviourCount file) G
+      → numbersOnBytes file (stateBytes G) l ≡ numbers N G l
   unfolding numbersOnBytes numbers AllGiven AllRoomy
-  numbers-on-bytes [] g r s h = refl
-  numbers-on-bytes (t ∷ l) g r s h =
-      let R = move (networkOf file) (h .state) (t .move) (t .bytes) in
-      let u = goes-on s h t (g .0) (r .0) in
-      let ih = numbers-on-bytes l (g .1) (r .1) (step file s (t .out) (t .move) (t .bytes) .state) (u .0) in
-      let same : numbersOnBytes file (step file s (t .out) (t .move) (t .bytes) .state) l ≡ numbers (networkOf file) (stateAfter (h .state) R) l =
-      ih ∙ ap (λ (G : State). numbers (networkOf file) G l) (u .1) in
-      ap (λ (n : ℕ). n ∷ numbersOnBytes file (step file s (t .out) (t .move) (t .bytes) .state) l) (number-given s h t (r .0)) ∙ ap (given R ∷_) same
+  numbers-on-bytes [] g r G h = refl
+  numbers-on-bytes (t ∷ l) g r G h =
+      let R = move N G (t .move) (t .bytes) in
+      let number : numberOfNext file (stateBytes G) t ≡ given R =
+      ap (λ (x : Step). outcomeNumber (x .outcome)) (roomy G h t (r .0)) ∙ finish-number (stateBytes G) (t .out) R in
+      let bytes : step file (stateBytes G) (t .out) (t .move) (t .bytes) .state ≡ stateBytes (stateAfter G R) =
+      ap (λ (x : Step). x .state) (roomy G h t (r .0)) ∙ finish-bytes G (t .out) R in
+      let kept = move-keeps N (behaviourCount file) (network file acc) G h (t .move) (t .bytes) (g .0 .replyNumber) (g .0 .octets) in
+      let rest = numbers-on-bytes l (g .1) (r .1) (stateAfter G R) (state-after-sound (sendsOrReplies (t .move)) G h R kept) in
+      rw (number, bytes, rest)
 
   -- From fresh.
-  pub fresh-numbers : (l : List Turn) → AllGiven l → AllRoomy l
-      → numbersOnBytes file (freshBytes file) l ≡ numbers (networkOf file) (freshState (networkOf file)) l
-  fresh-numbers l g r =
-      numbers-on-bytes l g r (freshBytes file)
-      (record { state = freshState (networkOf file); sound = fresh-sound (networkOf file) (behaviourCount file) (network file acc); bytes = refl })
+  pub fresh-numbers : (l : List Turn) → AllGiven l → AllRoomy l → numbersOnBytes file (freshBytes file) l ≡ numbers N (freshState N) l
+  fresh-numbers l g r = numbers-on-bytes l g r (freshState N) (fresh-sound N (behaviourCount file) (network file acc))

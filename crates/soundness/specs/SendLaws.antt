@@ -5,11 +5,11 @@ use mathlib.Core.Bool.{Bool, true, false, _&&_}
 use mathlib.Core.List.{List}
 use lib.Dec.{T, eqb, leb, ltb, eqb→eq, eqb-refl, le→leb, lt→ltb}
 use lib.ListN.{length}
-use Rattle.forest.specs.Compare.{and-l, and-r, and-i, of-T, not-T-false}
+use Rattle.forest.specs.Compare.{and-l, and-r, and-i}
 use Rattle.forest.specs.Forest.{Tree, tree, present}
 use Rattle.forest.specs.Path.{Path}
 use Rattle.scalar.specs.Value.{Value, pick}
-use Rattle.syntax.specs.Syntax.{some, Network, Operation, Direction, input, output, Expression, Behaviour, nil, oneWay, requestResponse, notification}
+use Rattle.syntax.specs.Syntax.{some, Network, Operation, output, Expression, Behaviour, nil, oneWay, requestResponse, notification}
 use Rattle.syntax.specs.Syntax.{solicitResponse, ifThenElse, whileDo, sequence, parallel, assign, choice, branch, lastBranch, waiting, answering}
 use Rattle.syntax.specs.Rows.{rowOf, atRow, entry, isInputOperation}
 use Rattle.network.specs.Meets.{locationOf, inFile, sameKind, metInput, meets}
@@ -18,11 +18,10 @@ use Rattle.subtyping.specs.Subtype.{Subtype}
 use Rattle.subtyping.specs.SubtypeLaws.{subtype-sound, subtype-trans}
 use Rattle.subtyping.specs.Own.{ownType, Fits}
 use Rattle.typing.specs.Rules.{permits}
-use Rattle.typing.specs.TypedLaws.{by-bool}
 use Rattle.tree.specs.Encode.{Octets, messageDeep, messageMany}
 use Rattle.tree.specs.Decode.{decodeMessage}
 use Rattle.tree.specs.DecodeLaws.{decode-sound}
-use Rattle.state.specs.Session.{ReplyTo, nobody, outsider, waitingRow, Progress, Progresses, done, waits, advance, Session, Slot, live, State}
+use Rattle.state.specs.Session.{ReplyTo, nobody, outsider, waitingRow, Progress, Progresses, done, waits, advance, Session, live, State}
 use Rattle.state.specs.Session.{setSlot}
 use Rattle.state.specs.Bytes.{messageBytes}
 use Rattle.state.specs.Shape.{operationAt, isNobody, isDestination, suitsOperation}
@@ -39,33 +38,18 @@ use Rattle.soundness.specs.MadeLaws.{made-at, reaches-atRow, some-inj}
 use Rattle.soundness.specs.Invariant.{Destination, SessionSound, Sound}
 use Rattle.soundness.specs.SessionLaws.{once-of, made-of, notification-sound, solicit-sound}
 use Rattle.soundness.specs.ResultLaws.{Keeps, keeps-15, by-require, by-undone, by-session, by-operation, by-message, by-pick, keeps-tree}
-use Rattle.soundness.specs.ResultLaws.{live-inj, keeps-fit, outside-fit, sound-set}
+use Rattle.soundness.specs.ResultLaws.{live-inj, set-elim, keeps-fit, outside-fit, sound-set}
 use Rattle.soundness.specs.LocalLaws.{permits-one, permits-two, permits-output, message-good}
 use Rattle.soundness.specs.DeliverLaws.{TargetInfo, target-info, Admits, allowed-keeps, deliver-keeps, first-there, behaviour-place}
 
 solicit-same : {r r2 : ℕ} {o o2 : Operation} {e e2 : Expression} {x x2 : Path} → solicitResponse r o e x ≡ solicitResponse r2 o2 e2 x2 → o ≡ o2
 solicit-same h = cc
 
-is-input : (d : Direction) → T (isInputOperation d) → T (isInputOperation d)
-is-input input t = t
-is-input output t = t
-
 same-bool : (a b : Bool) → T (sameKind a b) → a ≡ b
 same-bool true true t = refl
 same-bool true false t = absurd t
 same-bool false true t = absurd t
 same-bool false false t = refl
-
--- A slot of a state with one slot changed.
-pub set-elim : {X : Type 0} (G : State) (q n : ℕ) (x : Slot) (i j : ℕ) (y : Slot) → (i ≡ q → j ≡ n → x ≡ y → X) → (G i j ≡ y → X)
-    → setSlot G q n x i j ≡ y → X
-set-elim G q n x i j y f g e =
-    by-bool (eqb i q)
-    (λ t. let e1 : pick (eqb j n) x (G i j) ≡ y = sym (ap (λ (b : Bool). pick b (pick (eqb j n) x (G i j)) (G i j)) (of-T (eqb i q) t)) ∙ e in
-    by-bool (eqb j n)
-    (λ u. f (eqb→eq i q t) (eqb→eq j n u) (sym (ap (λ (b : Bool). pick b x (G i j)) (of-T (eqb j n) u)) ∙ e1))
-    (λ u. g (sym (ap (λ (b : Bool). pick b x (G i j)) (not-T-false (eqb j n) u)) ∙ e1)))
-    (λ t. g (sym (ap (λ (b : Bool). pick b (pick (eqb j n) x (G i j)) (G i j)) (not-T-false (eqb i q) t)) ∙ e))
 
 module _ (N : Network) (rows : ℕ) (acc : Accepted N rows) where
   -- An operation found among the file's.
@@ -87,7 +71,7 @@ module _ (N : Network) (rows : ℕ) (acc : Accepted N rows) where
       let B = eqb (i .id) (o .id) && sameKind (i .twoWay) (o .twoWay) in
       record {
         ofFile = of-file (u .0) i (u .1);
-        isIn = is-input (i .direction) (and-l (isInputOperation (i .direction)) L (and-l A B (u .2)));
+        isIn = and-l (isInputOperation (i .direction)) L (and-l A B (u .2));
         alike = same-bool (i .twoWay) (o .twoWay) (and-r (eqb (i .id) (o .id)) (sameKind (i .twoWay) (o .twoWay)) (and-r A B (u .2)));
       }
 
@@ -197,7 +181,7 @@ module _ (N : Network) (rows : ℕ) (acc : Accepted N rows) where
   send-move G hG q n r to =
       by-session N rows true G q n (λ B S. sendReached N G q n S to (reach (S .progress) 0 r B))
       (λ B S e eS.
-      let h = hG q n S eS in
+      let h = hG .sessions q n S eS in
       let on = once-of N rows acc q n (h .what) (h .runs) in
       subst (λ (z : Behaviour). Keeps N rows true (sendReached N G q n S to (reach (S .progress) 0 r z))) (some-inj (sym (h .runs) ∙ e))
       (send-reached G hG q n S eS h to r (reach (S .progress) 0 r (h .what)) (found-alone (S .progress) r (h .what) on (clean-shut N rows (S .progress) (h .what) (h .clean) (h .suit)))))

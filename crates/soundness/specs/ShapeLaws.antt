@@ -79,11 +79,11 @@ module _ (N : Network) (rows : ℕ) (acc : Accepted N rows) where
     where
       made : (q n : ℕ) (x : Slot) → G q n ≡ x → MadeSlot x
       made q n free e = tt
-      made q n (live S) e = session-made q n S (h q n S e)
+      made q n (live S) e = session-made q n S (h .sessions q n S e)
 
       suited : (q n : ℕ) (x : Slot) → G q n ≡ x → suitsSlot N rows q n x ≡ true
       suited q n free e = refl
-      suited q n (live S) e = session-suits q n S (h q n S e)
+      suited q n (live S) e = session-suits q n S (h .sessions q n S e)
 
       near : (q n : ℕ) → (4 ≤ q) ⊎ (4 ≤ n) → q < length (N .services) → n ≤ 3 → ⊥
       near q n (inl a) b c = let y = acc .fewServices in omega arith
@@ -92,6 +92,6 @@ module _ (N : Network) (rows : ℕ) (acc : Accepted N rows) where
       free-there : (q n : ℕ) → (4 ≤ q) ⊎ (4 ≤ n) → (x : Slot) → G q n ≡ x → G q n ≡ free
       free-there q n far free e = e
       free-there q n far (live S) e =
-          let k = h q n S e in
+          let k = h .sessions q n S e in
           let place = behaviour-place N q n (k .what) (k .runs) in
           absurd (near q n far (place .0) (place .1))
