@@ -133,15 +133,7 @@ fn settle(c: u16, d: Environment, same: bool) -> Step
 }
 
 // "Sequence: a, then b."
-pub fn sequence(
-    file: &[u8],
-    sets: &[u8; 8192],
-    q: u16,
-    a: u16,
-    b: u16,
-    left: u16,
-    e: Environment,
-) -> Step
+pub fn sequence(file: &[u8], sets: &[u8], q: u16, a: u16, b: u16, left: u16, e: Environment) -> Step
     requires { ⌜ Separates (now file) (now sets) ⌝ }
     ensures { λ s. ⌜ Sequences (now (file .entry)) q a b left e s ⌝ }
 {
@@ -157,7 +149,7 @@ pub fn sequence(
 // "Parallel: no root id (a path's first id) occurs on both sides; left, then right."
 fn parallel(
     file: &[u8],
-    sets: &[u8; 8192],
+    sets: &[u8],
     q: u16,
     r: u16,
     a: u16,
@@ -177,7 +169,7 @@ fn parallel(
 // "Request-response places it, types the body, then the reply path stands firm and is ≤ the reply type."
 fn request_response(
     file: &[u8],
-    sets: &[u8; 8192],
+    sets: &[u8],
     q: u16,
     r: u16,
     o: u16,
@@ -208,7 +200,7 @@ fn request_response(
 // "If: a bool; both sides give equal Γ."
 fn if_then_else(
     file: &[u8],
-    sets: &[u8; 8192],
+    sets: &[u8],
     q: u16,
     r: u16,
     x: u16,
@@ -243,7 +235,7 @@ fn if_then_else(
 // "While: a bool; the body gives back Γ."
 fn while_do(
     file: &[u8],
-    sets: &[u8; 8192],
+    sets: &[u8],
     q: u16,
     r: u16,
     x: u16,
@@ -271,7 +263,7 @@ fn while_do(
 // The n further branches of the choice c, whose rows stand from `at` on; the first gave d, all so far the same or not.
 fn branches(
     file: &[u8],
-    sets: &[u8; 8192],
+    sets: &[u8],
     q: u16,
     c: u16,
     at: usize,
@@ -308,7 +300,7 @@ fn branches(
 // "Choice: all branches give equal Γ."
 fn choice(
     file: &[u8],
-    sets: &[u8; 8192],
+    sets: &[u8],
     q: u16,
     r: u16,
     first: u16,
@@ -341,7 +333,7 @@ fn choice(
 }
 
 // The behaviour of B row r, of the service row q, from the environment e; so many rows are left.
-pub fn check_row(file: &[u8], sets: &[u8; 8192], q: u16, r: u16, left: u16, e: Environment) -> Step
+pub fn check_row(file: &[u8], sets: &[u8], q: u16, r: u16, left: u16, e: Environment) -> Step
     requires { ⌜ Separates (now file) (now sets) ⌝ }
     ensures { λ s. ⌜ Checks (now (file .entry)) q r left e s ⌝ }
 {

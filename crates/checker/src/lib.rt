@@ -55,7 +55,7 @@ fn verdict_only(v: Verdict) -> Answer
 }
 
 // The starter of S row q, if there is one.
-fn starter(file: &[u8], sets: &[u8; 8192], q: u16) -> Step
+fn starter(file: &[u8], sets: &[u8], q: u16) -> Step
     requires { ⌜ Separates (now file) (now sets) ⌝ }
     ensures { λ s. ⌜ StarterGives (now (file .entry)) q s ⌝ }
 {
@@ -67,7 +67,7 @@ fn starter(file: &[u8], sets: &[u8; 8192], q: u16) -> Step
 }
 
 // The client of S row q, if there is one.
-fn client(file: &[u8], sets: &[u8; 8192], q: u16) -> Step
+fn client(file: &[u8], sets: &[u8], q: u16) -> Step
     requires { ⌜ Separates (now file) (now sets) ⌝ }
     ensures { λ s. ⌜ ClientGives (now (file .entry)) q s ⌝ }
 {
@@ -79,7 +79,7 @@ fn client(file: &[u8], sets: &[u8; 8192], q: u16) -> Step
 }
 
 // S row q, "starter first".
-fn service(file: &[u8], sets: &[u8; 8192], q: u16) -> One
+fn service(file: &[u8], sets: &[u8], q: u16) -> One
     requires { ⌜ Separates (now file) (now sets) ⌝ }
     ensures { λ x. ⌜ ServiceGives (now (file .entry)) q x ⌝ }
 {
@@ -127,7 +127,7 @@ fn with_first(p: Pair, x: Answer) -> Answer
 }
 
 // The n services from row q on.
-fn services(file: &[u8], sets: &[u8; 8192], q: u16, n: u16) -> Answer
+fn services(file: &[u8], sets: &[u8], q: u16, n: u16) -> Answer
     requires { ⌜ (q + n ≤ 65535) × Separates (now file) (now sets) ⌝ }
     ensures { λ x. ⌜ ServicesGive (now (file .entry)) q n x ⌝ }
 {
@@ -149,12 +149,23 @@ fn services(file: &[u8], sets: &[u8; 8192], q: u16, n: u16) -> Answer
 }
 
 // All services, by the root ids of the file's B rows.
-fn all_services(file: &[u8]) -> Answer
-    ensures { λ x. ⌜ ServicesGive (now (file .entry)) 0 (serviceCount (now (file .entry))) x ⌝ }
+fn by_roots(file: &[u8], n: u16) -> Answer
+    ensures { λ x. ⌜ ServicesGive (now (file .entry)) 0 n x ⌝ }
 {
     let mut sets = [0u8; 8192];
     roots::fill(file, &mut sets);
-    services(file, &sets, 0, layout::service_count(file))
+    services(file, &sets, 0, n)
+}
+
+// All services; the root ids are asked for only where there is a parallel, so that without one any bytes do.
+fn all_services(file: &[u8]) -> Answer
+    ensures { λ x. ⌜ ServicesGive (now (file .entry)) 0 (serviceCount (now (file .entry))) x ⌝ }
+{
+    let n = layout::service_count(file);
+    if roots::any_parallel(file) {
+        return by_roots(file, n);
+    }
+    services(file, file, 0, n)
 }
 
 // "The checker tries 2 to 13". (Its environments keep to their limits, as a fact that callers can cite.)

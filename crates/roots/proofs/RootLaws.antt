@@ -434,7 +434,7 @@ behaviours-more s table known before sets x after n r q e h l f k m = record {
     later j n a = omega (arith, n)
 
 pub behaviours-all : (s table known before sets : List ℕ) (n r : ℕ) → Behaviours s table known before sets n r → r ≤ 0 → BehaviourSets s table known before sets
-behaviours-all s table known before sets n r h l = record { tells = λ z w t c j a b. h .each z w t c j (omega arith) b }
+behaviours-all s table known before sets n r h l = record { size = h .size; tells = λ z w t c j a b. h .each z w t c j (omega arith) b }
 
 -- ---- parallels
 
@@ -502,9 +502,6 @@ searched-all s n r h l e = record { none = λ f j a b k. h .none j a b (omega ar
 pub found-one : (s : List ℕ) → NoParallel s true
 found-one s = record { none = λ f. absurd (clash refl f) }
 
-pub none-filled : (s sets : List ℕ) {x : Bool} → NoParallel s x → x ≡ false → Fills s sets sets
-none-filled s sets h e = record { tells = λ z. record { tells = λ w r a b x l p y. absurd (h .none e r a b l p) } }
-
 parallel-kept : (s : List ℕ) → WellFormed s → (r : ℕ) → r < behaviourCount s → {a b : ℕ} → behaviourRowOf s r ≡ BehaviourRow.Parallel a b
     → LaterRow s r a × LaterRow s r b
 unfolding behaviourRowOf
@@ -520,7 +517,7 @@ roots-from s j i m = of-T (occurs i (behaviourOf s j)) m
 
 pub filled : (s no-table table none known before sets : List ℕ) → length no-table ≡ 65536 → Represents s no-table table → length none ≡ 8192
     → ExpressionSets s table none known → BehaviourSets s table known before sets → Fills s before sets
-filled s no-table table none known before sets z-table u z-known e h = record { tells = λ z. record { tells = tells z } }
+filled s no-table table none known before sets z-table u z-known e h = record { size = h .size; tells = λ z. record { tells = tells z } }
   where
     t : Represented s table
     t = u .tells z-table
@@ -535,18 +532,21 @@ filled s no-table table none known before sets z-table u z-known e h = record { 
         c : behaviourCount s ≤ 256
         c = counts-kept s w .behaviours
 
+        room : 8192 ≤ length sets
+        room = let n = h .size z in omega arith
+
         set-at : (j : ℕ) → j < behaviourCount s → SetOf s table sets (32 * j) (behaviourRoots s j)
         set-at j m = h .tells z w t (e .tells z-known w t) j (omega arith) m
 
         by : (c : Bool) → x ≡ c → c ≡ noSharedRoot (behaviourOf s a) (behaviourOf s b)
         by false m =
-            let v = y .common (let q = k .0 .1 in let u = c in omega arith) (let q = k .1 .1 in let u = c in omega arith) m in
+            let v = y .common room (let q = k .0 .1 in let u = c in omega arith) (let q = k .1 .1 in let u = c in omega arith) m in
             sym (not-T-false (noSharedRoot (behaviourOf s a) (behaviourOf s b)) (λ u.
             no-shared-sound (behaviourOf s a) (behaviourOf s b) u (rootAt s (v .0)) (roots-to s a (rootAt s (v .0)) (set-at a (k .0 .1) .only (v .0) (v .1) (v .2)))
             (roots-to s b (rootAt s (v .0)) (set-at b (k .1 .1) .only (v .0) (v .1) (v .3)))))
         by true m =
             sym (of-T (noSharedRoot (behaviourOf s a) (behaviourOf s b)) (no-shared-complete (behaviourOf s a) (behaviourOf s b) (λ i u v.
-            y .none (let q = k .0 .1 in let u = c in omega arith) (let q = k .1 .1 in let u = c in omega arith) m (rowFor table i) (rowFor-below i)
+            y .none room (let q = k .0 .1 in let u = c in omega arith) (let q = k .1 .1 in let u = c in omega arith) m (rowFor table i) (rowFor-below i)
             (set-at a (k .0 .1) .has i (roots-from s a i u)) (set-at b (k .1 .1) .has i (roots-from s b i v)))))
           where
             rowFor-below : (i : ℕ) → rowFor table i < 256

@@ -358,11 +358,11 @@ common-more sets p q i x y z a b h l e f g m u = record { within = omega arith; 
 
 pub common-all : (sets : List ℕ) (p q i x a b c d : ℕ) → Common sets p q i x → 32 ≤ i → a ≡ c → p ≡ 32 * a → b ≡ d → q ≡ 32 * b → Apart sets c d (eqb x 0)
 common-all sets p q i x a b c d h l e f g m = record {
-  common = λ s t u.
+  common = λ n s t u.
       let r = h .some (λ z. clash (eq-eqb x 0 z) u) in
       let w = h .within in
       (r .0, (let v = r .1 in omega arith), at c p (r .0) (f ∙ ap (λ (z : ℕ). 32 * z) e) (r .2), at d q (r .0) (m ∙ ap (λ (z : ℕ). 32 * z) g) (r .3));
-  none = λ s t u k v y z. h .none (eqb-true x 0 u) k (omega arith) (back c p k (f ∙ ap (λ (z : ℕ). 32 * z) e) y) (back d q k (m ∙ ap (λ (z : ℕ). 32 * z) g) z);
+  none = λ n s t u k v y z. h .none (eqb-true x 0 u) k (omega arith) (back c p k (f ∙ ap (λ (z : ℕ). 32 * z) e) y) (back d q k (m ∙ ap (λ (z : ℕ). 32 * z) g) z);
 }
   where
     at : (c p k : ℕ) → p ≡ 32 * c → inSet sets p k ≡ true → inSet sets (32 * c) k ≡ true
@@ -372,7 +372,10 @@ common-all sets p q i x a b c d h l e f g m = record {
     back c p k y v = ap (λ (z : ℕ). inSet sets z k) y ∙ v
 
 pub apart-left : (sets : List ℕ) (a b : ℕ) (x : Bool) → 255 < a → Apart sets a b x
-apart-left sets a b x h = record { common = λ l. absurd (omega arith); none = λ l. absurd (omega arith) }
+apart-left sets a b x h = record { common = λ n l. absurd (omega arith); none = λ n l. absurd (omega arith) }
 
 pub apart-right : (sets : List ℕ) (a b : ℕ) (x : Bool) → 255 < b → Apart sets a b x
-apart-right sets a b x h = record { common = λ k l. absurd (omega arith); none = λ k l. absurd (omega arith) }
+apart-right sets a b x h = record { common = λ n k l. absurd (omega arith); none = λ n k l. absurd (omega arith) }
+
+pub apart-short : (sets : List ℕ) (a b : ℕ) (x : Bool) → length sets < 8192 → Apart sets a b x
+apart-short sets a b x h = record { common = λ n. absurd (omega arith); none = λ n. absurd (omega arith) }

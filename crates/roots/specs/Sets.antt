@@ -154,6 +154,7 @@ pub record BehaviourSet (file table known sets : List ℕ) (r : ℕ) (x : List �
       → LaterSets file table sets r → SetOf file table x 0 (behaviourRoots file r)
 
 pub record BehaviourSets (file table known before sets : List ℕ) : Type 0 where
+  pub size : length before ≡ 8192 → length sets ≡ 8192
   pub tells : length before ≡ 8192 → WellFormed file → Represented file table → SetsOf file table known (expressionRoots file) 0 (expressionCount file)
       → SetsOf file table sets (behaviourRoots file) 0 (behaviourCount file)
 
@@ -163,10 +164,10 @@ pub record BehaviourSets (file table known before sets : List ℕ) : Type 0 wher
 pub record NoParallel (file : List ℕ) (x : Bool) : Type 0 where
   pub none : x ≡ false → (r a b : ℕ) → r < behaviourCount file → behaviourRowOf file r ≡ BehaviourRow.Parallel a b → ⊥
 
--- x tells whether the sets of the rows a and b have no P row in common.
+-- x tells whether the sets of the rows a and b have no P row in common, in a list with room for all rows.
 pub record Apart (sets : List ℕ) (a b : ℕ) (x : Bool) : Type 0 where
-  pub common : a < 256 → b < 256 → x ≡ false → (k : ℕ) × (k < 256) × (inSet sets (32 * a) k ≡ true) × (inSet sets (32 * b) k ≡ true)
-  pub none : a < 256 → b < 256 → x ≡ true → (k : ℕ) → k < 256 → inSet sets (32 * a) k ≡ true → inSet sets (32 * b) k ≡ true → ⊥
+  pub common : 8192 ≤ length sets → a < 256 → b < 256 → x ≡ false → (k : ℕ) × (k < 256) × (inSet sets (32 * a) k ≡ true) × (inSet sets (32 * b) k ≡ true)
+  pub none : 8192 ≤ length sets → a < 256 → b < 256 → x ≡ true → (k : ℕ) → k < 256 → inSet sets (32 * a) k ≡ true → inSet sets (32 * b) k ≡ true → ⊥
 
 -- By the sets the sides of each parallel are told apart: "Parallel: no root id (a path's first id) occurs on both sides".
 pub record Separates (file sets : List ℕ) : Type 0 where
@@ -174,4 +175,5 @@ pub record Separates (file sets : List ℕ) : Type 0 where
       → x ≡ noSharedRoot (behaviourOf file a) (behaviourOf file b)
 
 pub record Fills (file before sets : List ℕ) : Type 0 where
+  pub size : length before ≡ 8192 → length sets ≡ 8192
   pub tells : length before ≡ 8192 → Separates file sets

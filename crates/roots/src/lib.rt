@@ -232,7 +232,7 @@ fn behaviour_sets(s: &[u8], table: &[u8; 65536], known: &[u8; 8192], sets: &mut 
 }
 
 // Is a B row a parallel?
-fn any_parallel(s: &[u8]) -> bool
+pub fn any_parallel(s: &[u8]) -> bool
     ensures { λ x. ⌜ NoParallel (now (s .entry)) x ⌝ }
 {
     let n = layout::behaviour_count(s);
@@ -246,13 +246,10 @@ fn any_parallel(s: &[u8]) -> bool
     false
 }
 
-// The sets of the B rows, by which the sides of each parallel are told apart; they are not asked for where there is none.
+// The sets of the B rows, by which the sides of each parallel are told apart. Where no row is a parallel any bytes do.
 pub fn fill(s: &[u8], sets: &mut [u8; 8192])
     ensures { λ _. ⌜ Fills (now (s .entry)) (now (sets .entry)) (now (sets .exit)) ⌝ }
 {
-    if !any_parallel(s) {
-        return;
-    }
     let mut table = [0u8; 65536];
     represent(s, &mut table);
     let mut known = [0u8; 8192];
@@ -261,9 +258,12 @@ pub fn fill(s: &[u8], sets: &mut [u8; 8192])
 }
 
 // Have the sets of the rows a and b no P row in common? No way out of the loop, so that many bytes are compared at once.
-pub fn apart(sets: &[u8; 8192], a: u16, b: u16) -> bool
+pub fn apart(sets: &[u8], a: u16, b: u16) -> bool
     ensures { λ x. ⌜ Apart (now (sets .entry)) a b x ⌝ }
 {
+    if sets.len() < 8192 {
+        return true;
+    }
     if 255 < a {
         return true;
     }

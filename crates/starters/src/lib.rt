@@ -16,7 +16,7 @@ pub struct Gathered {
 }
 
 // The branch whose row stands at `at`, from the empty environment.
-fn branch(file: &[u8], sets: &[u8; 8192], q: u16, at: usize, left: u16) -> Step
+fn branch(file: &[u8], sets: &[u8], q: u16, at: usize, left: u16) -> Step
     requires { ⌜ (at < 2000000) × Separates (now file) (now sets) ⌝ }
     ensures { λ s. ⌜ Gives (now (file .entry)) q at left s ⌝ }
 {
@@ -32,7 +32,7 @@ fn branch(file: &[u8], sets: &[u8; 8192], q: u16, at: usize, left: u16) -> Step
 }
 
 // The n branches whose rows stand from `at` on, one after the other: the first refusal.
-fn each(file: &[u8], sets: &[u8; 8192], q: u16, at: usize, n: u16, left: u16) -> Verdict
+fn each(file: &[u8], sets: &[u8], q: u16, at: usize, n: u16, left: u16) -> Verdict
     requires { ⌜ (at + 10 * n < 2000000) × Separates (now file) (now sets) ⌝ }
     ensures { λ v. ⌜ Each (now (file .entry)) q at n left v ⌝ }
 {
@@ -48,15 +48,7 @@ fn each(file: &[u8], sets: &[u8; 8192], q: u16, at: usize, n: u16, left: u16) ->
 }
 
 // Has each root of d one type in all of the n branches?
-fn against(
-    file: &[u8],
-    sets: &[u8; 8192],
-    q: u16,
-    d: Environment,
-    at: usize,
-    n: u16,
-    left: u16,
-) -> bool
+fn against(file: &[u8], sets: &[u8], q: u16, d: Environment, at: usize, n: u16, left: u16) -> bool
     requires { ⌜ (at + 10 * n < 2000000) × Separates (now file) (now sets) ⌝ }
     ensures { λ x. ⌜ Against (now (file .entry)) q d at n left x ⌝ }
 {
@@ -72,7 +64,7 @@ fn against(
 }
 
 // Has each root one type in the n branches?
-fn one_each(file: &[u8], sets: &[u8; 8192], q: u16, at: usize, n: u16, left: u16) -> bool
+fn one_each(file: &[u8], sets: &[u8], q: u16, at: usize, n: u16, left: u16) -> bool
     requires { ⌜ (at + 10 * n < 2000000) × Separates (now file) (now sets) ⌝ }
     ensures { λ x. ⌜ OneEach (now (file .entry)) q at n left x ⌝ }
 {
@@ -90,7 +82,7 @@ fn one_each(file: &[u8], sets: &[u8; 8192], q: u16, at: usize, n: u16, left: u16
 // The union of u and the environments of the n branches, or 12 at the row.
 fn unite_all(
     file: &[u8],
-    sets: &[u8; 8192],
+    sets: &[u8],
     q: u16,
     row: u16,
     at: usize,
@@ -116,7 +108,7 @@ fn unite_all(
 }
 
 // The n branches pass: 10 and then 12 at the starter's row.
-fn join(file: &[u8], sets: &[u8; 8192], q: u16, row: u16, at: usize, n: u16, left: u16) -> Step
+fn join(file: &[u8], sets: &[u8], q: u16, row: u16, at: usize, n: u16, left: u16) -> Step
     requires { ⌜ (at + 10 * n < 2000000) × Separates (now file) (now sets) ⌝ }
     ensures { λ s. ⌜ Joins (now (file .entry)) q row at n left s ⌝ }
 {
@@ -129,7 +121,7 @@ fn join(file: &[u8], sets: &[u8; 8192], q: u16, row: u16, at: usize, n: u16, lef
 // The n branches whose rows stand from `at` on, after those whose union is u: not sure where a root has two types or the union is too large.
 fn gather(
     file: &[u8],
-    sets: &[u8; 8192],
+    sets: &[u8],
     q: u16,
     row: u16,
     at: usize,
@@ -174,7 +166,7 @@ fn gather(
 }
 
 // The starter of the service row q, whose row r is a choice.
-pub fn check_starter(file: &[u8], sets: &[u8; 8192], q: u16, r: u16) -> Step
+pub fn check_starter(file: &[u8], sets: &[u8], q: u16, r: u16) -> Step
     requires { ⌜ Separates (now file) (now sets) ⌝ }
     ensures { λ s. ⌜ Starts (now (file .entry)) q r s ⌝ }
 {
@@ -195,7 +187,7 @@ pub fn check_starter(file: &[u8], sets: &[u8; 8192], q: u16, r: u16) -> Step
 }
 
 // The client of the service row q.
-pub fn check_client(file: &[u8], sets: &[u8; 8192], q: u16, r: u16) -> Step
+pub fn check_client(file: &[u8], sets: &[u8], q: u16, r: u16) -> Step
     requires { ⌜ Separates (now file) (now sets) ⌝ }
     ensures { λ s. ⌜ Clients (now (file .entry)) q r s ⌝ }
 {

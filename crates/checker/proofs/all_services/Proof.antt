@@ -1,28 +1,46 @@
 use Prim.Native.Nat.{ℕ}
 use mathlib.Core.Path.{subst}
-use lib.ListN.{length-replicate}
+use Rattle.roots.specs.SetsLaws.{no-parallel}
 use Rattle.checker.specs.Answer.{ServicesGive}
 use borrow.Author.Needs.{needs}
 use Rattle.checker.proofs.all_services.Statement.{statement}
 use Rattle.checker.proofs.all_services.Tie as tie
 use Rattle.checker.proofs.all_services.Reads as reads
 use Rattle.checker.proofs.all_services.Lts as lts
+use Rattle.checker.proofs.by_roots.Reads as by-roots-reads
 use Rattle.checker.proofs.services.Reads as services-reads
 use Rattle.layout.proofs.service_count.Reads as service-count-reads
-use Rattle.roots.proofs.fill.Reads as fill-reads
-
-fill-requires : tie.Need-fill-requires
-fill-requires c κs = search needs
+use Rattle.roots.proofs.any_parallel.Reads as any-parallel-reads
 
 service-count-requires : tie.Need-service-count-requires
 service-count-requires c κs = search needs
 
-services-requires : tie.Need-services-requires
-services-requires c κs = (search needs, c .before .before .fill .ensures .tells (length-replicate {A = ℕ} 8192 0))
+any-parallel-requires : tie.Need-any-parallel-requires
+any-parallel-requires c κs = search needs
+
+by-roots-requires : tie.Need-by-roots-requires
+by-roots-requires c κs = search needs
 
 returns : tie.Need-returns
-returns c = subst (λ (n : ℕ). ServicesGive (c .before .before .before .before .before .before .args .file .now) 0 n (c .services .result)) (c .before .service-count .ensures) (c .services .ensures)
+returns c =
+    subst (λ (n : ℕ). ServicesGive (c .before .before .before .before .before .args .file .now) 0 n (c .by-roots .result)) (c .before .before .before .service-count .ensures)
+    (c .by-roots .ensures)
+
+services-requires : tie.Need-services-requires
+services-requires c κs = (search needs, no-parallel _ _ (c .before .any-parallel .ensures) (c .if1 .left))
+
+returns-2 : tie.Need-returns-2
+returns-2 c =
+    subst (λ (n : ℕ). ServicesGive (c .before .before .before .before .before .args .file .now) 0 n (c .services .result)) (c .before .before .before .service-count .ensures)
+    (c .services .ensures)
 
 pub all-services-spec : {M : Type 1} → statement M
 all-services-spec =
-    tie.close (tie.spec fill-requires service-count-requires services-requires returns)
+    tie.close
+    (tie.spec
+    service-count-requires
+    any-parallel-requires
+    by-roots-requires
+    returns
+    services-requires
+    returns-2)

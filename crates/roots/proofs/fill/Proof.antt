@@ -1,22 +1,14 @@
+use Rattle.roots.proofs.RootLaws.{filled}
 use Prim.Native.Nat.{ℕ}
-use Rattle.roots.proofs.RootLaws.{none-filled, filled}
-use Rattle.network.specs.TestLaws.{not-true}
 use lib.ListN.{length-replicate}
 use borrow.Author.Needs.{needs}
 use Rattle.roots.proofs.fill.Statement.{statement}
 use Rattle.roots.proofs.fill.Tie as tie
 use Rattle.roots.proofs.fill.Reads as reads
 use Rattle.roots.proofs.fill.Lts as lts
-use Rattle.roots.proofs.any_parallel.Reads as any-parallel-reads
 use Rattle.roots.proofs.behaviour_sets.Reads as behaviour-sets-reads
 use Rattle.roots.proofs.expression_sets.Reads as expression-sets-reads
 use Rattle.roots.proofs.represent.Reads as represent-reads
-
-any-parallel-requires : tie.Need-any-parallel-requires
-any-parallel-requires c κs = search needs
-
-returns : tie.Need-returns
-returns c = search (none-filled, not-true) depth 12
 
 represent-requires : tie.Need-represent-requires
 represent-requires c κs = search needs
@@ -27,16 +19,10 @@ expression-sets-requires c κs = search needs
 behaviour-sets-requires : tie.Need-behaviour-sets-requires
 behaviour-sets-requires c κs = search needs
 
-returns-2 : tie.Need-returns-2
-returns-2 c = filled _ _ _ _ _ _ _ (length-replicate {A = ℕ} 65536 0) (c .before .before .before .before .before .before .before .represent .ensures) (length-replicate {A = ℕ} 8192 0) (c .before .before .before .before .expression-sets .ensures) (c .behaviour-sets .ensures)
+returns : tie.Need-returns
+returns c = filled _ _ _ _ _ _ _ (length-replicate {A = ℕ} 65536 0) (c .before .before .before .before .before .before .before .represent .ensures) (length-replicate {A = ℕ} 8192 0) (c .before .before .before .before .expression-sets .ensures) (c .behaviour-sets .ensures)
 
 pub fill-spec : {M : Type 1} → statement M
 fill-spec =
     tie.close
-    (tie.spec
-    any-parallel-requires
-    returns
-    represent-requires
-    expression-sets-requires
-    behaviour-sets-requires
-    returns-2)
+    (tie.spec represent-requires expression-sets-requires behaviour-sets-requires returns)
