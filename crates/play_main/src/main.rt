@@ -417,7 +417,7 @@ fn run(ok: &mut bool, file: &[u8]) -> u8 {
     let o = fresh_state::fresh(file, &mut state);
     let n = refusal::number(o);
     if 0 < n {
-        console::refused(ok, n, refusal::place(o));
+        report::refused(ok, n, refusal::place(o));
         return console::REFUSED;
     }
     play_all(ok, file, &mut state)
