@@ -36,10 +36,10 @@ typedef struct {
 /* An accepted file has at most this many nodes: four services, two environments each, 48 nodes in one. */
 #define POKHVETI_NODES 384
 
-/* Writes the nodes of an accepted file's environments, by service, the starter's before the client's, each in preorder, and gives how many
- * they are. `size` is that of the buffer in bytes. If it has no room for all nodes, or the file is refused, the result is 0 and nothing is
- * written. */
-size_t pokhveti_environments(const uint8_t *file, size_t length, pokhveti_node *nodes, size_t size);
+/* Writes the nodes of an accepted file's environments, by service, the starter's before the client's, each in preorder. `size` is that of
+ * the buffer in bytes. Gives 0 if all nodes were written, *count of them; the number of the refusal, 2 to 13, with *count 0; or 1 if the
+ * buffer has no room for all nodes, of which there are *count. Unless it gives 0 nothing is written to the buffer. */
+uint32_t pokhveti_environments(const uint8_t *file, size_t length, pokhveti_node *nodes, size_t size, size_t *count);
 
 /* Reads a part of a message: the child at the path of four ids (0 after the last one). Gives the length of the child's encoding, which
  * starts at message[*start]; 0 with *start 0 where the child is missing or the path or the message is malformed. */

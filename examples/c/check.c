@@ -19,8 +19,9 @@ static int check(const uint8_t *file, size_t length)
         printf("refused %u %zu\n", (unsigned)number, place);
         return 1;
     }
-    pokhveti_node nodes[POKHVETI_NODES];
-    size_t count = pokhveti_environments(file, length, nodes, sizeof nodes);
+    pokhveti_node nodes[POKHVETI_NODES]; /* room for all nodes of any accepted file */
+    size_t count;
+    pokhveti_environments(file, length, nodes, sizeof nodes, &count);
     puts("accepted");
     for (size_t i = 0; i < count; i++) {
         const pokhveti_node *node = &nodes[i];

@@ -66,15 +66,6 @@ fn byte(ok: &mut bool, x: u8) {
     }
 }
 
-// The line `refused N P` of 01.
-pub fn refused(ok: &mut bool, n: u8, place: usize) {
-    write(ok, b"refused ");
-    number(ok, n as u64);
-    write(ok, b" ");
-    number(ok, place as u64);
-    write(ok, b"\n");
-}
-
 fn reason(why: Fault) {
     match why {
         Fault::Word => io::write_all(STDERR_FILENO, b"not a move\n"),

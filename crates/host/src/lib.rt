@@ -3,7 +3,7 @@
 ghost use mathlib.Core.Path.{_≡_};
 ghost use mathlib.Core.List.{[], _∷_};
 ghost use Rattle.checking.specs.FileChecker.{checkFile};
-ghost use Rattle.listing.specs.Listed.{environmentsOf, listedCount, listedBytes};
+ghost use Rattle.listing.specs.Listed.{listedNumber, listedCount, listedBytes};
 ghost use Rattle.part_span.specs.Span.{spanOf};
 ghost use Rattle.typing.specs.Result.{refusalNumber, refusalPlace};
 ghost use Rattle.moves.specs.Fresh.{fresh};
@@ -30,14 +30,17 @@ pub extern "C" fn pokhveti_check(file: &[u8], place: &mut usize) -> u32
     refusal::number(answer) as u32
 }
 
-// Writes a record of 18 bytes for each node of an accepted file's environments, and gives how many; 0, with nothing written, for a refused
-// file and where there is no room for all.
+// Writes a record of 18 bytes for each node of an accepted file's environments: 0, the refusal's number, or 1, with nothing written, where
+// there is no room for all of them; how many nodes there are is written to `count`.
 #[no_mangle]
-pub extern "C" fn pokhveti_environments(file: &[u8], nodes: &mut [u8]) -> usize
-    ensures { λ n. ⌜ n ≡ listedCount (environmentsOf (checkFile (now (file .entry)))) (now (nodes .entry)) ⌝ }
-    ensures { λ _. ⌜ now (nodes .exit) ≡ listedBytes (environmentsOf (checkFile (now (file .entry)))) (now (nodes .entry)) ⌝ }
+pub extern "C" fn pokhveti_environments(file: &[u8], nodes: &mut [u8], count: &mut usize) -> u32
+    ensures { λ n. ⌜ n ≡ listedNumber (checkFile (now (file .entry))) (now (nodes .entry)) ⌝ }
+    ensures { λ _. ⌜ now (count .exit) ≡ listedCount (checkFile (now (file .entry))) ⌝ }
+    ensures { λ _. ⌜ now (nodes .exit) ≡ listedBytes (checkFile (now (file .entry))) (now (nodes .entry)) ⌝ }
 {
-    listing::list(file, nodes)
+    let answer = listing::list(file, nodes);
+    *count = answer.count;
+    answer.number as u32
 }
 
 // Reads a part of a message: its length, 0 for the empty part; where it starts is written to `start`.

@@ -8,6 +8,8 @@ use lib.ListN.{length, drop}
 use lib.Dec.{leb}
 use borrow.Author.Tests.{le-leb, lt-leb}
 use Rattle.forest.specs.Forest.{end, measure, nodes}
+use Rattle.refusal.specs.declared.Refusal.{Refusal}
+use Rattle.refusal.specs.Refusal.{numberOf}
 use Rattle.refusal.specs.declared.Verdict.{Verdict}
 use Rattle.refusal.specs.declared.Verdict.the-variants.{Done, Refused}
 use Rattle.scalar.specs.Value.{pick}
@@ -28,7 +30,7 @@ use Rattle.environments.specs.Listing.{preorder}
 use Rattle.checker.specs.declared.Pair.{Pair}
 use Rattle.checker.specs.declared.Answer.{Answer}
 use Rattle.checker.specs.Answer.{environmentOf, pairOf, pairAt, answerOf, ShapedIfThere, ShapedPair, ShapedAll, IfPassed}
-use Rattle.listing.specs.Listed.{entryBytes, ifThereBytes, pairBytes, environmentsBytes, ifThereNodes, environmentsNodes, environmentsOf, listedCount, listedBytes}
+use Rattle.listing.specs.Listed.{entryBytes, ifThereBytes, pairBytes, environmentsBytes, ifThereNodes, environmentsNodes, hasRoom, listedNumber, listedCount, listedBytes}
 use Rattle.listing.specs.Writing.{nodesBy, pairNodesBy, answerNodesBy, EnvironmentWritten, PairWritten}
 use Rattle.listing.proofs.Records.{nodes-told}
 
@@ -67,6 +69,11 @@ pair-nodes p E k h =
 
 -- ---- at most four services
 
+-- The environments of what was checked: a refused file has none.
+abbrev environmentsOf : Checked (List Environments) → List Environments
+environmentsOf (refused why) = []
+environmentsOf (passed Es) = Es
+
 services-few : (q : ℕ) (ss : List Service) → length (environmentsOf (checkServices q ss)) ≤ length ss
 unfolding checkServices next
 services-few q [] = omega arith
@@ -79,7 +86,7 @@ services-few q (s ∷ ss) = by (ifThere (checkStarter q) (s .starter)) (ifThere 
     by (passed Γ) (passed Δ) (refused w) h = omega arith
     by (passed Γ) (passed Δ) (passed Es) h = omega (arith, h)
 
-few : (file : List ℕ) → length (environmentsOf (checkFile file)) ≤ 4
+pub few : (file : List ℕ) → length (environmentsOf (checkFile file)) ≤ 4
 unfolding checkFile checkNetwork next
 few file = by (formOf file) refl
   where
@@ -136,70 +143,84 @@ four-nodes (A ∷ B ∷ C ∷ []) h = omega arith
 four-nodes (A ∷ B ∷ C ∷ D ∷ []) h = omega arith
 four-nodes (A ∷ B ∷ C ∷ D ∷ E ∷ Es) h = absurd (omega (arith, h))
 
-shaped-of : (c : Checked (List Environments)) → IfPassed ShapedAll c → ShapedAll (environmentsOf c)
-unfolding ShapedAll
-shaped-of (refused why) h = tt
-shaped-of (passed Es) h = h
+-- What is told of a checked file, the buffer being o before and o′ then.
+abbrev Told : Checked (List Environments) → List ℕ → List ℕ → ℕ → ℕ → Type 0
+Told c o o′ number count = (number ≡ listedNumber c o) × ((count ≡ listedCount c) × (o′ ≡ listedBytes c o))
 
--- The four pairs of an answer.
-record Pairs (x : Answer) (Es : List Environments) : Type 0 where
+module _ (Es : List Environments) (f : length Es ≤ 4) {x : Answer} {n : ℕ} (k : x ≡ answerOf (passed Es)) (h : ShapedAll Es) (m : (n ≡ answerNodesBy x) × (n ≤ 576)) where
   first : x .first ≡ pairOf (at 0 Es)
+  unfolding answerOf
+  first = ap (λ (z : Answer). z .first) k ∙ at-pair 0 Es
+
   second : x .second ≡ pairOf (at 1 Es)
+  unfolding answerOf
+  second = ap (λ (z : Answer). z .second) k ∙ at-pair 1 Es
+
   third : x .third ≡ pairOf (at 2 Es)
+  unfolding answerOf
+  third = ap (λ (z : Answer). z .third) k ∙ at-pair 2 Es
+
   fourth : x .fourth ≡ pairOf (at 3 Es)
+  unfolding answerOf
+  fourth = ap (λ (z : Answer). z .fourth) k ∙ at-pair 3 Es
 
-pairs-of : (x : Answer) (c : Checked (List Environments)) → x ≡ answerOf c → Pairs x (environmentsOf c)
-unfolding answerOf at
-pairs-of x (refused why) k = record {
-  first = ap (λ (z : Answer). z .first) k;
-  second = ap (λ (z : Answer). z .second) k;
-  third = ap (λ (z : Answer). z .third) k;
-  fourth = ap (λ (z : Answer). z .fourth) k;
-}
-pairs-of x (passed Es) k = record {
-  first = ap (λ (z : Answer). z .first) k ∙ at-pair 0 Es;
-  second = ap (λ (z : Answer). z .second) k ∙ at-pair 1 Es;
-  third = ap (λ (z : Answer). z .third) k ∙ at-pair 2 Es;
-  fourth = ap (λ (z : Answer). z .fourth) k ∙ at-pair 3 Es;
-}
-
-module _ (file : List ℕ) {x : Answer} {n : ℕ} (k : (x ≡ answerOf (checkFile file)) × IfPassed ShapedAll (checkFile file)) (m : (n ≡ answerNodesBy x) × (n ≤ 576)) where
-  shapes : ShapedAll (environmentsOf (checkFile file))
-  shapes = shaped-of (checkFile file) (k .1)
-
-  pairs : Pairs x (environmentsOf (checkFile file))
-  pairs = pairs-of x (checkFile file) (k .0)
-
-  count-is : n ≡ environmentsNodes (environmentsOf (checkFile file))
+  count-is : n ≡ environmentsNodes Es
   count-is =
       omega (
         arith,
         m .0,
-        four-nodes (environmentsOf (checkFile file)) (few file),
-        pair-nodes (x .first) (at 0 (environmentsOf (checkFile file))) (pairs .first) (at-shaped 0 (environmentsOf (checkFile file)) shapes),
-        pair-nodes (x .second) (at 1 (environmentsOf (checkFile file))) (pairs .second) (at-shaped 1 (environmentsOf (checkFile file)) shapes),
-        pair-nodes (x .third) (at 2 (environmentsOf (checkFile file))) (pairs .third) (at-shaped 2 (environmentsOf (checkFile file)) shapes),
-        pair-nodes (x .fourth) (at 3 (environmentsOf (checkFile file))) (pairs .fourth) (at-shaped 3 (environmentsOf (checkFile file)) shapes),
+        four-nodes Es f,
+        pair-nodes (x .first) (at 0 Es) first (at-shaped 0 Es h),
+        pair-nodes (x .second) (at 1 Es) second (at-shaped 1 Es h),
+        pair-nodes (x .third) (at 2 Es) third (at-shaped 2 Es h),
+        pair-nodes (x .fourth) (at 3 Es) fourth (at-shaped 3 Es h),
       )
 
-  pub list-small : {o : List ℕ} → length o < 18 * n → (0 ≡ listedCount (environmentsOf (checkFile file)) o) × (o ≡ listedBytes (environmentsOf (checkFile file)) o)
-  list-small {o} l =
-      let b : leb (18 * environmentsNodes (environmentsOf (checkFile file))) (length o) ≡ false = lt-leb (18 * environmentsNodes (environmentsOf (checkFile file))) (length o) (omega (arith, l, count-is)) in
-      (sym (ap (λ (z : Bool). pick z (environmentsNodes (environmentsOf (checkFile file))) 0) b), sym (ap (λ (z : Bool). pick z (environmentsBytes 0 (environmentsOf (checkFile file)) ++ drop (18 * environmentsNodes (environmentsOf (checkFile file))) o) o) b))
+  told-small : {o : List ℕ} → length o < 18 * n → Told (passed Es) o o 1 n
+  told-small {o} l =
+      let b : hasRoom Es o ≡ false = lt-leb (18 * environmentsNodes Es) (length o) (omega (arith, l, count-is)) in (
+        sym (ap (λ (z : Bool). pick z 0 1) b),
+        (count-is, sym (ap (λ (z : Bool). pick z (environmentsBytes 0 Es ++ drop (18 * environmentsNodes Es) o) o) b)),
+      )
 
-  pub list-all : {o o₁ o₂ o₃ o₄ : List ℕ} {a b c r : ℕ} → 18 * n ≤ length o → PairWritten (x .first) 0 o o₁ 0 a → PairWritten (x .second) 1 o₁ o₂ a b
-      → PairWritten (x .third) 2 o₂ o₃ b c → PairWritten (x .fourth) 3 o₃ o₄ c r → (n ≡ listedCount (environmentsOf (checkFile file)) o) × (o₄ ≡ listedBytes (environmentsOf (checkFile file)) o)
-  list-all {o} {o₁} {o₂} {o₃} {o₄} {a} {b} {c} {r} l f g h i =
-      let t : leb (18 * environmentsNodes (environmentsOf (checkFile file))) (length o) ≡ true = le-leb (18 * environmentsNodes (environmentsOf (checkFile file))) (length o) (omega (arith, l, count-is)) in
-      let w = wrote-more (f .tells (at 0 (environmentsOf (checkFile file))) (pairs .first) (at-shaped 0 (environmentsOf (checkFile file)) shapes)) (wrote-more (g .tells (at 1 (environmentsOf (checkFile file))) (pairs .second) (at-shaped 1 (environmentsOf (checkFile file)) shapes))
-      (wrote-more (h .tells (at 2 (environmentsOf (checkFile file))) (pairs .third) (at-shaped 2 (environmentsOf (checkFile file)) shapes)) (i .tells (at 3 (environmentsOf (checkFile file))) (pairs .fourth) (at-shaped 3 (environmentsOf (checkFile file)) shapes)))) in
-      let e : r ≡ 18 * environmentsNodes (environmentsOf (checkFile file)) = omega (arith, w .next, m .0, count-is) in (
-        count-is ∙ sym (ap (λ (z : Bool). pick z (environmentsNodes (environmentsOf (checkFile file))) 0) t),
-        wrote-all w ∙ (ap (λ (j : ℕ). (pairBytes 0 (at 0 (environmentsOf (checkFile file))) ++ (pairBytes 1 (at 1 (environmentsOf (checkFile file))) ++ (pairBytes 2 (at 2 (environmentsOf (checkFile file))) ++ pairBytes 3 (at 3 (environmentsOf (checkFile file)))))) ++ drop j o) e
-            ∙ (ap (λ (y : List ℕ). y ++ drop (18 * environmentsNodes (environmentsOf (checkFile file))) o) (sym (four-bytes (environmentsOf (checkFile file)) (few file) ∙ last))
-            ∙ sym (ap (λ (z : Bool). pick z (environmentsBytes 0 (environmentsOf (checkFile file)) ++ drop (18 * environmentsNodes (environmentsOf (checkFile file))) o) o) t))),
+  told-all : {o o₁ o₂ o₃ o₄ : List ℕ} {a b c r : ℕ} → 18 * n ≤ length o → PairWritten (x .first) 0 o o₁ 0 a → PairWritten (x .second) 1 o₁ o₂ a b
+      → PairWritten (x .third) 2 o₂ o₃ b c → PairWritten (x .fourth) 3 o₃ o₄ c r → Told (passed Es) o o₄ 0 n
+  told-all {o} {o₁} {o₂} {o₃} {o₄} {a} {b} {c} {r} l p q s t =
+      let y : hasRoom Es o ≡ true = le-leb (18 * environmentsNodes Es) (length o) (omega (arith, l, count-is)) in
+      let w = wrote-more (p .tells (at 0 Es) first (at-shaped 0 Es h)) (wrote-more (q .tells (at 1 Es) second (at-shaped 1 Es h))
+      (wrote-more (s .tells (at 2 Es) third (at-shaped 2 Es h)) (t .tells (at 3 Es) fourth (at-shaped 3 Es h)))) in
+      let e : r ≡ 18 * environmentsNodes Es = omega (arith, w .next, m .0, count-is) in (
+        sym (ap (λ (z : Bool). pick z 0 1) y),
+        (
+          count-is,
+          wrote-all w ∙ (ap (λ (j : ℕ). (pairBytes 0 (at 0 Es) ++ (pairBytes 1 (at 1 Es) ++ (pairBytes 2 (at 2 Es) ++ pairBytes 3 (at 3 Es)))) ++ drop j o) e
+              ∙ (ap (λ (z : List ℕ). z ++ drop (18 * environmentsNodes Es) o) (sym (four-bytes Es f ∙ last))
+              ∙ sym (ap (λ (z : Bool). pick z (environmentsBytes 0 Es ++ drop (18 * environmentsNodes Es) o) o) y))),
+        ),
       )
     where
-      last : pairBytes 0 (at 0 (environmentsOf (checkFile file))) ++ (pairBytes 1 (at 1 (environmentsOf (checkFile file))) ++ (pairBytes 2 (at 2 (environmentsOf (checkFile file))) ++ (pairBytes 3 (at 3 (environmentsOf (checkFile file))) ++ [])))
-          ≡ pairBytes 0 (at 0 (environmentsOf (checkFile file))) ++ (pairBytes 1 (at 1 (environmentsOf (checkFile file))) ++ (pairBytes 2 (at 2 (environmentsOf (checkFile file))) ++ pairBytes 3 (at 3 (environmentsOf (checkFile file)))))
-      last = ap (λ (y : List ℕ). pairBytes 0 (at 0 (environmentsOf (checkFile file))) ++ (pairBytes 1 (at 1 (environmentsOf (checkFile file))) ++ (pairBytes 2 (at 2 (environmentsOf (checkFile file))) ++ y))) (append-nil (pairBytes 3 (at 3 (environmentsOf (checkFile file)))))
+      last : pairBytes 0 (at 0 Es) ++ (pairBytes 1 (at 1 Es) ++ (pairBytes 2 (at 2 Es) ++ (pairBytes 3 (at 3 Es) ++ [])))
+          ≡ pairBytes 0 (at 0 Es) ++ (pairBytes 1 (at 1 Es) ++ (pairBytes 2 (at 2 Es) ++ pairBytes 3 (at 3 Es)))
+      last = ap (λ (z : List ℕ). pairBytes 0 (at 0 Es) ++ (pairBytes 1 (at 1 Es) ++ (pairBytes 2 (at 2 Es) ++ z))) (append-nil (pairBytes 3 (at 3 Es)))
+
+-- ---- `list`
+
+pub list-refused : (c : Checked (List Environments)) {x : Answer} {why : Refusal} {number : ℕ} {o : List ℕ} → (x ≡ answerOf c) × IfPassed ShapedAll c
+    → x .verdict ≡ Refused why → number ≡ numberOf why → Told c o o number 0
+unfolding answerOf
+list-refused (refused w) {x} {why} k v e = let z : why ≡ w = cc in (e ∙ ap numberOf z, (refl, refl))
+list-refused (passed Es) k v e = absurd (let z : _≡_ {A = ℕ} 0 1 = cc in omega arith)
+
+pub list-small : (c : Checked (List Environments)) {x : Answer} {n : ℕ} {o : List ℕ} → length (environmentsOf c) ≤ 4 → (x ≡ answerOf c) × IfPassed ShapedAll c
+    → x .verdict ≡ Done → (n ≡ answerNodesBy x) × (n ≤ 576) → length o < 18 * n → Told c o o 1 n
+unfolding answerOf
+list-small (refused w) f k v m l = absurd (let z : _≡_ {A = ℕ} 0 1 = cc in omega arith)
+list-small (passed Es) f k v m l = told-small Es f (k .0) (k .1) m l
+
+pub list-all : (c : Checked (List Environments)) {x : Answer} {n : ℕ} {o o₁ o₂ o₃ o₄ : List ℕ} {a b d r : ℕ} → length (environmentsOf c) ≤ 4
+    → (x ≡ answerOf c) × IfPassed ShapedAll c → x .verdict ≡ Done → (n ≡ answerNodesBy x) × (n ≤ 576) → 18 * n ≤ length o
+    → PairWritten (x .first) 0 o o₁ 0 a → PairWritten (x .second) 1 o₁ o₂ a b → PairWritten (x .third) 2 o₂ o₃ b d
+    → PairWritten (x .fourth) 3 o₃ o₄ d r → Told c o o₄ 0 n
+unfolding answerOf
+list-all (refused w) f k v m l p q s t = absurd (let z : _≡_ {A = ℕ} 0 1 = cc in omega arith)
+list-all (passed Es) f k v m l p q s t = told-all Es f (k .0) (k .1) m l p q s t

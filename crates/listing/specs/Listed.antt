@@ -1,24 +1,19 @@
 -- The environments of an accepted file as bytes, for callers in other languages: one record of 18 bytes per node. 01, Proved cases: "per
 -- node in preorder, by service, S(tarter) first: service row, S or C(lient), path, `!` (mandatory) or `?`, basic type".
-use mathlib.Core.Path.{_≡_}
 use mathlib.Core.List.{List, [], _∷_, _++_}
-use mathlib.Core.Bool.{Bool, true, false}
-use Prim.Native.Nat.{ℕ, suc, _+_, _-_, _*_, _/_, _%_, _≤_}
-use lib.ListN.{length, getD, take, drop}
-use lib.Dec.{leb, ltb}
+use mathlib.Core.Bool.{Bool}
+use Prim.Native.Nat.{ℕ, suc, _+_, _*_, _/_, _%_}
+use lib.ListN.{length, getD, drop}
+use lib.Dec.{leb}
 use Rattle.forest.specs.Forest.{nodes}
+use Rattle.refusal.specs.declared.Refusal.the-variants.{BufferSize}
+use Rattle.refusal.specs.Refusal.{numberOf}
 use Rattle.scalar.specs.Value.{pick}
 use Rattle.syntax.specs.Syntax.{Types, Optional, none, some}
-use Rattle.tree_edit.specs.Wrote.{Wrote}
 use Rattle.typing.specs.Result.{Checked, refused, passed}
 use Rattle.typing.specs.NetworkRules.{Environments}
-use Rattle.environments.specs.declared.Environment.{Environment}
 use Rattle.environments.specs.declared.Entry.{Entry}
-use Rattle.environments.specs.Environment.{StandsFor}
 use Rattle.environments.specs.Listing.{preorder}
-use Rattle.checker.specs.declared.Pair.{Pair}
-use Rattle.checker.specs.declared.Answer.{Answer}
-use Rattle.checker.specs.Answer.{pairOf, pairAt, ShapedPair, ShapedAll}
 
 -- 0 for S, 1 for C.
 abbrev pub starterRole : ℕ
@@ -66,15 +61,21 @@ unfoldable pub environmentsNodes : List Environments → ℕ
 environmentsNodes [] = 0
 environmentsNodes (E ∷ Es) = ifThereNodes (E .starter) + ifThereNodes (E .client) + environmentsNodes Es
 
--- The environments of what was checked: a refused file has none.
-abbrev pub environmentsOf : Checked (List Environments) → List Environments
-environmentsOf (refused why) = []
-environmentsOf (passed Es) = Es
+-- A lent buffer has room for every record.
+abbrev pub hasRoom : List Environments → List ℕ → Bool
+hasRoom Es out = leb (18 * environmentsNodes Es) (length out)
 
--- A lent buffer that has room for every record is given them, and keeps its other bytes; one that has not is left as it was.
-abbrev pub listedCount : List Environments → List ℕ → ℕ
-listedCount Es out = pick (leb (18 * environmentsNodes Es) (length out)) (environmentsNodes Es) 0
+-- What is told of a checked file and a lent buffer: the number of the refusal; that of too small a buffer where there is no room; 0.
+abbrev pub listedNumber : Checked (List Environments) → List ℕ → ℕ
+listedNumber (refused why) out = numberOf why
+listedNumber (passed Es) out = pick (hasRoom Es out) 0 (numberOf BufferSize)
 
-abbrev pub listedBytes : List Environments → List ℕ → List ℕ
-listedBytes Es out =
-    pick (leb (18 * environmentsNodes Es) (length out)) (environmentsBytes 0 Es ++ drop (18 * environmentsNodes Es) out) out
+-- How many nodes there are, also where there is no room for them; a refused file has none.
+abbrev pub listedCount : Checked (List Environments) → ℕ
+listedCount (refused why) = 0
+listedCount (passed Es) = environmentsNodes Es
+
+-- What the buffer holds then: with room the records, and its other bytes as they were; otherwise all as they were.
+abbrev pub listedBytes : Checked (List Environments) → List ℕ → List ℕ
+listedBytes (refused why) out = out
+listedBytes (passed Es) out = pick (hasRoom Es out) (environmentsBytes 0 Es ++ drop (18 * environmentsNodes Es) out) out

@@ -6,12 +6,13 @@ ghost use lib.ListN.{length};
 ghost use Rattle.scalar.specs.Value.{pick};
 ghost use Rattle.checking.specs.FileChecker.{checkFile};
 ghost use Rattle.tree_edit.specs.Wrote.{Wrote};
-ghost use Rattle.listing.specs.Listed.{idBytes, nodeBytes, environmentsOf, listedCount, listedBytes};
+ghost use Rattle.listing.specs.Listed.{idBytes, nodeBytes, listedNumber, listedCount, listedBytes};
 ghost use Rattle.listing.specs.Writing.{nodesBy, pairNodesBy, answerNodesBy, NodesWritten, EnvironmentWritten, PairWritten};
 use checker::Answer;
 use checker::Pair;
 use environments::Entry;
 use environments::Environment;
+use refusal::Verdict;
 
 // 1 for true, 0 for false.
 fn flag(b: bool) -> u8
@@ -117,16 +118,32 @@ fn answer_count(x: Answer) -> usize
     pair_count(a) + (pair_count(b) + (pair_count(c) + pair_count(d)))
 }
 
-// Writes a record for each node of the file's environments, if the file is accepted and the buffer has room for all of them; gives how
-// many.
-pub fn list(file: &[u8], out: &mut [u8]) -> usize
-    ensures { λ n. ⌜ n ≡ listedCount (environmentsOf (checkFile (now (file .entry)))) (now (out .entry)) ⌝ }
-    ensures { λ _. ⌜ now (out .exit) ≡ listedBytes (environmentsOf (checkFile (now (file .entry)))) (now (out .entry)) ⌝ }
+// What is told of a file: 0, the number of its refusal, or 1 for too small a buffer; and how many nodes its environments have.
+pub struct Listing {
+    pub number: u8,
+    pub count: usize,
+}
+
+// Writes a record for each node of the file's environments, if the file is accepted and the buffer has room for all of them.
+pub fn list(file: &[u8], out: &mut [u8]) -> Listing
+    ensures { λ r. ⌜ r .number ≡ listedNumber (checkFile (now (file .entry))) (now (out .entry)) ⌝ }
+    ensures { λ r. ⌜ r .count ≡ listedCount (checkFile (now (file .entry))) ⌝ }
+    ensures { λ _. ⌜ now (out .exit) ≡ listedBytes (checkFile (now (file .entry))) (now (out .entry)) ⌝ }
 {
     let x = checker::check(file);
+    let v = x.verdict;
+    if let Verdict::Refused(why) = v {
+        return Listing {
+            number: refusal::number_of(why),
+            count: 0,
+        };
+    }
     let n = answer_count(x);
     if out.len() < 18 * n {
-        return 0;
+        return Listing {
+            number: 1,
+            count: n,
+        };
     }
     let p = x.first;
     let a = put_pair(out, 0, 0, p);
@@ -136,5 +153,8 @@ pub fn list(file: &[u8], out: &mut [u8]) -> usize
     let c = put_pair(out, b, 2, r);
     let s = x.fourth;
     put_pair(out, c, 3, s);
-    n
+    Listing {
+        number: 0,
+        count: n,
+    }
 }

@@ -15,23 +15,35 @@ pub const RECORD: usize = 18;
 /// Room for four services with two environments of 48 nodes each.
 pub const ROOM: usize = 4 * 2 * 48 * RECORD;
 
+/// What is answered to a buffer without room for all nodes.
+pub const NO_ROOM: u32 = 1;
+
 /// The functions of the interface, and the stacks on which they run.
 pub struct Interface {
     pub name: &'static str,
     pub check: unsafe extern "C" fn(*const u8, usize, *mut usize) -> u32,
-    pub environments: unsafe extern "C" fn(*const u8, usize, *mut u8, usize) -> usize,
+    pub environments: unsafe extern "C" fn(*const u8, usize, *mut u8, usize, *mut usize) -> u32,
     pub part: unsafe extern "C" fn(*const u8, usize, u16, u16, u16, u16, *mut usize) -> usize,
     pub moves: Moves,
     pub stacks: Stacks,
 }
 
 impl Interface {
-    /// How many nodes were written to the lent buffer.
-    pub fn list(&self, file: &[u8], nodes: &mut [u8]) -> usize {
-        // SAFETY: the file is readable for its length, the buffer is writable for its.
-        run(&self.stacks.check, file, || unsafe {
-            (self.environments)(file.as_ptr(), file.len(), nodes.as_mut_ptr(), nodes.len())
-        })
+    /// Number and count, with the nodes in the lent buffer.
+    pub fn list(&self, file: &[u8], nodes: &mut [u8]) -> (u32, usize) {
+        let mut count = usize::MAX;
+        // SAFETY: the file is readable for its length, the buffer is writable for its, and so is the count.
+        let number = run(&self.stacks.check, file, || unsafe {
+            (self.environments)(file.as_ptr(), file.len(), nodes.as_mut_ptr(), nodes.len(), &mut count)
+        });
+        (number, count)
+    }
+
+    /// Panics if the answer is another one to a buffer of so many bytes, or if that buffer is changed.
+    fn list_short(&self, file: &[u8], size: usize, expected: (u32, usize)) {
+        let mut short = vec![UNTOUCHED; size];
+        assert_eq!(self.list(file, &mut short), expected, "number and count with a buffer of {size} bytes");
+        assert!(short.iter().all(|byte| *byte == UNTOUCHED), "a buffer of {size} bytes was changed");
     }
 }
 
@@ -47,20 +59,19 @@ impl Side for Interface {
         (number, place)
     }
 
-    /// Panics if a lent buffer is changed where it is to be left as it was.
+    /// Panics if the nodes come with another number than the verdict's, or a lent buffer is changed that is to stay.
     fn check(&self, file: &[u8]) -> Answer {
         let (number, place) = self.verdict(file);
         let mut room = [UNTOUCHED; ROOM];
-        let count = self.list(file, &mut room);
+        let (listed, count) = self.list(file, &mut room);
+        assert_eq!(listed, number, "the number with the nodes is another than the checker's");
         assert!(count * RECORD <= ROOM, "{count} nodes are more than there can be");
         let (written, rest) = room.split_at(count * RECORD);
         assert!(rest.iter().all(|byte| *byte == UNTOUCHED), "bytes past the {count} nodes were changed");
         let nodes = written.chunks(RECORD).map(node).collect();
-        if count > 0 {
-            let mut short = vec![UNTOUCHED; count * RECORD - 1];
-            assert_eq!(self.list(file, &mut short), 0, "{} bytes hold {count} nodes", short.len());
-            assert!(short.iter().all(|byte| *byte == UNTOUCHED), "a buffer that is too small was changed");
-        }
+        let without_room = if count > 0 { NO_ROOM } else { number };
+        self.list_short(file, 0, (without_room, count));
+        self.list_short(file, (count * RECORD).saturating_sub(1), (without_room, count));
         Answer { number, place, nodes }
     }
 

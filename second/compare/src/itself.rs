@@ -4,7 +4,7 @@ use std::slice;
 
 use stepper::Move;
 
-use crate::interface::{record, Interface, RECORD};
+use crate::interface::{record, Interface, NO_ROOM, RECORD};
 use crate::moves::Moves;
 use crate::stack::Stacks;
 use crate::{Second, Side};
@@ -15,16 +15,26 @@ unsafe extern "C" fn check(file: *const u8, length: usize, place: *mut usize) ->
     answer.number
 }
 
-unsafe extern "C" fn environments(file: *const u8, length: usize, nodes: *mut u8, room: usize) -> usize {
+unsafe extern "C" fn environments(
+    file: *const u8,
+    length: usize,
+    nodes: *mut u8,
+    room: usize,
+    count: *mut usize,
+) -> u32 {
     let answer = Second.check(unsafe { slice::from_raw_parts(file, length) });
+    unsafe { *count = answer.nodes.len() };
+    if answer.number != 0 {
+        return answer.number;
+    }
     if room < answer.nodes.len() * RECORD {
-        return 0;
+        return NO_ROOM;
     }
     let nodes = unsafe { slice::from_raw_parts_mut(nodes, room) };
     for (to, from) in nodes.chunks_mut(RECORD).zip(&answer.nodes) {
         to.copy_from_slice(&record(from));
     }
-    answer.nodes.len()
+    0
 }
 
 unsafe extern "C" fn part(

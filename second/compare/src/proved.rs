@@ -6,7 +6,7 @@ use crate::stack::Stacks;
 
 extern "C" {
     fn pokhveti_check(file: *const u8, length: usize, place: *mut usize) -> u32;
-    fn pokhveti_environments(file: *const u8, length: usize, nodes: *mut u8, room: usize) -> usize;
+    fn pokhveti_environments(file: *const u8, length: usize, nodes: *mut u8, room: usize, count: *mut usize) -> u32;
     fn pokhveti_part(
         message: *const u8,
         length: usize,

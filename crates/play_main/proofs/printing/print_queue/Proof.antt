@@ -3,14 +3,14 @@ use borrow.Author.Needs.{needs}
 use mathlib.Core.Path.{_≡_}
 use lib.ListN.{length}
 use Prim.Native.Nat.{ℕ, _+_, _-_, _*_, _≤_, _<_}
-use Rattle.play_main.proofs.print_queue.Statement.{statement}
-use Rattle.play_main.proofs.print_queue.Tie as tie
-use Rattle.play_main.proofs.print_queue.Reads as reads
-use Rattle.play_main.proofs.print_queue.Lts as lts
+use Rattle.play_main.proofs.printing.print_queue.Statement.{statement}
+use Rattle.play_main.proofs.printing.print_queue.Tie as tie
+use Rattle.play_main.proofs.printing.print_queue.Reads as reads
+use Rattle.play_main.proofs.printing.print_queue.Lts as lts
 use Rattle.console.proofs.bytes.Reads as bytes-reads
 use Rattle.console.proofs.number.Reads as number-reads
 use Rattle.console.proofs.write.Reads as write-reads
-use Rattle.play_main.proofs.print_label.Reads as print-label-reads
+use Rattle.play_main.proofs.printing.print_label.Reads as print-label-reads
 use Rattle.wire.proofs.index.Reads as index-reads
 use Rattle.wire.proofs.u16_at.Reads as u16-at-reads
 use Rattle.wire.proofs.wide.Reads as wide-reads

@@ -3,15 +3,15 @@ use borrow.Author.Needs.{needs}
 use mathlib.Core.Path.{_≡_}
 use lib.ListN.{length}
 use Prim.Native.Nat.{ℕ, _+_, _-_, _*_, _≤_, _<_}
-use Rattle.play_main.proofs.play_all.Statement.{statement}
-use Rattle.play_main.proofs.play_all.Tie as tie
-use Rattle.play_main.proofs.play_all.Reads as reads
-use Rattle.play_main.proofs.play_all.Lts as lts
+use Rattle.play_main.proofs.player.play_all.Statement.{statement}
+use Rattle.play_main.proofs.player.play_all.Tie as tie
+use Rattle.play_main.proofs.player.play_all.Reads as reads
+use Rattle.play_main.proofs.player.play_all.Lts as lts
 use Rattle.console.proofs.next.Reads as next-reads
 use Rattle.console.proofs.start.Reads as start-reads
 use Rattle.console.proofs.spent.Reads as spent-reads
 use Rattle.io.proofs.large_buffer.Reads as large-buffer-reads
-use Rattle.play_main.proofs.turn.Reads as turn-reads
+use Rattle.play_main.proofs.player.turn.Reads as turn-reads
 
 abbrev Inv-loop : tie.InvT-loop
 Inv-loop ok₀ file state₀ buf₀ out₀ input₀ turns₀ ok state buf out input turns = (length state ≡ 65536) × (length buf ≡ 65536) × (length out ≡ 512)

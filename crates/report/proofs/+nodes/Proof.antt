@@ -4,17 +4,17 @@ use borrow.Author.Needs.{needs}
 use Prim.Native.Nat.{ℕ, _<_}
 use borrow.Fn.Kinds.{In}
 use borrow.Fn.PlainCycle.{Measures, is, falls, and}
-use Rattle.check_main.proofs.nodes.Reads as nodes
-use Rattle.check_main.proofs.nodes.Kinds as nodes-kinds
-use Rattle.check_main.proofs.+nodes.Lts-nodes as nodes-lts
-use Rattle.check_main.proofs.mark.Reads as mark-reads
-use Rattle.check_main.proofs.print_path.Reads as print-path-reads
-use Rattle.check_main.proofs.word.Reads as word-reads
+use Rattle.report.proofs.nodes.Reads as nodes
+use Rattle.report.proofs.nodes.Kinds as nodes-kinds
+use Rattle.report.proofs.+nodes.Lts-nodes as nodes-lts
+use Rattle.report.proofs.mark.Reads as mark-reads
+use Rattle.report.proofs.print_path.Reads as print-path-reads
+use Rattle.report.proofs.word.Reads as word-reads
 use Rattle.console.proofs.number.Reads as number-reads
 use Rattle.console.proofs.write.Reads as write-reads
 use Rattle.types.proofs.type_head.Reads as type-head-reads
-use Rattle.check_main.proofs.+nodes.{statement}
-use Rattle.check_main.proofs.+nodes.Tie.{close}
+use Rattle.report.proofs.+nodes.{statement}
+use Rattle.report.proofs.+nodes.Tie.{close}
 
 abbrev μ-nodes : Measures 3 nodes-kinds.ps ℕ
 μ-nodes κs a = 256 * (8 - a .1 .1 .1 .1 .1 .0) + a .1 .1 .1 .1 .1 .1 .1 .0

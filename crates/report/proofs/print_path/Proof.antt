@@ -3,10 +3,10 @@ use borrow.Author.Needs.{needs}
 use mathlib.Core.Path.{_≡_}
 use lib.ListN.{length}
 use Prim.Native.Nat.{ℕ, _+_, _-_, _*_, _≤_, _<_}
-use Rattle.check_main.proofs.print_path.Statement.{statement}
-use Rattle.check_main.proofs.print_path.Tie as tie
-use Rattle.check_main.proofs.print_path.Reads as reads
-use Rattle.check_main.proofs.print_path.Lts as lts
+use Rattle.report.proofs.print_path.Statement.{statement}
+use Rattle.report.proofs.print_path.Tie as tie
+use Rattle.report.proofs.print_path.Reads as reads
+use Rattle.report.proofs.print_path.Lts as lts
 use Rattle.console.proofs.number.Reads as number-reads
 use Rattle.console.proofs.write.Reads as write-reads
 use Rattle.wire.proofs.index.Reads as index-reads

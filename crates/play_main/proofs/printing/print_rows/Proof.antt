@@ -3,13 +3,13 @@ use borrow.Author.Needs.{needs}
 use mathlib.Core.Path.{_≡_}
 use lib.ListN.{length}
 use Prim.Native.Nat.{ℕ, _+_, _-_, _*_, _≤_, _<_}
-use Rattle.play_main.proofs.print_rows.Statement.{statement}
-use Rattle.play_main.proofs.print_rows.Tie as tie
-use Rattle.play_main.proofs.print_rows.Reads as reads
-use Rattle.play_main.proofs.print_rows.Lts as lts
+use Rattle.play_main.proofs.printing.print_rows.Statement.{statement}
+use Rattle.play_main.proofs.printing.print_rows.Tie as tie
+use Rattle.play_main.proofs.printing.print_rows.Reads as reads
+use Rattle.play_main.proofs.printing.print_rows.Lts as lts
 use Rattle.console.proofs.number.Reads as number-reads
-use Rattle.play_main.proofs.print_label.Reads as print-label-reads
-use Rattle.play_main.proofs.print_progress.Reads as print-progress-reads
+use Rattle.play_main.proofs.printing.print_label.Reads as print-label-reads
+use Rattle.play_main.proofs.printing.print_progress.Reads as print-progress-reads
 
 abbrev Inv-loop : tie.InvT-loop
 Inv-loop ok₀ state q n rows r₀ t9 ok r = r ≤ 256

@@ -3,11 +3,11 @@ use borrow.Author.Needs.{needs}
 use mathlib.Core.Path.{_≡_}
 use lib.ListN.{length}
 use Prim.Native.Nat.{ℕ, _+_, _-_, _*_, _≤_, _<_}
-use Rattle.play_main.proofs.print_state.Statement.{statement}
-use Rattle.play_main.proofs.print_state.Tie as tie
-use Rattle.play_main.proofs.print_state.Reads as reads
-use Rattle.play_main.proofs.print_state.Lts as lts
-use Rattle.play_main.proofs.print_slot.Reads as print-slot-reads
+use Rattle.play_main.proofs.printing.print_state.Statement.{statement}
+use Rattle.play_main.proofs.printing.print_state.Tie as tie
+use Rattle.play_main.proofs.printing.print_state.Reads as reads
+use Rattle.play_main.proofs.printing.print_state.Lts as lts
+use Rattle.play_main.proofs.printing.print_slot.Reads as print-slot-reads
 
 abbrev Inv-loop : tie.InvT-loop
 Inv-loop ok₀ state slot₀ ok slot = slot ≤ 16

@@ -3,13 +3,13 @@ use borrow.Author.Needs.{needs}
 use mathlib.Core.Path.{_≡_}
 use lib.ListN.{length}
 use Prim.Native.Nat.{ℕ, _+_, _-_, _*_, _≤_, _<_}
-use Rattle.play_main.proofs.read_numbers.Statement.{statement}
-use Rattle.play_main.proofs.read_numbers.Tie as tie
-use Rattle.play_main.proofs.read_numbers.Reads as reads
-use Rattle.play_main.proofs.read_numbers.Lts as lts
+use Rattle.play_main.proofs.script.read_numbers.Statement.{statement}
+use Rattle.play_main.proofs.script.read_numbers.Tie as tie
+use Rattle.play_main.proofs.script.read_numbers.Reads as reads
+use Rattle.play_main.proofs.script.read_numbers.Lts as lts
 use Rattle.lines.proofs.read_number.Reads as read-number-reads
-use Rattle.play_main.proofs.count.Reads as count-reads
-use Rattle.play_main.proofs.most.Reads as most-reads
+use Rattle.play_main.proofs.script.count.Reads as count-reads
+use Rattle.play_main.proofs.script.most.Reads as most-reads
 
 abbrev Inv-loop : tie.InvT-loop
 Inv-loop s kind n values₀ judged₀ at₀ i₀ values judged at i = at ≤ length s

@@ -1,0 +1,120 @@
+// What is printed: the result of a move, and a state.
+ghost use Prim.Native.Nat.{_+_, _≤_, _<_};
+ghost use mathlib.Core.Path.{_≡_};
+ghost use lib.ListN.{length};
+use console::bytes;
+use console::number;
+use console::write;
+use refusal::Outcome;
+
+// The first n bytes, if there are so many.
+fn print_first(ok: &mut bool, p: &[u8], n: usize) {
+    if n <= p.len() {
+        bytes(ok, &p[0..n]);
+    }
+}
+
+// A result: the number and, if bytes were written out, how many and which.
+pub(crate) fn print_outcome(ok: &mut bool, o: Outcome, out: &[u8]) {
+    write(ok, b": ");
+    number(ok, refusal::number(o) as u64);
+    let n = o.bytes;
+    if 0 < n {
+        write(ok, b" ");
+        number(ok, n as u64);
+        write(ok, b" ");
+        print_first(ok, out, n);
+    }
+    write(ok, b"\n");
+}
+
+fn print_label(ok: &mut bool, q: u64, n: u64, what: &[u8]) {
+    number(ok, q);
+    write(ok, b" ");
+    number(ok, n);
+    write(ok, what);
+}
+
+// The four entries of the queue at `queue`: operation's row and message.
+fn print_queue(ok: &mut bool, state: &[u8], q: u64, n: u64, queue: usize)
+    requires { ⌜ queue + 1376 ≤ length (now state) ⌝ }
+{
+    let mut i: usize = 0;
+    while i < 4 {
+        let at = queue + 344 * i;
+        let operation = wire::wide(state[at]);
+        let len = wire::index(wire::u16_at(state, at + 2));
+        if 0 < operation {
+            print_label(ok, q, n, b" queued ");
+            number(ok, (operation - 1) as u64);
+            write(ok, b" ");
+            if len <= 336 {
+                bytes(ok, &state[at + 8..at + 8 + len]);
+            }
+            write(ok, b"\n");
+        }
+        i += 1;
+    }
+}
+
+// What a row's progress is called.
+fn print_progress(ok: &mut bool, progress: u8, part: u8) {
+    match progress {
+        1 => write(ok, b" done\n"),
+        2 => write(ok, b" waits\n"),
+        3 => {
+            write(ok, b" part ");
+            number(ok, part as u64);
+            write(ok, b"\n");
+        },
+        4 => write(ok, b" received from outside\n"),
+        _ => write(ok, b" received\n"),
+    }
+}
+
+// The rows that are marked, of the 256 at `rows`.
+fn print_rows(ok: &mut bool, state: &[u8], q: u64, n: u64, rows: usize)
+    requires { ⌜ rows + 1536 ≤ length (now state) ⌝ }
+{
+    let mut r: usize = 0;
+    while r < 256 {
+        let at = rows + 6 * r;
+        let progress = state[at];
+        if 0 < progress {
+            print_label(ok, q, n, b" row ");
+            number(ok, r as u64);
+            print_progress(ok, progress, state[at + 1]);
+        }
+        r += 1;
+    }
+}
+
+// The session whose slot this is, if it is live: its tree, its queue, its rows (docs/STATE.md).
+fn print_slot(ok: &mut bool, state: &[u8], slot: usize)
+    requires { ⌜ (slot < 16) × (length (now state) ≡ 65536) ⌝ }
+{
+    let at = 4096 * slot;
+    if state[at] == 0 {
+        return;
+    }
+    let q = (slot / 4) as u64;
+    let n = (slot % 4) as u64;
+    let len = wire::index(wire::u16_at(state, at + 2));
+    print_label(ok, q, n, b" tree ");
+    if len <= 1024 {
+        bytes(ok, &state[at + 16..at + 16 + len]);
+    }
+    write(ok, b"\n");
+    print_queue(ok, state, q, n, at + 1040);
+    print_rows(ok, state, q, n, at + 2416);
+}
+
+pub(crate) fn print_state(ok: &mut bool, state: &[u8])
+    requires { ⌜ length (now state) ≡ 65536 ⌝ }
+{
+    let mut slot: usize = 0;
+    while slot < 16 {
+        print_slot(ok, state, slot);
+        slot += 1;
+    }
+}
