@@ -1,20 +1,19 @@
 -- The records of a service and of a whole answer, at each of the ways out of the code.
-use mathlib.Core.Path.{_≡_, refl, sym, ap, subst, _∙_}
+use mathlib.Core.Path.{_≡_, refl, sym, ap, _∙_}
 use mathlib.Core.List.{List, [], _∷_, _++_, append-nil}
 use mathlib.Core.Bool.{Bool, true, false}
 use Prim.Native.Nat.{ℕ, zero, suc, _+_, _*_, _≤_, _<_}
 use native.Mathlib.Omega.{arith}
 use lib.ListN.{length, drop}
-use lib.Dec.{leb}
 use borrow.Author.Tests.{le-leb, lt-leb}
-use Rattle.forest.specs.Forest.{end, measure, nodes}
+use Rattle.forest.specs.Forest.{end, measure}
 use Rattle.refusal.specs.declared.Refusal.{Refusal}
 use Rattle.refusal.specs.Refusal.{numberOf}
 use Rattle.refusal.specs.declared.Verdict.{Verdict}
 use Rattle.refusal.specs.declared.Verdict.the-variants.{Done, Refused}
 use Rattle.scalar.specs.Value.{pick}
 use Rattle.syntax.specs.Syntax.{Types, Optional, none, some, Service}
-use Rattle.network.specs.Form.{formOf, WellFormed}
+use Rattle.network.specs.Form.{formOf}
 use Rattle.network.specs.Decode.{networkOf}
 use Rattle.network.specs.RowLaws.{counts-kept}
 use Rattle.network.specs.NetworkLaws.{service-length}

@@ -1,7 +1,6 @@
 // The environments of an accepted file as bytes, 18 for each node, for callers in other languages.
 ghost use mathlib.Core.Path.{_≡_};
-ghost use mathlib.Core.List.{[], _∷_};
-ghost use Prim.Native.Nat.{ℕ, _+_, _*_, _≤_, _<_};
+ghost use Prim.Native.Nat.{_+_, _*_, _≤_, _<_};
 ghost use lib.ListN.{length};
 ghost use Rattle.scalar.specs.Value.{pick};
 ghost use Rattle.checking.specs.FileChecker.{checkFile};
