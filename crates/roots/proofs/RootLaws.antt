@@ -34,7 +34,7 @@ use Rattle.row_parts.specs.PartLaws.{subs-of-row}
 use Rattle.roots.specs.Parts.{operandsIn, operandsOf, ownIn, ownOf}
 use Rattle.roots.specs.Sets.{inSet, rootAt, pathRoot, expressionRoots, behaviourRoots, branchRoots, operandRoots, ownRoots, subRoots}
 use Rattle.roots.specs.Sets.{rowFor, Represented, Represents, SetOf, SetsOf, WithPath, Joined, Stored, ExpressionSet, ExpressionSets, OwnKept, OwnSet, LaterRow}
-use Rattle.roots.specs.Sets.{LaterBranches, SubsKept, LaterSets, WithBranches, WithSubs, BehaviourSet, BehaviourSets, NoParallel, Apart, Separates, Fills}
+use Rattle.roots.specs.Sets.{LaterBranches, SubsKept, LaterSets, WithBranches, WithSubs, BehaviourSet, BehaviourSets, AnyParallel, Apart, Separates, Fills}
 use Rattle.roots.proofs.SetLaws.{set-of, set-none, join-set, store-row}
 
 -- ---- parts of a row
@@ -496,11 +496,15 @@ searched-more s n r at v h l e f g = record { within = omega arith; none = λ j 
     by j a b k p (gt q) = omega arith
     by j a b k p (eq q) = g (f ∙ (ap (byteAt s) (e ∙ ap (behaviourAt s) (sym q)) ∙ row-byte s j p))
 
-pub searched-all : (s : List ℕ) (n r : ℕ) → Searched s n r → n ≤ r → n ≡ behaviourCount s → NoParallel s false
-searched-all s n r h l e = record { none = λ f j a b k. h .none j a b (omega arith) }
+pub searched-all : (s : List ℕ) (n r : ℕ) → Searched s n r → n ≤ r → n ≡ behaviourCount s → AnyParallel s false
+searched-all s n r h l e = record { one = λ f. absurd (clash f refl); none = λ f j a b k. h .none j a b (omega arith) }
 
-pub found-one : (s : List ℕ) → NoParallel s true
-found-one s = record { none = λ f. absurd (clash refl f) }
+pub found-one : (s : List ℕ) (n r at v : ℕ) → r < n → n ≡ behaviourCount s → at ≡ behaviourAt s r → v ≡ byteAt s at → v ≡ 8 → AnyParallel s true
+unfolding kindAt behaviourKind
+found-one s n r at v l c e f g = record {
+  one = λ t. (r, omega arith, ap behaviourKind (ap (byteAt s) (sym e) ∙ (sym f ∙ g)));
+  none = λ t. absurd (clash refl t);
+}
 
 parallel-kept : (s : List ℕ) → WellFormed s → (r : ℕ) → r < behaviourCount s → {a b : ℕ} → behaviourRowOf s r ≡ BehaviourRow.Parallel a b
     → LaterRow s r a × LaterRow s r b

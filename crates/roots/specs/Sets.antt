@@ -7,9 +7,10 @@ use lib.ListN.{getD, length}
 use lib.Dec.{eqb}
 use lib.Bits.{bitOr}
 use Rattle.wire.specs.Wire.{u16At}
+use Rattle.network.specs.declared.BehaviourKind.{BehaviourKind}
 use Rattle.network.specs.Form.{WellFormed}
 use Rattle.network.specs.Layout.{pathCount, expressionCount, behaviourCount, pathAt, behaviourAt}
-use Rattle.network.specs.Rows.{fieldA, fieldB}
+use Rattle.network.specs.Rows.{fieldA, fieldB, kindAt}
 use Rattle.network.specs.Decode.{pathOf, expressionOf, branchesFrom, behaviourOf}
 use Rattle.typing.specs.Occurs.{isRoot, occursIn, occurs, noSharedRoot}
 use Rattle.rows.specs.declared.BehaviourRow.{BehaviourRow}
@@ -160,8 +161,9 @@ pub record BehaviourSets (file table known before sets : List ℕ) : Type 0 wher
 
 -- ---- parallels
 
--- Where x is false, no B row is a parallel.
-pub record NoParallel (file : List ℕ) (x : Bool) : Type 0 where
+-- x tells whether a B row is a parallel.
+pub record AnyParallel (file : List ℕ) (x : Bool) : Type 0 where
+  pub one : x ≡ true → (r : ℕ) × (r < behaviourCount file) × (kindAt file r ≡ BehaviourKind.Parallel)
   pub none : x ≡ false → (r a b : ℕ) → r < behaviourCount file → behaviourRowOf file r ≡ BehaviourRow.Parallel a b → ⊥
 
 -- x tells whether the sets of the rows a and b have no P row in common, in a list with room for all rows.

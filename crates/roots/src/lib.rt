@@ -4,7 +4,7 @@
 ghost use mathlib.Core.Path.{_≡_};
 ghost use Prim.Native.Nat.{_+_, _*_, _^_, _<_};
 ghost use Rattle.roots.specs.Parts.{operandsIn, operandsOf, ownIn, ownOf};
-ghost use Rattle.roots.specs.Sets.{Represents, WithPath, Joined, Stored, ExpressionSet, ExpressionSets, OwnSet, WithBranches, WithSubs, BehaviourSet, BehaviourSets, NoParallel, Apart, Fills};
+ghost use Rattle.roots.specs.Sets.{Represents, WithPath, Joined, Stored, ExpressionSet, ExpressionSets, OwnSet, WithBranches, WithSubs, BehaviourSet, BehaviourSets, AnyParallel, Apart, Fills};
 use row_parts::Subs;
 use rows::BehaviourRow;
 use rows::ExpressionRow;
@@ -233,7 +233,7 @@ fn behaviour_sets(s: &[u8], table: &[u8; 65536], known: &[u8; 8192], sets: &mut 
 
 // Is a B row a parallel?
 pub fn any_parallel(s: &[u8]) -> bool
-    ensures { λ x. ⌜ NoParallel (now (s .entry)) x ⌝ }
+    ensures { λ x. ⌜ AnyParallel (now (s .entry)) x ⌝ }
 {
     let n = layout::behaviour_count(s);
     let mut r: u16 = 0;

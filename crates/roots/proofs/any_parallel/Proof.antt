@@ -28,7 +28,7 @@ byte-at-requires : tie.Need-byte-at-requires Inv-loop μ-loop
 byte-at-requires c κs = search needs
 
 returns : tie.Need-returns Inv-loop μ-loop
-returns c = found-one _
+returns c = search (found-one) depth 12
 
 add-r : tie.Need-add-r Inv-loop μ-loop
 add-r c = search needs
