@@ -7,21 +7,21 @@ use native.Mathlib.Omega.{arith}
 use lib.Dec.{eqb}
 use borrow.Author.Tests.{eq-eqb, ne-eqb}
 use Rattle.forest.specs.Path.{Path}
-use Rattle.wire.specs.Wire.{u16At}
 use Rattle.refusal.specs.declared.Refusal.{Refusal}
-use Rattle.refusal.specs.declared.Refusal.the-variants.{WrongOperation, PathNotFirm, OperandType, TypeMisfit, EnvironmentsDiffer, SharedRoot}
+use Rattle.refusal.specs.declared.Refusal.the-variants.{WrongOperation, OperandType, TypeMisfit, EnvironmentsDiffer, SharedRoot}
 use Rattle.refusal.specs.declared.Verdict.{Verdict}
 use Rattle.refusal.specs.declared.Verdict.the-variants.{Done, Refused}
 use Rattle.scalar.specs.Basic.{bool, lastBasic}
 use Rattle.scalar.specs.Value.{pick}
-use Rattle.syntax.specs.Syntax.{Types, MessageType, Expression, input, output, Behaviour, nil, sequence, parallel, branch, lastBranch, choice}
+use Rattle.syntax.specs.Syntax.{Types, MessageType, Expression, input, output, Behaviour, nil, sequence, parallel, choice}
+use Rattle.expressions.specs.TypingsLaws.{refused-first}
 use Rattle.subtyping.specs.Subtype.{rootBasic, isSubtype}
-use Rattle.typing.specs.Result.{Result, fails, yields, require, andThen, Checked, refused, passed, atRow, next}
+use Rattle.typing.specs.Result.{Result, yields, require, andThen, Checked, refused, passed, atRow, next}
 use Rattle.typing.specs.Environment.{leaf, place, assignTo}
 use Rattle.typing.specs.ExpressionTyping as typed
 use Rattle.typing.specs.Occurs.{noSharedRoot}
 use Rattle.typing.specs.Rules.{permits}
-use Rattle.typing.specs.Checker.{sameTypes, limited, sends, answers, condition, agreeing, check}
+use Rattle.typing.specs.Checker.{sameTypes, limited, sends, answers, condition, agreeing, check, checkBranches}
 use Rattle.typing.specs.Branches.{concludeChoice}
 use Rattle.typing.specs.BranchesLaws.{first-branch, next-branch, last-branch}
 use Rattle.network.specs.Form.{WellFormed}
@@ -32,7 +32,8 @@ use Rattle.network.specs.Decode.{pathOf, typeOf, expressionOf, operationOf, bra
 use Rattle.network.specs.TestLaws.{not-true, not-false, one-less}
 use Rattle.network.specs.DecodeLaws.{reply-row}
 use Rattle.rows.specs.declared.BehaviourRow.{BehaviourRow}
-use Rattle.rows.specs.Readers.{behaviourRowOf}
+use Rattle.rows.specs.declared.BranchRow.{BranchRow}
+use Rattle.rows.specs.Readers.{behaviourRowOf, BranchAt}
 use Rattle.types.specs.Tells.{BasicUnder}
 use Rattle.environments.specs.declared.Environment.{Environment}
 use Rattle.environments.specs.declared.Step.{Step}
@@ -46,7 +47,7 @@ use Rattle.roots.specs.Sets.{Apart, Separates}
 use Rattle.operations.specs.Directions.{directionOf}
 use Rattle.operations.specs.PermitsLaws.{two-way}
 use Rattle.row_parts.specs.Behaviours.{behaviourBy, Sub, BranchSubs, KeptBy}
-use Rattle.behaviours.specs.Checks.{SendsType, Sends, Receives, conditionOf, Conditions, Agrees, LeafChecks, RowChecks, ParallelChecks, Checks, Sequences, Settles, goOn, Branches}
+use Rattle.behaviours.specs.Checks.{SendsType, Sends, Receives, conditionOf, Conditions, Agrees, LeafChecks, RowChecks, ParallelChecks, Checks, Sequences, Settles, goOn, ChecksBranches}
 use Rattle.row_parts.specs.KindLaws.{row-is}
 
 -- ---- steps one after another
@@ -81,11 +82,8 @@ request-row s w o l = (refl, operation-kept s w o l .request .exists)
 
 -- ---- an expression sent
 
-found-fails : {A B : Type 0} {found : Result A} {why : ℕ → Refusal} (f : A → Result B) → found ≡ fails why → andThen found f ≡ fails why
-found-fails f e = ap (λ (r : Result _). andThen r f) e
-
-module _ (file : List ℕ) (r x t : ℕ) (e : Environment) {ty : Typing} (h : Typed file e x ty) where
-  sent : {s : Step} → ((Γ : Types) → StandsFor e Γ → WellFormed file → t < typeCount file → TypedAs e ty (typed.typeOf Γ (expressionOf file x))
+module _ (file : List ℕ) (r x t : ℕ) (e : Environment) {ty : Typing} (h : Typed file e x r ty) where
+  sent : {s : Step} → ((Γ : Types) → StandsFor e Γ → WellFormed file → t < typeCount file → TypedAs e r ty (typed.typeOf Γ (expressionOf file x))
       → Answers s (atRow r (sends Γ (expressionOf file x) (typeOf file t)))) → SendsType file r x t e s
   sent k = record { tells = λ Γ g w l m. k Γ g w m (h .tells Γ g w l) }
 
@@ -98,13 +96,13 @@ module _ (file : List ℕ) (r x t : ℕ) (e : Environment) {ty : Typing} (h : Ty
   pub sent-at : {at b : ℕ} {u : Bool} {s : Step} → ty ≡ Typing.At at b → TypeUnder file e at t u → u ≡ true
       → s ≡ record { environment = e; verdict = Done } → SendsType file r x t e s
   sent-at {at} {b} {u} {s} p k q z = sent (λ Γ g w m a.
-      answers-as (sym (ap (atRow r) (at-sends Γ k w m (subst (λ (y : Typing). TypedAs e y (typed.typeOf Γ (expressionOf file x))) p a)
+      answers-as (sym (ap (atRow r) (at-sends Γ k w m (subst (λ (y : Typing). TypedAs e r y (typed.typeOf Γ (expressionOf file x))) p a)
       ∙ ap (λ (y : Bool). require y TypeMisfit (yields Γ)) q))) (passes z g))
 
   pub sent-at-not : {at b : ℕ} {u : Bool} {s : Step} → ty ≡ Typing.At at b → TypeUnder file e at t u → u ≡ false
       → s ≡ stepOf (refused (TypeMisfit r)) → SendsType file r x t e s
   sent-at-not {at} {b} {u} {s} p k q z = sent (λ Γ g w m a.
-      answers-as (sym (ap (atRow r) (at-sends Γ k w m (subst (λ (y : Typing). TypedAs e y (typed.typeOf Γ (expressionOf file x))) p a)
+      answers-as (sym (ap (atRow r) (at-sends Γ k w m (subst (λ (y : Typing). TypedAs e r y (typed.typeOf Γ (expressionOf file x))) p a)
       ∙ ap (λ (y : Bool). require y TypeMisfit (yields Γ)) q))) (answers-refuse (TypeMisfit r) z))
 
   leaf-sends : (Γ : Types) {b : ℕ} {u : Bool} → BasicUnder file b t u → WellFormed file → t < typeCount file
@@ -116,22 +114,18 @@ module _ (file : List ℕ) (r x t : ℕ) (e : Environment) {ty : Typing} (h : Ty
   pub sent-leaf : {b : ℕ} {u : Bool} {s : Step} → ty ≡ Typing.Leaf b → BasicUnder file b t u → u ≡ true
       → s ≡ record { environment = e; verdict = Done } → SendsType file r x t e s
   sent-leaf {b} {u} {s} p k q z = sent (λ Γ g w m a.
-      answers-as (sym (ap (atRow r) (leaf-sends Γ k w m (subst (λ (y : Typing). TypedAs e y (typed.typeOf Γ (expressionOf file x))) p a)
+      answers-as (sym (ap (atRow r) (leaf-sends Γ k w m (subst (λ (y : Typing). TypedAs e r y (typed.typeOf Γ (expressionOf file x))) p a)
       ∙ ap (λ (y : Bool). require y TypeMisfit (yields Γ)) q))) (passes z g))
 
   pub sent-leaf-not : {b : ℕ} {u : Bool} {s : Step} → ty ≡ Typing.Leaf b → BasicUnder file b t u → u ≡ false
       → s ≡ stepOf (refused (TypeMisfit r)) → SendsType file r x t e s
   sent-leaf-not {b} {u} {s} p k q z = sent (λ Γ g w m a.
-      answers-as (sym (ap (atRow r) (leaf-sends Γ k w m (subst (λ (y : Typing). TypedAs e y (typed.typeOf Γ (expressionOf file x))) p a)
+      answers-as (sym (ap (atRow r) (leaf-sends Γ k w m (subst (λ (y : Typing). TypedAs e r y (typed.typeOf Γ (expressionOf file x))) p a)
       ∙ ap (λ (y : Bool). require y TypeMisfit (yields Γ)) q))) (answers-refuse (TypeMisfit r) z))
 
-  pub sent-missing : {s : Step} → ty ≡ Typing.PathNotFirm → s ≡ stepOf (refused (PathNotFirm r)) → SendsType file r x t e s
-  sent-missing p z = sent (λ Γ g w m a. answers-as (sym (ap (atRow r) (found-fails (λ n. require (isSubtype n (typeOf file t)) TypeMisfit (yields Γ))
-      (subst (λ (y : Typing). TypedAs e y (typed.typeOf Γ (expressionOf file x))) p a)))) (answers-refuse (PathNotFirm r) z))
-
-  pub sent-wrong : {s : Step} → ty ≡ Typing.OperandType → s ≡ stepOf (refused (OperandType r)) → SendsType file r x t e s
-  sent-wrong p z = sent (λ Γ g w m a. answers-as (sym (ap (atRow r) (found-fails (λ n. require (isSubtype n (typeOf file t)) TypeMisfit (yields Γ))
-      (subst (λ (y : Typing). TypedAs e y (typed.typeOf Γ (expressionOf file x))) p a)))) (answers-refuse (OperandType r) z))
+  pub sent-refused : {why : Refusal} {s : Step} → ty ≡ Typing.Refused why → s ≡ stepOf (refused why) → SendsType file r x t e s
+  sent-refused {why} p z = sent (λ Γ g w m a. answers-as (sym (refused-first r (typed.typeOf Γ (expressionOf file x)) (λ n. require (isSubtype n (typeOf file t)) TypeMisfit (yields Γ))
+      (subst (λ (y : Typing). TypedAs e r y (typed.typeOf Γ (expressionOf file x))) p a))) (answers-refuse why z))
 
   -- ---- a condition
 
@@ -149,79 +143,66 @@ module _ (file : List ℕ) (r x t : ℕ) (e : Environment) {ty : Typing} (h : Ty
   pub condition-at : {at b : ℕ} {s : Step} → ty ≡ Typing.At at b → s ≡ conditionOf r b e → Conditions file r x e s
   condition-at p z = record {
     tells = λ Γ g w l.
-        let a = subst (λ (y : Typing). TypedAs e y (typed.typeOf Γ (expressionOf file x))) p (h .tells Γ g w l) in
+        let a = subst (λ (y : Typing). TypedAs e r y (typed.typeOf Γ (expressionOf file x))) p (h .tells Γ g w l) in
         condition-basic Γ (a .there) g (a .is) (a .basic) z;
   }
 
   pub condition-leaf : {b : ℕ} {s : Step} → ty ≡ Typing.Leaf b → s ≡ conditionOf r b e → Conditions file r x e s
   condition-leaf {b} p z = record {
     tells = λ Γ g w l.
-        condition-basic Γ (leaf b) g (subst (λ (y : Typing). TypedAs e y (typed.typeOf Γ (expressionOf file x))) p (h .tells Γ g w l)) refl z;
+        condition-basic Γ (leaf b) g (subst (λ (y : Typing). TypedAs e r y (typed.typeOf Γ (expressionOf file x))) p (h .tells Γ g w l)) refl z;
   }
 
-  pub condition-missing : {s : Step} → ty ≡ Typing.PathNotFirm → s ≡ stepOf (refused (PathNotFirm r)) → Conditions file r x e s
-  condition-missing p z = record {
-    tells = λ Γ g w l. answers-as (sym (ap (atRow r) (found-fails (λ m. require (eqb (rootBasic m) bool) OperandType (yields Γ))
-        (subst (λ (y : Typing). TypedAs e y (typed.typeOf Γ (expressionOf file x))) p (h .tells Γ g w l))))) (answers-refuse (PathNotFirm r) z);
+  pub condition-refused : {why : Refusal} {s : Step} → ty ≡ Typing.Refused why → s ≡ stepOf (refused why) → Conditions file r x e s
+  condition-refused {why} p z = record {
+    tells = λ Γ g w l. answers-as (sym (refused-first r (typed.typeOf Γ (expressionOf file x)) (λ m. require (eqb (rootBasic m) bool) OperandType (yields Γ))
+        (subst (λ (y : Typing). TypedAs e r y (typed.typeOf Γ (expressionOf file x))) p (h .tells Γ g w l)))) (answers-refuse why z);
   }
 
-  pub condition-wrong : {s : Step} → ty ≡ Typing.OperandType → s ≡ stepOf (refused (OperandType r)) → Conditions file r x e s
-  condition-wrong p z = record {
-    tells = λ Γ g w l. answers-as (sym (ap (atRow r) (found-fails (λ m. require (eqb (rootBasic m) bool) OperandType (yields Γ))
-        (subst (λ (y : Typing). TypedAs e y (typed.typeOf Γ (expressionOf file x))) p (h .tells Γ g w l))))) (answers-refuse (OperandType r) z);
-  }
+pub ruleset send-type-laws = (sent-at, sent-at-not, sent-leaf, sent-leaf-not, sent-refused)
 
-pub ruleset send-type-laws = (sent-at, sent-at-not, sent-leaf, sent-leaf-not, sent-missing, sent-wrong)
+pub ruleset condition-laws = (condition-at, condition-leaf, condition-refused)
 
-pub ruleset condition-laws = (condition-at, condition-leaf, condition-missing, condition-wrong)
+pub bool-is : (r b : ℕ) (e : Environment) {s : Step} → b ≡ bool → s ≡ record { environment = e; verdict = Done } → s ≡ conditionOf r b e
+bool-is r b e p z = rw (eq-eqb b bool p) z
 
-pub bool-is : (r b : ℕ) (e : Environment) {s : Step} → b ≡ 0 → s ≡ record { environment = e; verdict = Done } → s ≡ conditionOf r b e
-bool-is r b e p z = rw (eq-eqb b 0 p) z
-
-pub bool-not : (r b : ℕ) (e : Environment) {s : Step} → (b ≡ 0 → ⊥) → s ≡ stepOf (refused (OperandType r)) → s ≡ conditionOf r b e
-bool-not r b e p z = rw (ne-eqb b 0 p) z
+pub bool-not : (r b : ℕ) (e : Environment) {s : Step} → (b ≡ bool → ⊥) → s ≡ stepOf (refused (OperandType r)) → s ≡ conditionOf r b e
+bool-not r b e p z = rw (ne-eqb b bool p) z
 
 pub ruleset bool-laws = (bool-is, bool-not)
 
 -- ---- assigning
 
-module _ (file : List ℕ) (q r p x : ℕ) (e : Environment) {ty : Typing} (h : Typed file e x ty) where
-  assigned-basic : (c : ℕ) (Γ : Types) (n : MessageType) {b : ℕ} {s : Step} → StandsFor e Γ → WellFormed file → p < pathCount file → x < expressionCount file
-      → typed.typeOf Γ (expressionOf file x) ≡ yields n → b ≡ rootBasic n → Assigns file e p b r s → Answers s (check q c (behaviourBy file r (BehaviourRow.Assign p x)) Γ)
+module _ (file : List ℕ) (q r p x : ℕ) (e : Environment) {ty : Typing} (h : Typed file e x r ty) where
+  assigned-basic : (Γ : Types) (n : MessageType) {b : ℕ} {s : Step} → StandsFor e Γ → WellFormed file → p < pathCount file → x < expressionCount file
+      → typed.typeOf Γ (expressionOf file x) ≡ yields n → b ≡ rootBasic n → Assigns file e p b r s → Answers s (check q (behaviourBy file r (BehaviourRow.Assign p x)) Γ)
   unfolding check
-  assigned-basic c Γ n {b} {s} g w l m a z k =
+  assigned-basic Γ n {b} {s} g w l m a z k =
       let y : b ≤ lastBasic = subst (λ (i : ℕ). i ≤ lastBasic) (sym z) (small-typing file w Γ (g .shape .ranged) x m n a) in
       answers-as (ap (λ (i : ℕ). atRow r (limited (assignTo (pathOf file p) i Γ))) z
       ∙ sym (ap (λ (f : Result MessageType). atRow r (andThen f (λ i. limited (assignTo (pathOf file p) (rootBasic i) Γ)))) a)) (k .tells Γ g w l y)
 
   pub assigned-at : {at b : ℕ} {s : Step} → ty ≡ Typing.At at b → Assigns file e p b r s → LeafChecks file q r (BehaviourRow.Assign p x) e s
   assigned-at z k = record {
-    tells = λ c left Γ g w l.
-        let a = subst (λ (y : Typing). TypedAs e y (typed.typeOf Γ (expressionOf file x))) z (h .tells Γ g w (l .1)) in
-        assigned-basic c Γ (a .there) g w (l .0) (l .1) (a .is) (a .basic) k;
+    tells = λ left Γ g w l.
+        let a = subst (λ (y : Typing). TypedAs e r y (typed.typeOf Γ (expressionOf file x))) z (h .tells Γ g w (l .1)) in
+        assigned-basic Γ (a .there) g w (l .0) (l .1) (a .is) (a .basic) k;
   }
 
   pub assigned-leaf : {b : ℕ} {s : Step} → ty ≡ Typing.Leaf b → Assigns file e p b r s → LeafChecks file q r (BehaviourRow.Assign p x) e s
   assigned-leaf {b} z k = record {
-    tells = λ c left Γ g w l.
-        assigned-basic c Γ (leaf b) g w (l .0) (l .1) (subst (λ (y : Typing). TypedAs e y (typed.typeOf Γ (expressionOf file x))) z (h .tells Γ g w (l .1))) refl k;
+    tells = λ left Γ g w l.
+        assigned-basic Γ (leaf b) g w (l .0) (l .1) (subst (λ (y : Typing). TypedAs e r y (typed.typeOf Γ (expressionOf file x))) z (h .tells Γ g w (l .1))) refl k;
   }
 
-  not-assigned : {s : Step} (why : ℕ → Refusal) → ((Γ : Types) → StandsFor e Γ → WellFormed file → x < expressionCount file → typed.typeOf Γ (expressionOf file x) ≡ fails why)
-      → s ≡ stepOf (refused (why r)) → LeafChecks file q r (BehaviourRow.Assign p x) e s
+  pub assigned-refused : {why : Refusal} {s : Step} → ty ≡ Typing.Refused why → s ≡ stepOf (refused why) → LeafChecks file q r (BehaviourRow.Assign p x) e s
   unfolding check
-  not-assigned why k z = record {
-    tells = λ c left Γ g w l.
-        answers-as (sym (ap (atRow r) (found-fails (λ i. limited (assignTo (pathOf file p) (rootBasic i) Γ)) (k Γ g w (l .1))))) (answers-refuse (why r) z);
+  assigned-refused {why} z k = record {
+    tells = λ left Γ g w l. answers-as (sym (refused-first r (typed.typeOf Γ (expressionOf file x)) (λ i. limited (assignTo (pathOf file p) (rootBasic i) Γ))
+        (subst (λ (y : Typing). TypedAs e r y (typed.typeOf Γ (expressionOf file x))) z (h .tells Γ g w (l .1))))) (answers-refuse why k);
   }
 
-  pub assigned-missing : {s : Step} → ty ≡ Typing.PathNotFirm → s ≡ stepOf (refused (PathNotFirm r)) → LeafChecks file q r (BehaviourRow.Assign p x) e s
-  assigned-missing z k = not-assigned PathNotFirm (λ Γ g w l. subst (λ (y : Typing). TypedAs e y (typed.typeOf Γ (expressionOf file x))) z (h .tells Γ g w l)) k
-
-  pub assigned-wrong : {s : Step} → ty ≡ Typing.OperandType → s ≡ stepOf (refused (OperandType r)) → LeafChecks file q r (BehaviourRow.Assign p x) e s
-  assigned-wrong z k = not-assigned OperandType (λ Γ g w l. subst (λ (y : Typing). TypedAs e y (typed.typeOf Γ (expressionOf file x))) z (h .tells Γ g w l)) k
-
-pub ruleset assign-laws = (assigned-at, assigned-leaf, assigned-missing, assigned-wrong)
+pub ruleset assign-laws = (assigned-at, assigned-leaf, assigned-refused)
 
 -- ---- sending and receiving
 
@@ -267,22 +248,22 @@ pub ruleset operation-laws = (sends-not, sends-then, receives-not, receives-then
 
 pub one-way-checks : (file : List ℕ) (q r o p : ℕ) (e : Environment) {s : Step} → Receives file q r o p false e s → LeafChecks file q r (BehaviourRow.OneWay o p) e s
 unfolding check
-one-way-checks file q r o p e k = record { tells = λ c left Γ g w l. k .tells Γ g w (l .0) (l .1) }
+one-way-checks file q r o p e k = record { tells = λ left Γ g w l. k .tells Γ g w (l .0) (l .1) }
 
 pub notification-checks : (file : List ℕ) (q r o x : ℕ) (e : Environment) {s : Step} → Sends file q r o x false e s → LeafChecks file q r (BehaviourRow.Notification o x) e s
 unfolding check
-notification-checks file q r o x e k = record { tells = λ c left Γ g w l. k .tells Γ g w (l .0) (l .1) }
+notification-checks file q r o x e k = record { tells = λ left Γ g w l. k .tells Γ g w (l .0) (l .1) }
 
 pub solicit-refused : (file : List ℕ) (q r o x p : ℕ) (e : Environment) {s : Step} {why : Refusal} → Sends file q r o x true e s → s .verdict ≡ Refused why
     → LeafChecks file q r (BehaviourRow.SolicitResponse o x p) e s
 unfolding check
-solicit-refused file q r o x p e k v = record { tells = λ c left Γ g w l. next-refused _ (k .tells Γ g w (l .0) (l .1)) v }
+solicit-refused file q r o x p e k v = record { tells = λ left Γ g w l. next-refused _ (k .tells Γ g w (l .0) (l .1)) v }
 
 pub solicit-done : (file : List ℕ) (q r o x p : ℕ) (e : Environment) {s t : Step} {u : ℕ} → Sends file q r o x true e s → s .verdict ≡ Done → u ≡ replyType file o
     → Places file e p u r t → LeafChecks file q r (BehaviourRow.SolicitResponse o x p) e t
 unfolding check
 solicit-done file q r o x p e {s} {t} {u} k v z m = record {
-  tells = λ c left Γ g w l.
+  tells = λ left Γ g w l.
       next-done _ (k .tells Γ g w (l .0) (l .1)) v (λ Δ d i.
       let y = reply-row file w o (l .0) (two-way q output (operationOf file o)
       (required r (permits q output true (operationOf file o)) WrongOperation (sends Γ (expressionOf file x) (operationOf file o .request)) Δ i)) in
@@ -315,47 +296,47 @@ pub ruleset settle-laws = (settles-same, settles-not)
 pub sequence-refused : (file : List ℕ) (q a b left : ℕ) (e : Environment) {s : Step} {why : Refusal} → Checks file q a left e s → s .verdict ≡ Refused why
     → Sequences file q a b left e s
 unfolding check
-sequence-refused file q a b left e k v = record { tells = λ c i Γ g w l m. next-refused _ (k .tells c Γ g w l) v }
+sequence-refused file q a b left e k v = record { tells = λ i Γ g w l m. next-refused _ (k .tells Γ g w l) v }
 
 pub sequence-done : (file : List ℕ) (q a b left : ℕ) (e : Environment) {s t : Step} → Checks file q a left e s → s .verdict ≡ Done
     → Checks file q b left (s .environment) t → Sequences file q a b left e t
 unfolding check
-sequence-done file q a b left e k v n = record { tells = λ c i Γ g w l m. next-done _ (k .tells c Γ g w l) v (λ Δ d y. n .tells c Δ d w m) }
+sequence-done file q a b left e k v n = record { tells = λ i Γ g w l m. next-done _ (k .tells Γ g w l) v (λ Δ d y. n .tells Δ d w m) }
 
 module _ (file sets : List ℕ) (q r a b left : ℕ) (e : Environment) {t : Bool} (h : Separates file sets) (k : Apart sets a b t) where
   told-apart : WellFormed file → r < behaviourCount file → behaviourRowOf file r ≡ BehaviourRow.Parallel a b → t ≡ noSharedRoot (behaviourOf file a) (behaviourOf file b)
   told-apart w l p = h .tells w r a b t l p k
 
-  after-test : (c : ℕ) (Γ : Types) {x : Bool} → x ≡ noSharedRoot (behaviourOf file a) (behaviourOf file b)
-      → next (atRow r (require x SharedRoot (yields Γ))) (λ Γ0. next (check q c (behaviourOf file a) Γ) (λ Γ1. check q c (behaviourOf file b) Γ1))
-      ≡ check q c (parallel r (behaviourOf file a) (behaviourOf file b)) Γ
+  after-test : (Γ : Types) {x : Bool} → x ≡ noSharedRoot (behaviourOf file a) (behaviourOf file b)
+      → next (atRow r (require x SharedRoot (yields Γ))) (λ Γ0. next (check q (behaviourOf file a) Γ) (λ Γ1. check q (behaviourOf file b) Γ1))
+      ≡ check q (parallel r (behaviourOf file a) (behaviourOf file b)) Γ
   unfolding check
-  after-test c Γ p =
-      ap (λ (y : Bool). next (atRow r (require y SharedRoot (yields Γ))) (λ Γ0. next (check q c (behaviourOf file a) Γ) (λ Γ1. check q c (behaviourOf file b) Γ1))) p
+  after-test Γ p =
+      ap (λ (y : Bool). next (atRow r (require y SharedRoot (yields Γ))) (λ Γ0. next (check q (behaviourOf file a) Γ) (λ Γ1. check q (behaviourOf file b) Γ1))) p
 
   pub parallel-not : {s : Step} → not t ≡ true → s ≡ stepOf (refused (SharedRoot r)) → ParallelChecks file q r a b left e s
   unfolding next
   parallel-not n z = record {
-    tells = λ c Γ g w l p m o. answers-as (after-test c Γ (sym (not-true t n) ∙ told-apart w l p)) (answers-refuse (SharedRoot r) z);
+    tells = λ Γ g w l p m o. answers-as (after-test Γ (sym (not-true t n) ∙ told-apart w l p)) (answers-refuse (SharedRoot r) z);
   }
 
   pub parallel-done : {s : Step} → not t ≡ false → Sequences file q a b left e s → ParallelChecks file q r a b left e s
   unfolding next check
   parallel-done n k = record {
-    tells = λ c Γ g w l p m o. answers-as (after-test c Γ (sym (not-false t n) ∙ told-apart w l p)) (k .tells c r Γ g w m o);
+    tells = λ Γ g w l p m o. answers-as (after-test Γ (sym (not-false t n) ∙ told-apart w l p)) (k .tells r Γ g w m o);
   }
 
 pub response-refused : (file : List ℕ) (q r o p i d left : ℕ) (e : Environment) {s : Step} {why : Refusal} → Receives file q r o p true e s → s .verdict ≡ Refused why
     → RowChecks file q r (BehaviourRow.RequestResponse o p i d) left e s
 unfolding check
-response-refused file q r o p i d left e k v = record { tells = λ c Γ g w l. next-refused _ (k .tells Γ g w (l .0) (l .1)) v }
+response-refused file q r o p i d left e k v = record { tells = λ Γ g w l. next-refused _ (k .tells Γ g w (l .0) (l .1)) v }
 
 pub response-body : (file : List ℕ) (q r o p i d left : ℕ) (e : Environment) {s t : Step} {why : Refusal} → Receives file q r o p true e s → s .verdict ≡ Done
     → Checks file q d left (s .environment) t → t .verdict ≡ Refused why → RowChecks file q r (BehaviourRow.RequestResponse o p i d) left e t
 unfolding check
 response-body file q r o p i d left e k v n u = record {
-  tells = λ c Γ g w l.
-      next-done _ (k .tells Γ g w (l .0) (l .1)) v (λ Δ y z. next-refused _ (n .tells c Δ y w (l .3)) u);
+  tells = λ Γ g w l.
+      next-done _ (k .tells Γ g w (l .0) (l .1)) v (λ Δ y z. next-refused _ (n .tells Δ y w (l .3)) u);
 }
 
 pub response-done : (file : List ℕ) (q r o p i d left : ℕ) (e : Environment) {s t f : Step} {u : ℕ} → Receives file q r o p true e s → s .verdict ≡ Done
@@ -363,8 +344,8 @@ pub response-done : (file : List ℕ) (q r o p i d left : ℕ) (e : Environment)
     → RowChecks file q r (BehaviourRow.RequestResponse o p i d) left e f
 unfolding check
 response-done file q r o p i d left e {s} {t} {f} {u} k v n x m a = record {
-  tells = λ c Γ g w l.
-      next-done _ (k .tells Γ g w (l .0) (l .1)) v (λ Δ y z. next-done _ (n .tells c Δ y w (l .3)) x (λ Θ b j.
+  tells = λ Γ g w l.
+      next-done _ (k .tells Γ g w (l .0) (l .1)) v (λ Δ y z. next-done _ (n .tells Δ y w (l .3)) x (λ Θ b j.
       let h = reply-row file w o (l .0) (two-way q input (operationOf file o)
       (required r (permits q input true (operationOf file o)) WrongOperation (limited (place (pathOf file p) (operationOf file o .request) Γ)) Δ z)) in
       answers-as (ap (λ (n : MessageType). atRow r (answers (pathOf file i) Θ n)) (sym (h .0)))
@@ -374,22 +355,22 @@ response-done file q r o p i d left e {s} {t} {f} {u} k v n x m a = record {
 pub if-refused : (file : List ℕ) (q r x a b left : ℕ) (e : Environment) {s : Step} {why : Refusal} → Conditions file r x e s → s .verdict ≡ Refused why
     → RowChecks file q r (BehaviourRow.If x a b) left e s
 unfolding check
-if-refused file q r x a b left e k v = record { tells = λ c Γ g w l. next-refused _ (k .tells Γ g w (l .0)) v }
+if-refused file q r x a b left e k v = record { tells = λ Γ g w l. next-refused _ (k .tells Γ g w (l .0)) v }
 
 pub if-then : (file : List ℕ) (q r x a b left : ℕ) (e : Environment) {s t : Step} {why : Refusal} → Conditions file r x e s → s .verdict ≡ Done
     → Checks file q a left e t → t .verdict ≡ Refused why → RowChecks file q r (BehaviourRow.If x a b) left e t
 unfolding check
 if-then file q r x a b left e k v n u = record {
-  tells = λ c Γ g w l.
-      next-done _ (k .tells Γ g w (l .0)) v (λ Δ y z. next-refused _ (n .tells c Γ g w (l .1)) u);
+  tells = λ Γ g w l.
+      next-done _ (k .tells Γ g w (l .0)) v (λ Δ y z. next-refused _ (n .tells Γ g w (l .1)) u);
 }
 
 pub if-else : (file : List ℕ) (q r x a b left : ℕ) (e : Environment) {s t f : Step} {why : Refusal} → Conditions file r x e s → s .verdict ≡ Done
     → Checks file q a left e t → t .verdict ≡ Done → Checks file q b left e f → f .verdict ≡ Refused why → RowChecks file q r (BehaviourRow.If x a b) left e f
 unfolding check
 if-else file q r x a b left e k v n u m o = record {
-  tells = λ c Γ g w l.
-      next-done _ (k .tells Γ g w (l .0)) v (λ Δ y z. next-done _ (n .tells c Γ g w (l .1)) u (λ Θ i j. next-refused _ (m .tells c Γ g w (l .2)) o));
+  tells = λ Γ g w l.
+      next-done _ (k .tells Γ g w (l .0)) v (λ Δ y z. next-done _ (n .tells Γ g w (l .1)) u (λ Θ i j. next-refused _ (m .tells Γ g w (l .2)) o));
 }
 
 pub if-done : (file : List ℕ) (q r x a b left : ℕ) (e : Environment) {s t f h : Step} → Conditions file r x e s → s .verdict ≡ Done
@@ -397,36 +378,36 @@ pub if-done : (file : List ℕ) (q r x a b left : ℕ) (e : Environment) {s t f 
     → RowChecks file q r (BehaviourRow.If x a b) left e h
 unfolding check
 if-done file q r x a b left e k v n u m o d = record {
-  tells = λ c Γ g w l.
-      next-done _ (k .tells Γ g w (l .0)) v (λ Δ y z. next-done _ (n .tells c Γ g w (l .1)) u (λ Θ i j.
-      next-done _ (m .tells c Γ g w (l .2)) o (λ Ψ p z. d .tells Ψ Θ p i)));
+  tells = λ Γ g w l.
+      next-done _ (k .tells Γ g w (l .0)) v (λ Δ y z. next-done _ (n .tells Γ g w (l .1)) u (λ Θ i j.
+      next-done _ (m .tells Γ g w (l .2)) o (λ Ψ p z. d .tells Ψ Θ p i)));
 }
 
 pub while-refused : (file : List ℕ) (q r x b left : ℕ) (e : Environment) {s : Step} {why : Refusal} → Conditions file r x e s → s .verdict ≡ Refused why
     → RowChecks file q r (BehaviourRow.While x b) left e s
 unfolding check
-while-refused file q r x b left e k v = record { tells = λ c Γ g w l. next-refused _ (k .tells Γ g w (l .0)) v }
+while-refused file q r x b left e k v = record { tells = λ Γ g w l. next-refused _ (k .tells Γ g w (l .0)) v }
 
 pub while-body : (file : List ℕ) (q r x b left : ℕ) (e : Environment) {s t : Step} {why : Refusal} → Conditions file r x e s → s .verdict ≡ Done
     → Checks file q b left e t → t .verdict ≡ Refused why → RowChecks file q r (BehaviourRow.While x b) left e t
 unfolding check
 while-body file q r x b left e k v n u = record {
-  tells = λ c Γ g w l.
-      next-done _ (k .tells Γ g w (l .0)) v (λ Δ y z. next-refused _ (n .tells c Γ g w (l .1)) u);
+  tells = λ Γ g w l.
+      next-done _ (k .tells Γ g w (l .0)) v (λ Δ y z. next-refused _ (n .tells Γ g w (l .1)) u);
 }
 
 pub while-done : (file : List ℕ) (q r x b left : ℕ) (e : Environment) {s t h : Step} → Conditions file r x e s → s .verdict ≡ Done
     → Checks file q b left e t → t .verdict ≡ Done → Agrees r (t .environment) e h → RowChecks file q r (BehaviourRow.While x b) left e h
 unfolding check
 while-done file q r x b left e k v n u d = record {
-  tells = λ c Γ g w l.
-      next-done _ (k .tells Γ g w (l .0)) v (λ Δ y z. next-done _ (n .tells c Γ g w (l .1)) u (λ Θ i j. d .tells Θ Γ i g));
+  tells = λ Γ g w l.
+      next-done _ (k .tells Γ g w (l .0)) v (λ Δ y z. next-done _ (n .tells Γ g w (l .1)) u (λ Θ i j. d .tells Θ Γ i g));
 }
 
 -- ---- branches
 
 go-on : (q c : ℕ) (file : List ℕ) (Γ Δ : Types) (same : Bool) (j n : ℕ) → goOn q c file Γ Δ same j (suc n)
-    ≡ next (check q c (sequence j (behaviourOf file (fieldA file (behaviourAt file j))) (behaviourOf file (fieldB file (behaviourAt file j)))) Γ)
+    ≡ next (check q (sequence j (behaviourOf file (fieldA file (behaviourAt file j))) (behaviourOf file (fieldB file (behaviourAt file j)))) Γ)
     (λ Θ. goOn q c file Γ Δ (same && sameTypes Θ Δ) (suc j) n)
 unfolding goOn branchesFrom
 go-on q c file Γ Δ same j zero = last-branch q c Δ same j (behaviourOf file (fieldA file (behaviourAt file j))) (behaviourOf file (fieldB file (behaviourAt file j))) Γ
@@ -439,75 +420,75 @@ unfolding next
 next-passed (refused why) = refl
 next-passed (passed Γ) = refl
 
-choice-starts : (q c r : ℕ) (file : List ℕ) (Γ : Types) (j n : ℕ) → check q c (choice r (branchesFrom file (behaviourOf file) j (suc n))) Γ
-    ≡ next (check q r (sequence j (behaviourOf file (fieldA file (behaviourAt file j))) (behaviourOf file (fieldB file (behaviourAt file j)))) Γ)
+choice-starts : (q r : ℕ) (file : List ℕ) (Γ : Types) (j n : ℕ) → check q (choice r (branchesFrom file (behaviourOf file) j (suc n))) Γ
+    ≡ next (check q (sequence j (behaviourOf file (fieldA file (behaviourAt file j))) (behaviourOf file (fieldB file (behaviourAt file j)))) Γ)
     (λ Δ. goOn q r file Γ Δ true (suc j) n)
 unfolding goOn branchesFrom check
-choice-starts q c r file Γ j zero = next-passed _
-choice-starts q c r file Γ j (suc n) =
+choice-starts q r file Γ j zero = next-passed _
+choice-starts q r file Γ j (suc n) =
     first-branch q r j (behaviourOf file (fieldA file (behaviourAt file j))) (behaviourOf file (fieldB file (behaviourAt file j)))
     (branchesFrom file (behaviourOf file) (suc j) (suc n)) Γ
 
-pub branches-end : (file : List ℕ) (q c at n left : ℕ) (e d : Environment) (same : Bool) {s : Step} → n ≡ 0 → Settles c d same s → Branches file q c at n left e d same s
+pub branches-end : (file : List ℕ) (q c at n left : ℕ) (e d : Environment) (same : Bool) {s : Step} → n ≡ 0 → Settles c d same s → ChecksBranches file q c at n left e d same s
 unfolding goOn
 branches-end file q c at n left e d same {s} z k = record {
   tells = λ Γ Δ j g h w i l.
       subst (λ (y : ℕ). Answers s (goOn q c file Γ Δ same j y)) (sym z) (k .tells Δ h);
 }
 
-module _ (file : List ℕ) (q c at n left : ℕ) (e : Environment) {a b : ℕ} {s : Step} (z : n ≡ 0 → ⊥) (p : a ≡ u16At file (at + 2)) (o : b ≡ u16At file (at + 4))
-    (k : Sequences file q a b left e s) where
+module _ (file : List ℕ) (q c at n left : ℕ) (e : Environment) {row : BranchRow} {s : Step} (z : n ≡ 0 → ⊥) (p : BranchAt file at row)
+    (k : Sequences file q (row .input) (row .follow) left e s) where
   -- The branch at row j.
-  branch-first : (i j : ℕ) (Γ : Types) → StandsFor e Γ → WellFormed file → at ≡ behaviourAt file j → BranchSubs file left j
-      → Answers s (check q i (sequence j (behaviourOf file (fieldA file (behaviourAt file j))) (behaviourOf file (fieldB file (behaviourAt file j)))) Γ)
-  branch-first i j Γ g w h l =
-      let x = p ∙ ap (λ (y : ℕ). u16At file (y + 2)) h in
-      let y = o ∙ ap (λ (y : ℕ). u16At file (y + 4)) h in
-      subst (λ (f : ℕ). Sequences file q f (fieldB file (behaviourAt file j)) left e s) x (subst (λ (f : ℕ). Sequences file q a f left e s) y k)
-      .tells i j Γ g w (l .input) (l .follow)
+  branch-first : (j : ℕ) (Γ : Types) → StandsFor e Γ → WellFormed file → at ≡ behaviourAt file j → BranchSubs file left j
+      → Answers s (check q (sequence j (behaviourOf file (fieldA file (behaviourAt file j))) (behaviourOf file (fieldB file (behaviourAt file j)))) Γ)
+  branch-first j Γ g w h l =
+      let x = p .input ∙ ap (fieldA file) h in
+      let y = p .follow ∙ ap (fieldB file) h in
+      subst (λ (f : ℕ). Sequences file q f (fieldB file (behaviourAt file j)) left e s) x (subst (λ (f : ℕ). Sequences file q (row .input) f left e s) y k)
+      .tells j Γ g w (l .input) (l .follow)
 
-  pub branches-refused : (d : Environment) (same : Bool) {why : Refusal} → s .verdict ≡ Refused why → Branches file q c at n left e d same s
+  pub branches-refused : (d : Environment) (same : Bool) {why : Refusal} → s .verdict ≡ Refused why → ChecksBranches file q c at n left e d same s
   branches-refused d same v = record {
     tells = λ Γ Δ j g h w i l.
         answers-as (sym (ap (goOn q c file Γ Δ same j) (one-less n z) ∙ go-on q c file Γ Δ same j (n - 1)))
-        (next-refused _ (branch-first c j Γ g w i (l j (omega arith) (omega (arith, one-less n z)))) v);
+        (next-refused _ (branch-first j Γ g w i (l j (omega arith) (omega (arith, one-less n z)))) v);
   }
 
   pub branches-more : (d : Environment) (same : Bool) {t u : Bool} {f : Step} → s .verdict ≡ Done → SameEnvironments (s .environment) d t → u ≡ (same && t)
-      → Branches file q c (at + 10) (n - 1) left e d u f → Branches file q c at n left e d same f
+      → ChecksBranches file q c (at + 10) (n - 1) left e d u f → ChecksBranches file q c at n left e d same f
   branches-more d same {t} {u} {f} v x y m = record {
     tells = λ Γ Δ j g h w i l.
         answers-as (sym (ap (goOn q c file Γ Δ same j) (one-less n z) ∙ go-on q c file Γ Δ same j (n - 1)))
-        (next-done _ (branch-first c j Γ g w i (l j (omega arith) (omega (arith, one-less n z)))) v (λ Θ b r.
+        (next-done _ (branch-first j Γ g w i (l j (omega arith) (omega (arith, one-less n z)))) v (λ Θ b r.
         subst (λ (y : Bool). Answers f (goOn q c file Γ Δ y (suc j) (n - 1))) (y ∙ ap (λ (y : Bool). same && y) (x .tells Θ Δ b h))
         (m .tells Γ Δ (suc j) g h w (ap (λ (y : ℕ). y + 10) i ∙ next-at file j) (λ k u v. l k (omega arith) (omega (arith, one-less n z))))));
   }
 
 pub choice-none : (file : List ℕ) (q r first n left : ℕ) (e : Environment) (s : Step) → n ≡ 0 → RowChecks file q r (BehaviourRow.Choice first n) left e s
-choice-none file q r first n left e s z = record { tells = λ c Γ g w l. let k = l .0 in absurd (omega arith) }
+choice-none file q r first n left e s z = record { tells = λ Γ g w l. let k = l .0 in absurd (omega arith) }
 
-pub choice-refused : (file : List ℕ) (q r first n left at : ℕ) (e : Environment) {a b : ℕ} {s : Step} {why : Refusal} → (n ≡ 0 → ⊥) → at ≡ behaviourAt file first
-    → a ≡ u16At file (at + 2) → b ≡ u16At file (at + 4) → Sequences file q a b left e s → s .verdict ≡ Refused why → RowChecks file q r (BehaviourRow.Choice first n) left e s
-choice-refused file q r first n left at e z i p o k v = record {
-  tells = λ c Γ g w l.
-      answers-as (sym (ap (λ (y : ℕ). check q c (choice r (branchesFrom file (behaviourOf file) first y)) Γ) (one-less n z) ∙ choice-starts q c r file Γ first (n - 1)))
-      (next-refused _ (branch-first file q r at n left e z p o k r first Γ g w i (l .1 first (omega arith) (omega (arith, one-less n z)))) v);
+pub choice-refused : (file : List ℕ) (q r first n left at : ℕ) (e : Environment) {row : BranchRow} {s : Step} {why : Refusal} → (n ≡ 0 → ⊥) → at ≡ behaviourAt file first
+    → BranchAt file at row → Sequences file q (row .input) (row .follow) left e s → s .verdict ≡ Refused why → RowChecks file q r (BehaviourRow.Choice first n) left e s
+choice-refused file q r first n left at e z i p k v = record {
+  tells = λ Γ g w l.
+      answers-as (sym (ap (λ (y : ℕ). check q (choice r (branchesFrom file (behaviourOf file) first y)) Γ) (one-less n z) ∙ choice-starts q r file Γ first (n - 1)))
+      (next-refused _ (branch-first file q r at n left e z p k first Γ g w i (l .1 first (omega arith) (omega (arith, one-less n z)))) v);
 }
 
-pub choice-done : (file : List ℕ) (q r first n left at : ℕ) (e : Environment) {a b : ℕ} {s f : Step} → (n ≡ 0 → ⊥) → at ≡ behaviourAt file first
-    → a ≡ u16At file (at + 2) → b ≡ u16At file (at + 4) → Sequences file q a b left e s → s .verdict ≡ Done
-    → Branches file q r (at + 10) (n - 1) left e (s .environment) true f → RowChecks file q r (BehaviourRow.Choice first n) left e f
-choice-done file q r first n left at e z i p o k v m = record {
-  tells = λ c Γ g w l.
-      answers-as (sym (ap (λ (y : ℕ). check q c (choice r (branchesFrom file (behaviourOf file) first y)) Γ) (one-less n z) ∙ choice-starts q c r file Γ first (n - 1)))
-      (next-done _ (branch-first file q r at n left e z p o k r first Γ g w i (l .1 first (omega arith) (omega (arith, one-less n z)))) v (λ Δ b y.
+pub choice-done : (file : List ℕ) (q r first n left at : ℕ) (e : Environment) {row : BranchRow} {s f : Step} → (n ≡ 0 → ⊥) → at ≡ behaviourAt file first
+    → BranchAt file at row → Sequences file q (row .input) (row .follow) left e s → s .verdict ≡ Done
+    → ChecksBranches file q r (at + 10) (n - 1) left e (s .environment) true f → RowChecks file q r (BehaviourRow.Choice first n) left e f
+choice-done file q r first n left at e z i p k v m = record {
+  tells = λ Γ g w l.
+      answers-as (sym (ap (λ (y : ℕ). check q (choice r (branchesFrom file (behaviourOf file) first y)) Γ) (one-less n z) ∙ choice-starts q r file Γ first (n - 1)))
+      (next-done _ (branch-first file q r at n left e z p k first Γ g w i (l .1 first (omega arith) (omega (arith, one-less n z)))) v (λ Δ b y.
       m .tells Γ Δ (suc first) g b w (ap (λ (y : ℕ). y + 10) i ∙ next-at file first) (λ k u v. l .1 k (omega arith) (omega (arith, one-less n z)))));
 }
 
 -- ---- rows
 
 pub no-rows : (file : List ℕ) (q r left : ℕ) (e : Environment) (s : Step) → left ≡ 0 → Checks file q r left e s
-no-rows file q r left e s z = record { tells = λ c Γ g w l. let a = l .exists in let b = l .enough in absurd (omega arith) }
+no-rows file q r left e s z = record { tells = λ Γ g w l. let a = l .exists in let b = l .enough in absurd (omega arith) }
 
 sub-less : (file : List ℕ) (left r : ℕ) → (left ≡ 0 → ⊥) → Sub file left r → Sub file (suc (left - 1)) r
 sub-less file left r z l = subst (λ (y : ℕ). Sub file y r) (one-less left z) l
@@ -515,35 +496,35 @@ sub-less file left r z l = subst (λ (y : ℕ). Sub file y r) (one-less left z) 
 pub leaf-row : (file : List ℕ) (q r left : ℕ) (e : Environment) {x y : BehaviourRow} {s : Step} → (left ≡ 0 → ⊥) → x ≡ behaviourRowOf file r → x ≡ y
     → LeafChecks file q r y e s → Checks file q r left e s
 leaf-row file q r left e {x} {y} {s} z p o k = record {
-  tells = λ c Γ g w l.
+  tells = λ Γ g w l.
       let d = row-is file w r (left - 1) (sub-less file left r z l) p o in
-      answers-as (ap (λ (b : Behaviour). check q c b Γ) (sym (d .0))) (k .tells c (left - 1) Γ g w (d .1));
+      answers-as (ap (λ (b : Behaviour). check q b Γ) (sym (d .0))) (k .tells (left - 1) Γ g w (d .1));
 }
 
 pub deep-row : (file : List ℕ) (q r left : ℕ) (e : Environment) {x y : BehaviourRow} {s : Step} → (left ≡ 0 → ⊥) → x ≡ behaviourRowOf file r → x ≡ y
     → RowChecks file q r y (left - 1) e s → Checks file q r left e s
 deep-row file q r left e {x} {y} {s} z p o k = record {
-  tells = λ c Γ g w l.
+  tells = λ Γ g w l.
       let d = row-is file w r (left - 1) (sub-less file left r z l) p o in
-      answers-as (ap (λ (b : Behaviour). check q c b Γ) (sym (d .0))) (k .tells c Γ g w (d .1));
+      answers-as (ap (λ (b : Behaviour). check q b Γ) (sym (d .0))) (k .tells Γ g w (d .1));
 }
 
 pub parallel-row : (file : List ℕ) (q r left : ℕ) (e : Environment) {x : BehaviourRow} {a b : ℕ} {s : Step} → (left ≡ 0 → ⊥) → x ≡ behaviourRowOf file r
     → x ≡ BehaviourRow.Parallel a b → ParallelChecks file q r a b (left - 1) e s → Checks file q r left e s
 parallel-row file q r left e {x} {a} {b} {s} z p o k = record {
-  tells = λ c Γ g w l.
+  tells = λ Γ g w l.
       let d = row-is file w r (left - 1) (sub-less file left r z l) p o in
-      answers-as (ap (λ (b : Behaviour). check q c b Γ) (sym (d .0))) (k .tells c Γ g w (l .exists) (sym p ∙ o) (d .1 .0) (d .1 .1));
+      answers-as (ap (λ (b : Behaviour). check q b Γ) (sym (d .0))) (k .tells Γ g w (l .exists) (sym p ∙ o) (d .1 .0) (d .1 .1));
 }
 
 pub sequence-row : (file : List ℕ) (q r left : ℕ) (e : Environment) {x : BehaviourRow} {a b : ℕ} {s : Step} → (left ≡ 0 → ⊥) → x ≡ behaviourRowOf file r
     → x ≡ BehaviourRow.Sequence a b → Sequences file q a b (left - 1) e s → Checks file q r left e s
-sequence-row file q r left e z p o k = deep-row file q r left e z p o (record { tells = λ c Γ g w l. k .tells c r Γ g w (l .0) (l .1) })
+sequence-row file q r left e z p o k = deep-row file q r left e z p o (record { tells = λ Γ g w l. k .tells r Γ g w (l .0) (l .1) })
 
 nil-checks : (file : List ℕ) (q r : ℕ) (row : BehaviourRow) (e : Environment) {s : Step} → behaviourBy file r row ≡ nil r → s ≡ record { environment = e; verdict = Done }
     → LeafChecks file q r row e s
 unfolding check
-nil-checks file q r row e p z = record { tells = λ c left Γ g w l. answers-as (ap (λ (b : Behaviour). check q c b Γ) (sym p)) (passes z g) }
+nil-checks file q r row e p z = record { tells = λ left Γ g w l. answers-as (ap (λ (b : Behaviour). check q b Γ) (sym p)) (passes z g) }
 
 pub nil-row : (file : List ℕ) (q r left : ℕ) (e : Environment) {x : BehaviourRow} {s : Step} → (left ≡ 0 → ⊥) → x ≡ behaviourRowOf file r
     → x ≡ BehaviourRow.Nil → s ≡ record { environment = e; verdict = Done } → Checks file q r left e s

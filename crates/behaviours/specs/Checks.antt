@@ -13,7 +13,7 @@ use Rattle.syntax.specs.Syntax.{Types, input, output, sequence, parallel}
 use Rattle.typing.specs.Result.{yields, require, Checked, refused, atRow}
 use Rattle.typing.specs.Environment.{place}
 use Rattle.typing.specs.Rules.{permits}
-use Rattle.typing.specs.Checker.{limited, sends, condition, agreeing, check}
+use Rattle.typing.specs.Checker.{limited, sends, condition, agreeing, check, checkBranches}
 use Rattle.typing.specs.Branches.{concludeChoice}
 use Rattle.network.specs.Form.{WellFormed}
 use Rattle.network.specs.Layout.{pathCount, typeCount, expressionCount, behaviourCount, operationCount, behaviourAt}
@@ -54,23 +54,23 @@ pub record Agrees (r : ℕ) (x d : Environment) (s : Step) : Type 0 where
 
 -- A row without sub-behaviours; a row with sub-behaviours, for which so many rows are left; the behaviour of row r.
 pub record LeafChecks (file : List ℕ) (q r : ℕ) (row : BehaviourRow) (e : Environment) (s : Step) : Type 0 where
-  pub tells : (c left : ℕ) (Γ : Types) → StandsFor e Γ → WellFormed file → KeptBy file left row → Answers s (check q c (behaviourBy file r row) Γ)
+  pub tells : (left : ℕ) (Γ : Types) → StandsFor e Γ → WellFormed file → KeptBy file left row → Answers s (check q (behaviourBy file r row) Γ)
 
 pub record RowChecks (file : List ℕ) (q r : ℕ) (row : BehaviourRow) (left : ℕ) (e : Environment) (s : Step) : Type 0 where
-  pub tells : (c : ℕ) (Γ : Types) → StandsFor e Γ → WellFormed file → KeptBy file left row → Answers s (check q c (behaviourBy file r row) Γ)
+  pub tells : (Γ : Types) → StandsFor e Γ → WellFormed file → KeptBy file left row → Answers s (check q (behaviourBy file r row) Γ)
 
 -- A parallel, whose sides the sets of root ids tell apart.
 pub record ParallelChecks (file : List ℕ) (q r a b left : ℕ) (e : Environment) (s : Step) : Type 0 where
-  pub tells : (c : ℕ) (Γ : Types) → StandsFor e Γ → WellFormed file → r < behaviourCount file → behaviourRowOf file r ≡ BehaviourRow.Parallel a b
-      → Sub file left a → Sub file left b → Answers s (check q c (parallel r (behaviourOf file a) (behaviourOf file b)) Γ)
+  pub tells : (Γ : Types) → StandsFor e Γ → WellFormed file → r < behaviourCount file → behaviourRowOf file r ≡ BehaviourRow.Parallel a b
+      → Sub file left a → Sub file left b → Answers s (check q (parallel r (behaviourOf file a) (behaviourOf file b)) Γ)
 
 pub record Checks (file : List ℕ) (q r left : ℕ) (e : Environment) (s : Step) : Type 0 where
-  pub tells : (c : ℕ) (Γ : Types) → StandsFor e Γ → WellFormed file → Sub file left r → Answers s (check q c (behaviourOf file r) Γ)
+  pub tells : (Γ : Types) → StandsFor e Γ → WellFormed file → Sub file left r → Answers s (check q (behaviourOf file r) Γ)
 
 -- The behaviours of the rows a and b, one after the other, as in a row k.
 pub record Sequences (file : List ℕ) (q a b left : ℕ) (e : Environment) (s : Step) : Type 0 where
-  pub tells : (c k : ℕ) (Γ : Types) → StandsFor e Γ → WellFormed file → Sub file left a → Sub file left b →
-      Answers s (check q c (sequence k (behaviourOf file a) (behaviourOf file b)) Γ)
+  pub tells : (k : ℕ) (Γ : Types) → StandsFor e Γ → WellFormed file → Sub file left a → Sub file left b →
+      Answers s (check q (sequence k (behaviourOf file a) (behaviourOf file b)) Γ)
 
 -- All branches of the choice c are checked: the first gave Δ, and all gave the same or not.
 pub record Settles (c : ℕ) (d : Environment) (same : Bool) (s : Step) : Type 0 where
@@ -79,8 +79,8 @@ pub record Settles (c : ℕ) (d : Environment) (same : Bool) (s : Step) : Type 0
 -- What the choice c gives after some branches, of which the first gave Δ and all the same or not; n branches follow, from row j on.
 unfoldable pub goOn : ℕ → ℕ → List ℕ → Types → Types → Bool → ℕ → ℕ → Checked Types
 goOn q c file Γ Δ same j zero = atRow c (require same EnvironmentsDiffer (yields Δ))
-goOn q c file Γ Δ same j (suc n) = concludeChoice c Δ same (check q c (branchesFrom file (behaviourOf file) j (suc n)) Γ)
+goOn q c file Γ Δ same j (suc n) = concludeChoice c Δ same (checkBranches q c (branchesFrom file (behaviourOf file) j (suc n)) Γ)
 
-pub record Branches (file : List ℕ) (q c at n left : ℕ) (e d : Environment) (same : Bool) (s : Step) : Type 0 where
+pub record ChecksBranches (file : List ℕ) (q c at n left : ℕ) (e d : Environment) (same : Bool) (s : Step) : Type 0 where
   pub tells : (Γ Δ : Types) (j : ℕ) → StandsFor e Γ → StandsFor d Δ → WellFormed file → at ≡ behaviourAt file j
       → ((k : ℕ) → j ≤ k → k < j + n → BranchSubs file left k) → Answers s (goOn q c file Γ Δ same j n)

@@ -4,7 +4,7 @@ ghost use mathlib.Core.Path.{_≡_};
 ghost use Prim.Native.Nat.{ℕ, _+_, _*_, _<_};
 ghost use Rattle.rows.specs.declared.BehaviourRow.{BehaviourRow};
 ghost use Rattle.roots.specs.Sets.{Separates};
-ghost use Rattle.behaviours.specs.Checks.{Sends, SendsType, Receives, conditionOf, Conditions, Agrees, LeafChecks, RowChecks, ParallelChecks, Checks, Sequences, Settles, Branches};
+ghost use Rattle.behaviours.specs.Checks.{Sends, SendsType, Receives, conditionOf, Conditions, Agrees, LeafChecks, RowChecks, ParallelChecks, Checks, Sequences, Settles, ChecksBranches};
 use environments::Environment;
 use environments::Step;
 use expressions::Typing;
@@ -17,7 +17,7 @@ use rows::BehaviourRow;
 fn send_type(file: &[u8], r: u16, x: u16, t: u16, e: Environment) -> Step
     ensures { λ s. ⌜ SendsType (now (file .entry)) r x t e s ⌝ }
 {
-    match expressions::type_of(file, e, x) {
+    match expressions::type_of(file, e, x, r) {
         Typing::At(at, _) => {
             if environments::type_under(file, e, at, t) {
                 return environments::pass(e);
@@ -30,8 +30,7 @@ fn send_type(file: &[u8], r: u16, x: u16, t: u16, e: Environment) -> Step
             }
             environments::refuse(Refusal::TypeMisfit(r))
         }
-        Typing::PathNotFirm => environments::refuse(Refusal::PathNotFirm(r)),
-        Typing::OperandType => environments::refuse(Refusal::OperandType(r)),
+        Typing::Refused(why) => environments::refuse(why),
     }
 }
 
@@ -58,7 +57,7 @@ fn receive(file: &[u8], q: u16, r: u16, o: u16, p: u16, twoway: bool, e: Environ
 fn bool_condition(r: u16, b: u8, e: Environment) -> Step
     ensures { λ s. ⌜ s ≡ conditionOf r b e ⌝ }
 {
-    if b == 0 {
+    if b == scalar::BOOL {
         return environments::pass(e);
     }
     environments::refuse(Refusal::OperandType(r))
@@ -68,11 +67,10 @@ fn bool_condition(r: u16, b: u8, e: Environment) -> Step
 fn condition(file: &[u8], r: u16, x: u16, e: Environment) -> Step
     ensures { λ s. ⌜ Conditions (now (file .entry)) r x e s ⌝ }
 {
-    match expressions::type_of(file, e, x) {
+    match expressions::type_of(file, e, x, r) {
         Typing::At(_, b) => bool_condition(r, b, e),
         Typing::Leaf(b) => bool_condition(r, b, e),
-        Typing::PathNotFirm => environments::refuse(Refusal::PathNotFirm(r)),
-        Typing::OperandType => environments::refuse(Refusal::OperandType(r)),
+        Typing::Refused(why) => environments::refuse(why),
     }
 }
 
@@ -80,11 +78,10 @@ fn condition(file: &[u8], r: u16, x: u16, e: Environment) -> Step
 fn assign(file: &[u8], q: u16, r: u16, p: u16, x: u16, e: Environment) -> Step
     ensures { λ s. ⌜ LeafChecks (now (file .entry)) q r (BehaviourRow.Assign p x) e s ⌝ }
 {
-    match expressions::type_of(file, e, x) {
+    match expressions::type_of(file, e, x, r) {
         Typing::At(_, b) => environments::assign(file, e, p, b, r),
         Typing::Leaf(b) => environments::assign(file, e, p, b, r),
-        Typing::PathNotFirm => environments::refuse(Refusal::PathNotFirm(r)),
-        Typing::OperandType => environments::refuse(Refusal::OperandType(r)),
+        Typing::Refused(why) => environments::refuse(why),
     }
 }
 
@@ -274,20 +271,13 @@ fn branches(
     same: bool,
 ) -> Step
     requires { ⌜ (at + 10 * n < 2000000) × Separates (now file) (now sets) ⌝ }
-    ensures { λ s. ⌜ Branches (now (file .entry)) q c at n left e d same s ⌝ }
+    ensures { λ s. ⌜ ChecksBranches (now (file .entry)) q c at n left e d same s ⌝ }
 {
     if n == 0 {
         return settle(c, d, same);
     }
-    let one = sequence(
-        file,
-        sets,
-        q,
-        wire::u16_at(file, at + 2),
-        wire::u16_at(file, at + 4),
-        left,
-        e,
-    );
+    let row = rows::branch_at(file, at);
+    let one = sequence(file, sets, q, row.input, row.follow, left, e);
     let v = one.verdict;
     let Verdict::Done = v else {
         return one;
@@ -315,15 +305,8 @@ fn choice(
         return environments::pass(e);
     }
     let at = layout::behaviour_at(file, first);
-    let one = sequence(
-        file,
-        sets,
-        q,
-        wire::u16_at(file, at + 2),
-        wire::u16_at(file, at + 4),
-        left,
-        e,
-    );
+    let row = rows::branch_at(file, at);
+    let one = sequence(file, sets, q, row.input, row.follow, left, e);
     let v = one.verdict;
     let Verdict::Done = v else {
         return one;

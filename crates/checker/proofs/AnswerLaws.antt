@@ -344,7 +344,7 @@ module _ (file : List ℕ) {v : Verdict} {n : ℕ} {a : Answer} (f : v ≡ formO
   pub file-shaped : IfPassed ShapedAll (checkFile file)
   unfolding networkOf checkNetwork next
   file-shaped =
-      subst (IfPassed ShapedAll) (sym (well file wellFormed)) (by (checkServices 0 (networkOf file .services)) (checkOutputs (networkOf file .services) (networkOf file .operations) (networkOf file .operations))
+      subst (IfPassed ShapedAll) (sym (well file wellFormed)) (by (checkServices 0 (networkOf file .services)) (checkOutputs (networkOf file) (networkOf file .operations))
       (subst (λ (m : ℕ). ServicesGive file 0 m a) c k .shapes wellFormed (omega arith)))
     where
       by : (x : Checked (List Environments)) (y : Checked (Unit {0})) → IfPassed ShapedAll x → IfPassed ShapedAll (next x (λ Es. next y (λ u. passed Es)))
@@ -356,18 +356,18 @@ module _ (file : List ℕ) {v : Verdict} {n : ℕ} {a : Answer} (f : v ≡ formO
   unfolding checkNetwork next
   file-services {x} {why} u e =
       refused-answer x (a .verdict) why e u ∙ sym (ap answerOf (well file wellFormed
-      ∙ ap (λ (y : Checked (List Environments)). next y (λ Es. next (checkOutputs (networkOf file .services) (networkOf file .operations) (networkOf file .operations)) (λ u. passed Es)))
+      ∙ ap (λ (y : Checked (List Environments)). next y (λ Es. next (checkOutputs (networkOf file) (networkOf file .operations)) (λ u. passed Es)))
       (all-refused (checkServices 0 (networkOf file .services)) given u)))
 
   after-services : a .verdict ≡ Done → (Es : List Environments) × (a ≡ answerOf (passed Es))
-      × (checkFile file ≡ next (checkOutputs (networkOf file .services) (networkOf file .operations) (networkOf file .operations)) (λ u. passed Es))
+      × (checkFile file ≡ next (checkOutputs (networkOf file) (networkOf file .operations)) (λ u. passed Es))
   unfolding checkNetwork next
   after-services u =
       let d = all-done (checkServices 0 (networkOf file .services)) given u in (
         d .0,
         d .2,
         well file wellFormed
-            ∙ ap (λ (y : Checked (List Environments)). next y (λ Es. next (checkOutputs (networkOf file .services) (networkOf file .operations) (networkOf file .operations)) (λ u. passed Es))) (d .1),
+            ∙ ap (λ (y : Checked (List Environments)). next y (λ Es. next (checkOutputs (networkOf file) (networkOf file .operations)) (λ u. passed Es))) (d .1),
       )
 
   pub file-outputs : {w : Verdict} {x : Answer} {why : Refusal} → a .verdict ≡ Done → Outputs file w → w ≡ Refused why → x ≡ refusedWith w → x ≡ answerOf (checkFile file)
@@ -375,7 +375,7 @@ module _ (file : List ℕ) {v : Verdict} {n : ℕ} {a : Answer} (f : v ≡ formO
   file-outputs {w} {x} {why} u o b e =
       let p = after-services u in
       refused-answer x w why e b ∙ sym (ap answerOf (p .2 ∙ ap (λ (y : Checked (Unit {0})). next y (λ u. passed (p .0)))
-      (unmet (checkOutputs (networkOf file .services) (networkOf file .operations) (networkOf file .operations)) (sym (o .tells wellFormed) ∙ b))))
+      (unmet (checkOutputs (networkOf file) (networkOf file .operations)) (sym (o .tells wellFormed) ∙ b))))
     where
       unmet : (y : Checked (Unit {0})) → verdictOf y ≡ Refused why → y ≡ refused why
       unmet (refused w) g = cc
@@ -385,7 +385,7 @@ module _ (file : List ℕ) {v : Verdict} {n : ℕ} {a : Answer} (f : v ≡ formO
   unfolding next
   file-accepted {w} u o b =
       let p = after-services u in
-      p .1 ∙ sym (ap answerOf (p .2 ∙ met (checkOutputs (networkOf file .services) (networkOf file .operations) (networkOf file .operations)) (p .0) (sym (o .tells wellFormed) ∙ b)))
+      p .1 ∙ sym (ap answerOf (p .2 ∙ met (checkOutputs (networkOf file) (networkOf file .operations)) (p .0) (sym (o .tells wellFormed) ∙ b)))
     where
       met : (y : Checked (Unit {0})) (Es : List Environments) → verdictOf y ≡ Done → next y (λ u. passed Es) ≡ passed Es
       met (refused w) Es g = absurd (let z : _≡_ {A = ℕ} 0 1 = cc in omega arith)

@@ -6,13 +6,14 @@ use native.Mathlib.Omega.{arith}
 use Rattle.refusal.specs.declared.Verdict.{Verdict}
 use Rattle.refusal.specs.declared.Verdict.the-variants.{Done, Refused}
 use Rattle.syntax.specs.Syntax.{Operation, Behaviour, nil, oneWay, requestResponse, notification, solicitResponse, ifThenElse, whileDo}
-use Rattle.syntax.specs.Syntax.{sequence, parallel, assign, choice, branch, lastBranch, waiting, answering, Optional, none, some, Service, Network}
+use Rattle.syntax.specs.Syntax.{sequence, parallel, assign, choice, waiting, answering, Branches, lastBranch, branch, Optional, none, some}
+use Rattle.syntax.specs.Syntax.{Service, Network}
 use Rattle.network.specs.Form.{formOf, WellFormed}
 use Rattle.network.specs.Decode.{networkOf}
 use Rattle.syntax.specs.Rows.{entry}
-use Rattle.network.specs.Shapes.{OperationShape, BehaviourShape, FileBehaviour, IfAny, asStarter, asClient, NetworkShape}
+use Rattle.network.specs.Shapes.{OperationShape, BehaviourShape, BranchesShape, FileBehaviour, IfAny, asStarter, asClient, NetworkShape}
 use Rattle.network.specs.NetworkLaws.{network-shape}
-use Rattle.typing.specs.Rules.{RisingOperation, WellSorted}
+use Rattle.typing.specs.Rules.{RisingOperation, WellSorted, WellSortedBranches}
 use Rattle.typing.specs.Result.{Checked, refused, passed}
 use Rattle.typing.specs.NetworkRules.{Environments, DerivesNetwork, WellSortedIfThere, WellSortedServices, RisingOperations, WellSortedNetwork}
 use Rattle.typing.specs.NetworkChecker.{checkNetwork}
@@ -23,23 +24,27 @@ operation-rising : (o : Operation) → OperationShape o → RisingOperation o
 operation-rising o h = (h .request .shape .rising, h .reply .shape .rising)
 
 -- The types of a file's behaviour have rising ids.
-shape-sorted : (B : Behaviour) → BehaviourShape B → WellSorted B
-unfolding BehaviourShape WellSorted
-shape-sorted (nil r) h = tt
-shape-sorted (oneWay r o x) h = operation-rising o (h .0)
-shape-sorted (requestResponse r o x c d) h = (operation-rising o (h .0), shape-sorted d (h .3))
-shape-sorted (notification r o e) h = operation-rising o (h .0)
-shape-sorted (solicitResponse r o e x) h = operation-rising o (h .0)
-shape-sorted (ifThenElse r e a b) h = (shape-sorted a (h .1), shape-sorted b (h .2))
-shape-sorted (whileDo r e b) h = shape-sorted b (h .1)
-shape-sorted (sequence r a b) h = (shape-sorted a (h .0), shape-sorted b (h .1))
-shape-sorted (parallel r a b) h = (shape-sorted a (h .0), shape-sorted b (h .1))
-shape-sorted (assign r x e) h = tt
-shape-sorted (choice r m) h = shape-sorted m h
-shape-sorted (branch r a b m) h = (shape-sorted a (h .0), shape-sorted b (h .1), shape-sorted m (h .2))
-shape-sorted (lastBranch r a b) h = (shape-sorted a (h .0), shape-sorted b (h .1))
-shape-sorted (waiting r o x) h = operation-rising o (h .0)
-shape-sorted (answering r o c d) h = (operation-rising o (h .0), shape-sorted d (h .2))
+mutual
+  unfolding BehaviourShape WellSorted
+
+  shape-sorted : (B : Behaviour) → BehaviourShape B → WellSorted B
+  shape-sorted (nil r) h = tt
+  shape-sorted (oneWay r o x) h = operation-rising o (h .0)
+  shape-sorted (requestResponse r o x c d) h = (operation-rising o (h .0), shape-sorted d (h .3))
+  shape-sorted (notification r o e) h = operation-rising o (h .0)
+  shape-sorted (solicitResponse r o e x) h = operation-rising o (h .0)
+  shape-sorted (ifThenElse r e a b) h = (shape-sorted a (h .1), shape-sorted b (h .2))
+  shape-sorted (whileDo r e b) h = shape-sorted b (h .1)
+  shape-sorted (sequence r a b) h = (shape-sorted a (h .0), shape-sorted b (h .1))
+  shape-sorted (parallel r a b) h = (shape-sorted a (h .0), shape-sorted b (h .1))
+  shape-sorted (assign r x e) h = tt
+  shape-sorted (choice r m) h = shape-sorted-branches m h
+  shape-sorted (waiting r o x) h = operation-rising o (h .0)
+  shape-sorted (answering r o c d) h = (operation-rising o (h .0), shape-sorted d (h .2))
+
+  shape-sorted-branches : (m : Branches) → BranchesShape m → WellSortedBranches m
+  shape-sorted-branches (lastBranch r a b) h = (shape-sorted a (h .0), shape-sorted b (h .1))
+  shape-sorted-branches (branch r a b m) h = (shape-sorted a (h .0), shape-sorted b (h .1), shape-sorted-branches m (h .2))
 
 there-sorted : (f : ℕ → Operation) (B : Optional Behaviour) → IfAny B (FileBehaviour f) → WellSortedIfThere B
 there-sorted f none h = tt

@@ -1,2 +1,3 @@
 pub mod FileChecker
 pub mod FileCheckerLaws
+pub mod OutputLaws

@@ -5,10 +5,8 @@ use mathlib.Core.List.{List, [], _∷_, _++_}
 use mathlib.Core.Logic.{_⊎_, inl, inr}
 use Prim.Native.Nat.{ℕ, _+_, _*_, _≤_, _<_}
 use native.Mathlib.Omega.{arith}
-use lib.ListN.{length, take, set, replicate}
+use lib.ListN.{length, replicate}
 use lib.Seq.{take-all}
-use types.Run.{OneOf, miss}
-use denote.Enum.Declared.{tagOf}
 use Rattle.forest.specs.Forest.{Forest, end, Tree, tree}
 use Rattle.forest.specs.Path.{Path, replaceAt}
 use Rattle.scalar.specs.Value.{Value}
@@ -19,7 +17,8 @@ use Rattle.refusal.specs.declared.Verdict.{Verdict}
 use Rattle.refusal.specs.declared.Verdict.the-variants.{Done, Refused}
 use Rattle.refusal.specs.declared.Outcome.{Outcome}
 use Rattle.refusal.specs.Refusal.{doneWith, refusedBy}
-use Rattle.syntax.specs.Syntax.{Behaviour, Operation}
+use Rattle.syntax.specs.Syntax.{Operation, Optional, none, some}
+use Rattle.syntax.specs.Rows.{Input, inputOf}
 use Rattle.tree.specs.Encode as trees
 use Rattle.tree.specs.Decode.{isMessage}
 use Rattle.tree.specs.DecodeLaws.{message-sound, message-complete, encode-injective}
@@ -27,45 +26,47 @@ use Rattle.tree.specs.Ids as ids
 use Rattle.subtyping.specs.Own.{fits}
 use Rattle.typing.specs.Environment.{within}
 use Rattle.network.specs.Form.{WellFormed}
-use Rattle.network.specs.Layout.{pathCount, typeCount, behaviourCount, operationCount}
+use Rattle.network.specs.Layout.{pathCount, behaviourCount}
 use Rattle.network.specs.Rows.{operationService}
 use Rattle.network.specs.Decode.{typeOf, behaviourOf, operationOf, networkOf}
 use Rattle.network.specs.Decode as network
 use Rattle.network.specs.RowLaws.{counts-kept}
 use Rattle.network.specs.TestLaws.{told}
-use Rattle.rows.specs.declared.BehaviourRow.{BehaviourRow}
-use Rattle.rows.proofs.BehaviourRow as rows
-use Rattle.rows.specs.Readers.{behaviourRowOf, pathIds}
+use Rattle.rows.specs.declared.InputRow.{InputRow}
+use Rattle.rows.specs.Readers.{inputRowOf, pathIds}
+use Rattle.rows.specs.RowSyntax.{inputWith}
 use Rattle.types.specs.Tells.{FitsRow}
 use Rattle.types.specs.TellsLaws.{fits-message}
 use Rattle.row_parts.specs.PathLaws.{ids-path, path-is}
-use Rattle.row_parts.specs.Behaviours.{behaviourBy}
-use Rattle.row_parts.specs.KindLaws.{row-is}
-use Rattle.state.specs.Session.{ReplyTo, Progress, done, received, taken, advance, Queued, Session, Slot, free, live, State, setSlot, newSession}
-use Rattle.state.specs.Bytes.{zeros, u16Bytes, padded, progressBytes, messageBytes, treeBytes, slotBytes, stateBytes}
+use Rattle.row_parts.specs.Behaviours.{InputKeptBy}
+use Rattle.row_parts.specs.KindLaws.{input-is}
+use Rattle.state.specs.Places.{slotSize, slotStart}
+use Rattle.state.specs.Session.{ReplyTo, Progress, done, received, taken, advance, Queued, Session, withTree, withQueue, withProgress, Slot, free, live, State, setSlot, newSession}
+use Rattle.state.specs.Bytes.{zeros, slotBytes, stateBytes}
 use Rattle.state.specs.Shape.{WellMade, MadeSlot}
 use Rattle.state.specs.ShapeLaws.{new-made}
 use Rattle.state.specs.PartLaws.{length-zeros, part-replaced, replace-again}
 use Rattle.state.specs.SizeLaws.{message-size, slot-size}
-use Rattle.state.specs.KeepLaws.{advance-past}
 use Rattle.state.specs.FreshLaws.{replicate-zeros}
+use Rattle.state.specs.KeepLaws.{made-tree, made-row}
 use Rattle.moves.specs.Targets as definition
-use Rattle.moves.specs.Moves.{voidValue, isMessageTree, moved, require, permitsInput, allowed, onLive, withQueue, startedBy, started, deliver}
+use Rattle.moves.specs.Moves.{voidValue, isMessageTree, Result, moved, require, allowed, onLive, startedBy, started, deliver}
 use Rattle.moves.specs.Step.{Step, finish}
 use Rattle.progress.specs.declared.Progress as coded
 use Rattle.progress.specs.Meaning.{meaning}
+use Rattle.progress.specs.Stored.{rowStored}
 use Rattle.slots.specs.SlotLaws.{row-set, tree-set, begin-set, living-set, set-again}
 use Rattle.slots.specs.Living.{Living}
+use Rattle.slots.specs.Slots.{begun, treeStored}
 use Rattle.session_trees.specs.declared.Change.{Change}
 use Rattle.session_trees.specs.Changing.{KeptTree, ChangedTo, Replaces}
 use Rattle.targets.specs.declared.Target.{Target}
-use Rattle.targets.specs.Answers.{PermitsInput, targetAs, StarterExists}
+use Rattle.targets.specs.Answers.{startWith, passesInput, PermitsInput, targetAs, StarterExists}
 use Rattle.queues.specs.declared.ReplyTo as declared
 use Rattle.queues.specs.Queue.{replyOf, pushed}
 use Rattle.queues.specs.ChangeLaws.{push-state}
-use Rattle.delivery.specs.declared.Input.{Input}
-use Rattle.delivery.specs.Delivery.{Holding, Permitted, Allowed, MustFit, InputIs, InputAt, StartTree, startedWith, StoresStart, KeptOr, Saved}
-use Rattle.delivery.specs.Delivery.{StartsBy, Starts, PathWithin, InputWithin, startWithin, StartsWithin, Queues, Delivers}
+use Rattle.delivery.specs.Delivery.{Holding, Permitted, Allowed, MustFit, StartTree, startedWith, StoresStart, KeptOr, Saved}
+use Rattle.delivery.specs.Delivery.{StartsBy, StartedAs, Starts, PathWithin, InputWithin, startWithin, StartsWithin, Queues, Delivers}
 use Rattle.delivery.specs.DeliveryLaws.{holding-sized, holding-bytes, holding-part, message-tree, tree-message, Known, target-known, target-far}
 
 -- ---- 15 and 16
@@ -94,9 +95,15 @@ module _ {file : List ℕ} {q : ℕ} {t : Target} where
 
   pub allowed-starts : {c k a : ℕ} {v : Verdict} → t ≡ Target.Starts c k a → Permitted file q a v → Allowed file q t v
   unfolding targetAs
-  allowed-starts e h = record {
-    tells = λ x r. h .tells (subst (StarterExists file) e x .1) r ∙ ap (λ (y : Target). allowed q (targetAs file y) r) (sym e);
+  allowed-starts {c} {k} {a} e h = record {
+    tells = λ x r.
+        h .tells (subst (StarterExists file) e x .1) r
+        ∙ (passes (inputOf (behaviourOf file a)) r ∙ ap (λ (y : Target). allowed q (targetAs file y) r) (sym e));
   }
+    where
+      passes : (i : Optional Input) (r : Result) → require (passesInput q i) MoveNotAllowed r ≡ allowed q (startWith c k i) r
+      passes none r = refl
+      passes (some i) r = refl
 
 pub ruleset allowed-laws = (allowed-none, allowed-full, allowed-queued, allowed-starts)
 
@@ -124,46 +131,6 @@ module _ {l file : List ℕ} {r : ℕ} {b : Bool} (e : b ≡ isMessage l) where
 
 pub ruleset fit-laws = (fit-none, fit-message)
 
--- ---- inputs
-
-module _ (file : List ℕ) (a : ℕ) {row : BehaviourRow} (e : row ≡ behaviourRowOf file a) where
-  pub input-one-way : {o p : ℕ} → row ≡ BehaviourRow.OneWay o p → InputAt file a (Input.OneWay p)
-  input-one-way {o} {p} f = record {
-    tells = λ w l. let k = row-is file w a (behaviourCount file) (record { exists = l; enough = omega arith }) e f in (operationOf file o, k .0, k .1 .1);
-  }
-
-  pub input-request : {o p c d : ℕ} → row ≡ BehaviourRow.RequestResponse o p c d → InputAt file a (Input.RequestResponse p)
-  input-request {o} {p} {c} {d} f = record {
-    tells = λ w l.
-        let k = row-is file w a (behaviourCount file) (record { exists = l; enough = omega arith }) e f in
-        (operationOf file o, (c, behaviourOf file d, k .0), k .1 .1);
-  }
-
-  pub input-none : OneOf (0 ∷ 3 ∷ 4 ∷ 5 ∷ 6 ∷ 7 ∷ 8 ∷ 9 ∷ 10 ∷ 11 ∷ 12 ∷ []) (tagOf rows.the-type row) → InputAt file a Input.Nothing
-  input-none h = record {
-    tells = λ w l v.
-        let k = row-is file w a (behaviourCount file) (record { exists = l; enough = omega arith }) e refl in
-        ap (definition.isInputOf v) (k .0) ∙ other row h v;
-  }
-    where
-      other : (y : BehaviourRow) → OneOf (0 ∷ 3 ∷ 4 ∷ 5 ∷ 6 ∷ 7 ∷ 8 ∷ 9 ∷ 10 ∷ 11 ∷ 12 ∷ []) (tagOf rows.the-type y) → (v : ℕ)
-          → definition.isInputOf v (behaviourBy file a y) ≡ false
-      other BehaviourRow.Nil h v = refl
-      other (BehaviourRow.OneWay o p) h v = absurd (miss (0 ∷ 3 ∷ 4 ∷ 5 ∷ 6 ∷ 7 ∷ 8 ∷ 9 ∷ 10 ∷ 11 ∷ 12 ∷ []) 1 tt h)
-      other (BehaviourRow.RequestResponse o p c d) h v = absurd (miss (0 ∷ 3 ∷ 4 ∷ 5 ∷ 6 ∷ 7 ∷ 8 ∷ 9 ∷ 10 ∷ 11 ∷ 12 ∷ []) 2 tt h)
-      other (BehaviourRow.Notification o x) h v = refl
-      other (BehaviourRow.SolicitResponse o x p) h v = refl
-      other (BehaviourRow.If x b c) h v = refl
-      other (BehaviourRow.While x b) h v = refl
-      other (BehaviourRow.Sequence b c) h v = refl
-      other (BehaviourRow.Parallel b c) h v = refl
-      other (BehaviourRow.Assign p x) h v = refl
-      other (BehaviourRow.Choice first n) h v = refl
-      other (BehaviourRow.Branch b c) h v = refl
-      other BehaviourRow.Unknown h v = refl
-
-pub ruleset input-laws = (input-one-way, input-request, input-none)
-
 module _ {to : declared.ReplyTo} where
   pub received-nobody : to ≡ declared.ReplyTo.Nobody → meaning coded.Progress.FromNobody ≡ received (replyOf to)
   received-nobody e = ap (λ (x : declared.ReplyTo). received (replyOf x)) (sym e)
@@ -178,10 +145,10 @@ pub ruleset received-laws = (received-nobody, received-outsider, received-row)
 
 -- ---- a slot that becomes a new session
 
-new-living : (s : List ℕ) {s₁ : List ℕ} (slot : ℕ) → slot + 4096 ≤ length s → s₁ ≡ withPart s slot (slotBytes (live newSession)) → Living s₁ slot newSession
+new-living : (s : List ℕ) {s₁ : List ℕ} (slot : ℕ) → slot + slotSize ≤ length s → s₁ ≡ withPart s slot (slotBytes (live newSession)) → Living s₁ slot newSession
 new-living s {s₁} slot h e =
     let y = slotBytes (live newSession) in
-    let z : length y ≡ 4096 = slot-size (live newSession) new-made in
+    let z : length y ≡ slotSize = slot-size (live newSession) new-made in
     subst (λ (t : List ℕ). Living t slot newSession) (sym e) (record {
       inside = omega (arith, h, z, length-withPart s slot y (omega (arith, h, z)));
       bytes = subst (λ (n : ℕ). part (withPart s slot y) slot n ≡ y) z (part-replaced s slot y (omega (arith, h)));
@@ -189,16 +156,16 @@ new-living s {s₁} slot h e =
     })
 
 -- The scratch slot, of zeros, holds a new session.
-scratch-living : {n : ℕ} {s s₁ : List ℕ} → n ≡ 4096 → s ≡ replicate n 0 → s₁ ≡ set (set (set s 0 1) (0 + 2) 5) (0 + 18) 6 → Living s₁ 0 newSession
+scratch-living : {n : ℕ} {s s₁ : List ℕ} → n ≡ slotSize → s ≡ replicate n 0 → s₁ ≡ begun s 0 → Living s₁ 0 newSession
 unfolding slotBytes
 scratch-living {n} {s} {s₁} k e f =
-    let z : s ≡ zeros 4096 = e ∙ (replicate-zeros n ∙ ap zeros k) in
-    let l : length s ≡ 4096 = ap length z ∙ length-zeros 4096 in
-    let p : part s 0 4096 ≡ slotBytes free = take-all 4096 s (omega (arith, l)) ∙ z in
+    let z : s ≡ zeros slotSize = e ∙ (replicate-zeros n ∙ ap zeros k) in
+    let l : length s ≡ slotSize = ap length z ∙ length-zeros slotSize in
+    let p : part s 0 slotSize ≡ slotBytes free = take-all slotSize s (omega (arith, l)) ∙ z in
     new-living s 0 (omega (arith, l)) (f ∙ begin-set s 0 (omega (arith, l)) p)
 
-pub start-tree-is : {file : List ℕ} {p n : ℕ} {s s₁ is l o : List ℕ} {x : Change} → n ≡ 4096 → s ≡ replicate n 0
-    → s₁ ≡ set (set (set s 0 1) (0 + 2) 5) (0 + 18) 6 → is ≡ pathIds file p → Replaces s₁ 0 is l o x → StartTree file p l o x
+pub start-tree-is : {file : List ℕ} {p n : ℕ} {s s₁ is l o : List ℕ} {x : Change} → n ≡ slotSize → s ≡ replicate n 0
+    → s₁ ≡ begun s 0 → is ≡ pathIds file p → Replaces s₁ 0 is l o x → StartTree file p l o x
 start-tree-is {file} {p} {n} {s} {s₁} {is} {l} {o} {x} k e f d h = record {
   tells = λ w q m g.
       subst (λ (y : Path). ChangedTo o x (replaceAt voidValue y m end)) (ap ids.pathOf d ∙ path-is file p)
@@ -206,41 +173,27 @@ start-tree-is {file} {p} {n} {s} {s₁} {is} {l} {o} {x} k e f d h = record {
 }
 
 made-with : (F : Forest Value) → trees.WellFormed trees.treeDeep trees.treeMany (tree trees.empty F)
-    → WellMade (record { tree = F; queue = []; progress = newSession .progress })
-made-with F w = record { bounded = w; upToFour = new-made .upToFour; messages = new-made .messages; noRowsPast = new-made .noRowsPast }
-
-made-row : {S : Session} → WellMade S → (r : ℕ) (x : Progress) → r < 256
-    → WellMade (record { tree = S .tree; queue = S .queue; progress = advance (S .progress) r x })
-made-row {S} w r x l = record {
-  bounded = w .bounded;
-  upToFour = w .upToFour;
-  messages = w .messages;
-  noRowsPast = advance-past (S .progress) r x l (w .noRowsPast);
-}
+    → WellMade (withTree newSession F)
+made-with F w = made-tree new-made F w
 
 started-made : (F : Forest Value) (c k a : ℕ) (after : Progress) → trees.WellFormed trees.treeDeep trees.treeMany (tree trees.empty F) → c < 256 → a < 256
     → WellMade (startedWith F c k a after)
 started-made F c k a after w l m = made-row (made-row (made-with F w) c (taken k) l) a after m
 
-pub store-start : {s s₁ s₂ s₃ s₄ o : List ℕ} {slot n c k a : ℕ} {after : Progress} → slot + 4096 ≤ length s → n ≤ 1024 → c < 256 → a < 256
-    → s₁ ≡ set (set (set s slot 1) (slot + 2) 5) (slot + 18) 6
-    → s₂ ≡ withPart (withPart s₁ (slot + 2) (u16Bytes n)) (slot + 16) (padded 1024 (take n o))
-    → s₃ ≡ withPart s₂ (slot + 2416 + 6 * c) (progressBytes (taken k))
-    → s₄ ≡ withPart s₃ (slot + 2416 + 6 * a) (progressBytes after)
+pub store-start : {s s₁ s₂ s₃ s₄ o : List ℕ} {slot n c k a : ℕ} {after : Progress} → slot + slotSize ≤ length s → n ≤ 1024 → c < 256 → a < 256
+    → s₁ ≡ begun s slot → s₂ ≡ treeStored s₁ slot o n → s₃ ≡ rowStored s₂ slot c (taken k) → s₄ ≡ rowStored s₃ slot a after
     → StoresStart s slot o n c k a after s₄
 store-start {s} {s₁} {s₂} {s₃} {s₄} {o} {slot} {n} {c} {k} {a} {after} h u lc la e₁ e₂ e₃ e₄ = record {
   tells = λ F t z w free-slot.
-      let S₁ : Session = record { tree = F; queue = []; progress = newSession .progress } in
-      let S₂ : Session = record { tree = F; queue = []; progress = advance (newSession .progress) c (taken k) } in
+      let S₁ : Session = withTree newSession F in
+      let S₂ : Session = withProgress S₁ (advance (newSession .progress) c (taken k)) in
       let S₃ : Session = startedWith F c k a after in
       let m₁ : WellMade S₁ = made-with F w in
       let m₂ : WellMade S₂ = made-row m₁ c (taken k) lc in
       let m₃ : WellMade S₃ = made-row m₂ a after la in
       let b₁ : s₁ ≡ withPart s slot (slotBytes (live newSession)) = e₁ ∙ begin-set s slot h free-slot in
       let v₁ : Living s₁ slot newSession = new-living s slot h b₁ in
-      let b₂ : s₂ ≡ withPart s₁ slot (slotBytes (live S₁)) =
-      e₂ ∙ (ap (λ (y : List ℕ). withPart (withPart s₁ (slot + 2) (u16Bytes n)) (slot + 16) (padded 1024 y)) t
-      ∙ (ap (λ (i : ℕ). withPart (withPart s₁ (slot + 2) (u16Bytes i)) (slot + 16) (padded 1024 (treeBytes F))) z ∙ tree-set v₁ F (omega (arith, z, u)))) in
+      let b₂ : s₂ ≡ withPart s₁ slot (slotBytes (live S₁)) = e₂ ∙ tree-set v₁ F o n t z u in
       let v₂ : Living s₂ slot S₁ = subst (λ (y : List ℕ). Living y slot S₁) (sym b₂) (living-set v₁ S₁ m₁) in
       let b₃ : s₃ ≡ withPart s₂ slot (slotBytes (live S₂)) = e₃ ∙ row-set v₂ c (taken k) lc in
       let v₃ : Living s₃ slot S₂ = subst (λ (y : List ℕ). Living y slot S₂) (sym b₃) (living-set v₂ S₂ m₂) in
@@ -291,30 +244,26 @@ pub ruleset by-laws = (by-large, by-long, by-far-choice, by-far-input, by-kept)
 
 -- ---- a session started by its input
 
-module _ {file s l s′ : List ℕ} {slot c k a : ℕ} {to : ReplyTo} {x : Input} {o : Outcome} (h : InputAt file a x) where
-  pub start-one-way : {p : ℕ} → x ≡ Input.OneWay p → StartsBy file s slot c k a p done l s′ o → Starts file s slot c k a to l s′ o
-  start-one-way {p} e d = record {
-    tells = λ w lc la free-slot v i m g.
-        let y = subst (λ (z : Input). InputIs file a (behaviourOf file a) z) e (h .tells w la) in
-        subst (λ (b : Behaviour). Saved s slot (started c k b to m) s′ o) (sym (y .1)) (d .tells w lc la (y .2) free-slot m g);
+module _ (file s l s′ : List ℕ) (slot c k a : ℕ) (to : ReplyTo) {x : InputRow} {o : Outcome} (h : x ≡ inputRowOf file a) where
+  started-as : (y : InputRow) → x ≡ y
+      → (WellFormed file → c < behaviourCount file → a < behaviourCount file → InputKeptBy file (behaviourCount file) y → (m : Tree Value) → trees.Message l m
+      → StartedAs (inputWith file (behaviourOf file) a y) s slot c k to m s′ o) → Starts file s slot c k a to l s′ o
+  started-as y e f = record {
+    tells = λ w lc la m g.
+        let i = input-is file w a (behaviourCount file) (record { exists = la; enough = omega arith }) h e in
+        subst (λ (z : Optional Input). StartedAs z s slot c k to m s′ o) (sym (i .0)) (f w lc la (i .1) m g);
   }
 
-  pub start-request : {p : ℕ} {after : Progress} → x ≡ Input.RequestResponse p → after ≡ received to → StartsBy file s slot c k a p after l s′ o
-      → Starts file s slot c k a to l s′ o
-  start-request {p} {after} e f d = record {
-    tells = λ w lc la free-slot v i m g.
-        let y = subst (λ (z : Input). InputIs file a (behaviourOf file a) z) e (h .tells w la) in
-        let q = d .tells w lc la (y .2) free-slot m g in
-        subst (λ (b : Behaviour). Saved s slot (started c k b to m) s′ o) (sym (y .1 .2))
-        (subst (λ (z : Progress). Saved s slot (startedBy c k a (network.pathOf file p) z m) s′ o) f q);
-  }
+  pub start-one-way : {p q : ℕ} → x ≡ InputRow.OneWay p q → StartsBy file s slot c k a q done l s′ o → Starts file s slot c k a to l s′ o
+  start-one-way {p} {q} e d = started-as (InputRow.OneWay p q) e (λ w lc la i m g free-slot. d .tells w lc la (i .1) free-slot m g)
 
-  pub start-none : x ≡ Input.Nothing → Starts file s slot c k a to l s′ o
-  start-none e = record {
-    tells = λ w lc la free-slot v i m g.
-        let y = subst (λ (z : Input). InputIs file a (behaviourOf file a) z) e (h .tells w la) in
-        absurd (let u = y v in let z : _≡_ {A = ℕ} 0 1 = cc in omega arith);
-  }
+  pub start-request : {p q u v : ℕ} {after : Progress} → x ≡ InputRow.RequestResponse p q u v → after ≡ received to
+      → StartsBy file s slot c k a q after l s′ o → Starts file s slot c k a to l s′ o
+  start-request {p} {q} {u} {v} e f d = started-as (InputRow.RequestResponse p q u v) e (λ w lc la i m g free-slot.
+      subst (λ (z : Progress). Saved s slot (startedBy c k a (network.pathOf file q) z m) s′ o) f (d .tells w lc la (i .1) free-slot m g))
+
+  pub start-none : x ≡ InputRow.Nothing → o ≡ refusedBy MoveNotAllowed → s′ ≡ s → Starts file s slot c k a to l s′ o
+  start-none e f z = started-as InputRow.Nothing e (λ w lc la i m g. (f, z))
 
 pub ruleset start-laws = (start-one-way, start-request, start-none)
 
@@ -331,49 +280,45 @@ module _ {file l t : List ℕ} {p : ℕ} {x : Change} (h : StartTree file p l t 
 
 pub ruleset path-laws = (path-kept, path-large)
 
-module _ {file l : List ℕ} {a : ℕ} {x : Input} (h : InputAt file a x) where
-  pub within-one-way : {p : ℕ} {b : Bool} → x ≡ Input.OneWay p → PathWithin file p l b → InputWithin file a l b
-  within-one-way {p} {b} e d = record {
-    tells = λ w la v i c k to m g.
-        let y = subst (λ (z : Input). InputIs file a (behaviourOf file a) z) e (h .tells w la) in
-        subst (λ (z : Behaviour). b ≡ within (started c k z to m .tree)) (sym (y .1)) (d .tells w (y .2) m g);
+module _ (file l : List ℕ) (a : ℕ) {x : InputRow} (h : x ≡ inputRowOf file a) where
+  within-as : (y : InputRow) {b : Bool} → x ≡ y
+      → (WellFormed file → InputKeptBy file (behaviourCount file) y → (c k : ℕ) (to : ReplyTo) (m : Tree Value) → trees.Message l m
+      → b ≡ startWithin (startWith c k (inputWith file (behaviourOf file) a y)) to m) → InputWithin file a l b
+  within-as y {b} e f = record {
+    tells = λ w la c k to m g.
+        let i = input-is file w a (behaviourCount file) (record { exists = la; enough = omega arith }) h e in
+        subst (λ (z : Optional Input). b ≡ startWithin (startWith c k z) to m) (sym (i .0)) (f w (i .1) c k to m g);
   }
 
-  pub within-request : {p : ℕ} {b : Bool} → x ≡ Input.RequestResponse p → PathWithin file p l b → InputWithin file a l b
-  within-request {p} {b} e d = record {
-    tells = λ w la v i c k to m g.
-        let y = subst (λ (z : Input). InputIs file a (behaviourOf file a) z) e (h .tells w la) in
-        subst (λ (z : Behaviour). b ≡ within (started c k z to m .tree)) (sym (y .1 .2)) (d .tells w (y .2) m g);
-  }
+  pub within-one-way : {p q : ℕ} {b : Bool} → x ≡ InputRow.OneWay p q → PathWithin file q l b → InputWithin file a l b
+  within-one-way {p} {q} e d = within-as (InputRow.OneWay p q) e (λ w i c k to m g. d .tells w (i .1) m g)
 
-  pub within-none : {b : Bool} → x ≡ Input.Nothing → InputWithin file a l b
-  within-none e = record {
-    tells = λ w la v i c k to m g.
-        let y = subst (λ (z : Input). InputIs file a (behaviourOf file a) z) e (h .tells w la) in
-        absurd (let u = y v in let z : _≡_ {A = ℕ} 0 1 = cc in omega arith);
-  }
+  pub within-request : {p q u v : ℕ} {b : Bool} → x ≡ InputRow.RequestResponse p q u v → PathWithin file q l b → InputWithin file a l b
+  within-request {p} {q} {u} {v} e d = within-as (InputRow.RequestResponse p q u v) e (λ w i c k to m g. d .tells w (i .1) m g)
+
+  pub within-none : x ≡ InputRow.Nothing → InputWithin file a l true
+  within-none e = within-as InputRow.Nothing e (λ w i c k to m g. refl)
 
 pub ruleset input-within-laws = (within-one-way, within-request, within-none)
 
 module _ {file l : List ℕ} {t : Target} where
   pub within-no-target : t ≡ Target.NoTarget → StartsWithin file t l true
   unfolding targetAs
-  within-no-target e = record { tells = λ w se G o n te to m g. ap (λ (y : Target). startWithin (targetAs file y) to m) (sym e) }
+  within-no-target e = record { tells = λ w se to m g. ap (λ (y : Target). startWithin (targetAs file y) to m) (sym e) }
 
   pub within-full : t ≡ Target.QueueFull → StartsWithin file t l true
   unfolding targetAs
-  within-full e = record { tells = λ w se G o n te to m g. ap (λ (y : Target). startWithin (targetAs file y) to m) (sym e) }
+  within-full e = record { tells = λ w se to m g. ap (λ (y : Target). startWithin (targetAs file y) to m) (sym e) }
 
   pub within-queued : t ≡ Target.Queued → StartsWithin file t l true
   unfolding targetAs
-  within-queued e = record { tells = λ w se G o n te to m g. ap (λ (y : Target). startWithin (targetAs file y) to m) (sym e) }
+  within-queued e = record { tells = λ w se to m g. ap (λ (y : Target). startWithin (targetAs file y) to m) (sym e) }
 
   pub within-starts : {c k a : ℕ} {b : Bool} → t ≡ Target.Starts c k a → InputWithin file a l b → StartsWithin file t l b
   unfolding targetAs
   within-starts {c} {k} {a} {b} e h = record {
-    tells = λ w se G o n te to m g.
-        let z = subst (Known G o n) (sym te ∙ ap (targetAs file) e) (target-known (networkOf file) G o n) in
-        h .tells w (subst (StarterExists file) e se .1) (o .row) (z .1) c k to m g ∙ ap (λ (y : Target). startWithin (targetAs file y) to m) (sym e);
+    tells = λ w se to m g.
+        h .tells w (subst (StarterExists file) e se .1) c k to m g ∙ ap (λ (y : Target). startWithin (targetAs file y) to m) (sym e);
   }
 
 pub ruleset within-laws = (within-no-target, within-full, within-queued, within-starts)
@@ -395,7 +340,7 @@ pub ruleset queue-laws = (queue-far, queue-long, queue-pushed)
 -- ---- delivering
 
 -- The slot of a session that keeps to its limits, or 18.
-saved-step : {s s′ : List ℕ} {G : State} {q n slot : ℕ} (S : Session) {o : Outcome} → Holding s G → q < 4 → n < 4 → slot ≡ 4096 * (4 * q + n) → (b : Bool)
+saved-step : {s s′ : List ℕ} {G : State} {q n slot : ℕ} (S : Session) {o : Outcome} → Holding s G → q < 4 → n < 4 → slot ≡ slotStart q n → (b : Bool)
     → KeptOr b s slot S s′ o → (out : List ℕ)
     → _≡_ {A = Step} (record { outcome = o; state = s′; out = out }) (finish s out (require b Stuck (moved (setSlot G q n (live S)) [])))
 saved-step {s} {s′} {G} {q} {n} {slot} S {o} h i j e true d out =
@@ -442,13 +387,13 @@ module _ {file l s : List ℕ} {i n b q : ℕ} {t : Target} {to : ReplyTo} (x : 
         ∙ ap (λ (u : Target). finish s out (deliver G (operationOf file i) n (targetAs file u) to m)) (sym f);
   }
 
-  module _ {s′ : List ℕ} {v w : ℕ} {o : Outcome} (lq : q ≤ 3) (ln : n ≤ 3) (c : v ≡ q) (d : w ≡ n) where
-    pub to-queue : t ≡ Target.Queued → Queues s (4096 * (4 * v + w)) i to l s′ o → Delivers file i n t to l s s′ o
+  module _ {s′ : List ℕ} {slot : ℕ} {o : Outcome} (lq : q ≤ 3) (ln : n ≤ 3) (c : slot ≡ slotStart q n) where
+    pub to-queue : t ≡ Target.Queued → Queues s slot i to l s′ o → Delivers file i n t to l s s′ o
     unfolding targetAs operationOf
     to-queue f h = record {
       tells = λ wf li G g se te m k out.
           let op = operationOf file i in
-          let at : 4096 * (4 * v + w) ≡ 4096 * (4 * op .service + n) = omega (arith, c, d, is-service file i x y) in
+          let at : slot ≡ slotStart (op .service) n = c ∙ ap (λ (j : ℕ). slotStart j n) (sym (is-service file i x y)) in
           let below : op .service < 4 = omega (arith, lq, is-service file i x y) in
           let z = subst (Known G op n) (sym te ∙ ap (targetAs file) f) (target-known (networkOf file) G op n) in
           let S = z .0 in
@@ -456,7 +401,7 @@ module _ {file l s : List ℕ} {i n b q : ℕ} {t : Target} {to : ReplyTo} (x : 
           let made : WellMade S = subst (λ (u : Slot). MadeSlot u) (z .1) (g .made (op .service) n below (omega (arith, ln))) in
           let new : Queued = record { operation = i; message = m; replyTo = to } in
           let bytes : s′ ≡ stateBytes (setSlot G (op .service) n (live (withQueue S (S .queue ++ (new ∷ []))))) =
-          r .1 ∙ (ap (λ (j : ℕ). pushed s j i to l) at ∙ (ap (λ (u : List ℕ). pushed u (4096 * (4 * op .service + n)) i to l) (g .bytes)
+          r .1 ∙ (ap (λ (j : ℕ). pushed s j i to l) at ∙ (ap (λ (u : List ℕ). pushed u (slotStart (op .service) n) i to l) (g .bytes)
           ∙ push-state (holding-sized g) (op .service) n below (omega (arith, ln)) (z .1) made i to m l (z .2) (k .bytes) (k .good))) in
           ap (λ (u : Outcome). record { outcome = u; state = s′; out = out }) (r .0)
           ∙ (ap (λ (u : List ℕ). record { outcome = doneWith 0; state = u; out = out }) bytes
@@ -464,21 +409,29 @@ module _ {file l s : List ℕ} {i n b q : ℕ} {t : Target} {to : ReplyTo} (x : 
           ∙ ap (λ (u : Target). finish s out (deliver G op n (targetAs file u) to m)) (sym f)));
     }
 
-    pub to-start : {e k a : ℕ} → t ≡ Target.Starts e k a → Starts file s (4096 * (4 * v + w)) e k a to l s′ o → Delivers file i n t to l s s′ o
+    pub to-start : {e k a : ℕ} → t ≡ Target.Starts e k a → Starts file s slot e k a to l s′ o → Delivers file i n t to l s s′ o
     unfolding targetAs
     to-start {e} {k} {a} f h = record {
       tells = λ wf li G g se te m u out.
-          let op = operationOf file i in
-          let at : 4096 * (4 * v + w) ≡ 4096 * (4 * op .service + n) = omega (arith, c, d, is-service file i x y) in
-          let below : op .service < 4 = omega (arith, lq, is-service file i x y) in
-          let z = subst (Known G op n) (sym te ∙ ap (targetAs file) f) (target-known (networkOf file) G op n) in
           let rows = subst (StarterExists file) f se in
-          let empty : part s (4096 * (4 * v + w)) 4096 ≡ slotBytes free =
-          ap (λ (j : ℕ). part s j 4096) at ∙ (holding-part g (op .service) n below (omega (arith, ln)) ∙ ap slotBytes (z .0)) in
-          let S = started e k (behaviourOf file a) to m in
-          let r = h .tells wf (rows .0) (rows .1) empty (op .row) (z .1) m u in
-          saved-step S g below (omega (arith, ln)) at (within (S .tree)) r out
-          ∙ ap (λ (y : Target). finish s out (deliver G op n (targetAs file y) to m)) (sym f);
+          by G g m out te (inputOf (behaviourOf file a)) refl (h .tells wf (rows .0) (rows .1) m u)
+          ∙ ap (λ (y : Target). finish s out (deliver G (operationOf file i) n (targetAs file y) to m)) (sym f);
     }
+      where
+        by : (G : State) → Holding s G → (m : Tree Value) (out : List ℕ) → targetAs file t ≡ definition.target (networkOf file) G (operationOf file i) n
+            → (z : Optional Input) → inputOf (behaviourOf file a) ≡ z → StartedAs z s slot e k to m s′ o
+            → _≡_ {A = Step} (record { outcome = o; state = s′; out = out }) (finish s out (deliver G (operationOf file i) n (startWith e k z) to m))
+        by G g m out te none j r =
+            ap (λ (z : Outcome). record { outcome = z; state = s′; out = out }) (r .0)
+            ∙ ap (λ (z : List ℕ). record { outcome = refusedBy MoveNotAllowed; state = z; out = out }) (r .1)
+        by G g m out te (some z) j r =
+            let op = operationOf file i in
+            let at : slot ≡ slotStart (op .service) n = c ∙ ap (λ (j : ℕ). slotStart j n) (sym (is-service file i x y)) in
+            let below : op .service < 4 = omega (arith, lq, is-service file i x y) in
+            let known = subst (Known G op n) (sym te ∙ (ap (targetAs file) f ∙ ap (startWith e k) j)) (target-known (networkOf file) G op n) in
+            let empty : part s slot slotSize ≡ slotBytes free =
+            ap (λ (q : ℕ). part s q slotSize) at ∙ (holding-part g (op .service) n below (omega (arith, ln)) ∙ ap slotBytes known) in
+            let S = started e k z to m in
+            saved-step S g below (omega (arith, ln)) at (within (S .tree)) (r empty) out
 
 pub ruleset deliver-laws = (far-service, far-session, to-none, to-full, to-queue, to-start)

@@ -2,9 +2,9 @@
 -- branch of that operation receives it"; 18: "a message that passes 19 would take a tree past 48 nodes or 6 levels".
 use mathlib.Core.Path.{_≡_}
 use mathlib.Core.Bool.{Bool, true, false, _&&_}
-use mathlib.Core.List.{List, []}
+use mathlib.Core.List.{List}
 use mathlib.Core.Logic.{_⊎_}
-use Prim.Native.Nat.{ℕ, _+_, _<_, _≤_}
+use Prim.Native.Nat.{ℕ, _<_, _≤_}
 use lib.ListN.{length, take}
 use Rattle.forest.specs.Forest.{Forest, end, Tree, tree}
 use Rattle.forest.specs.Path.{replaceAt}
@@ -15,25 +15,26 @@ use Rattle.refusal.specs.declared.Verdict.{Verdict}
 use Rattle.refusal.specs.declared.Verdict.the-variants.{Done, Refused}
 use Rattle.refusal.specs.declared.Outcome.{Outcome}
 use Rattle.refusal.specs.Refusal.{doneWith, refusedBy}
-use Rattle.syntax.specs.Syntax.{Operation, Behaviour, oneWay, requestResponse}
+use Rattle.syntax.specs.Syntax.{Optional, none, some}
+use Rattle.syntax.specs.Rows.{Input, inputOf}
 use Rattle.tree.specs.Encode as trees
 use Rattle.subtyping.specs.Own.{fits}
 use Rattle.typing.specs.Environment.{within}
 use Rattle.network.specs.Form.{WellFormed}
 use Rattle.network.specs.Layout.{pathCount, typeCount, behaviourCount, operationCount}
 use Rattle.network.specs.Decode.{pathOf, typeOf, behaviourOf, operationOf, networkOf}
-use Rattle.state.specs.Session.{ReplyTo, Progress, taken, advance, Session, Slot, free, live, State, newSession}
+use Rattle.state.specs.Places.{slotSize}
+use Rattle.state.specs.Session.{ReplyTo, Progress, taken, advance, Session, withTree, withProgress, free, live, State, newSession}
 use Rattle.state.specs.Bytes.{treeBytes, slotBytes, stateBytes}
 use Rattle.state.specs.Shape.{WellMade, MadeSlot}
 use Rattle.moves.specs.Targets as definition
-use Rattle.moves.specs.Moves.{Result, refused, require, permitsInput, allowed, voidValue, isMessageTree, startedBy, started, deliver}
+use Rattle.moves.specs.Moves.{Result, refused, require, allowed, voidValue, isMessageTree, startedBy, started, deliver}
 use Rattle.moves.specs.Step.{Step, finish}
 use Rattle.session_trees.specs.declared.Change.{Change}
 use Rattle.session_trees.specs.Changing.{ChangedTo}
 use Rattle.targets.specs.declared.Target.{Target}
-use Rattle.targets.specs.Answers.{targetAs, StarterExists}
+use Rattle.targets.specs.Answers.{startWith, passesInput, targetAs, StarterExists}
 use Rattle.queues.specs.Queue.{pushed}
-use Rattle.delivery.specs.declared.Input.{Input}
 
 -- The bytes s are those of the state G, whose slots are those of sessions. Every state of a file's shape is such a state, and so is one in which
 -- the sender of a message has gone on.
@@ -49,7 +50,7 @@ onVerdict (Refused why) r = refused why
 
 -- 15: ".. has an operation that 6 refuses", at the input of B row a.
 pub record Permitted (file : List ℕ) (q a : ℕ) (v : Verdict) : Type 0 where
-  pub tells : a < behaviourCount file → (r : Result) → onVerdict v r ≡ require (permitsInput q (behaviourOf file a)) MoveNotAllowed r
+  pub tells : a < behaviourCount file → (r : Result) → onVerdict v r ≡ require (passesInput q (inputOf (behaviourOf file a))) MoveNotAllowed r
 
 -- 15 and 16, as moves' `allowed` has them.
 pub record Allowed (file : List ℕ) (q : ℕ) (t : Target) (v : Verdict) : Type 0 where
@@ -60,27 +61,17 @@ pub record MustFit (l file : List ℕ) (r : ℕ) (x : Bool) : Type 0 where
   pub tells : WellFormed file → r < typeCount file → (t : Tree Value) → trees.Encodes trees.treeDeep trees.treeMany l t
       → x ≡ (isMessageTree t && fits t (typeOf file r))
 
--- B row a is an input into the path of P row p; or none, of any operation.
-abbrev pub InputIs : List ℕ → ℕ → Behaviour → Input → Type 0
-InputIs file a b (Input.OneWay p) = (o : Operation) × (b ≡ oneWay a o (pathOf file p)) × (p < pathCount file)
-InputIs file a b (Input.RequestResponse p) =
-    (o : Operation) × ((c : ℕ) × (d : Behaviour) × (b ≡ requestResponse a o (pathOf file p) (pathOf file c) d)) × (p < pathCount file)
-InputIs file a b Input.Nothing = (w : ℕ) → definition.isInputOf w b ≡ false
-
-pub record InputAt (file : List ℕ) (a : ℕ) (x : Input) : Type 0 where
-  pub tells : WellFormed file → a < behaviourCount file → InputIs file a (behaviourOf file a) x
-
 -- The tree of a session that starts with a message into the path of P row p.
 pub record StartTree (file : List ℕ) (p : ℕ) (l o : List ℕ) (x : Change) : Type 0 where
   pub tells : WellFormed file → p < pathCount file → (m : Tree Value) → trees.Message l m → ChangedTo o x (replaceAt voidValue (pathOf file p) m end)
 
 -- The session with the tree F, the branch k of the choice c taken and the row a at `after`.
 abbrev pub startedWith : Forest Value → ℕ → ℕ → ℕ → Progress → Session
-startedWith F c k a after = record { tree = F; queue = []; progress = advance (advance (newSession .progress) c (taken k)) a after }
+startedWith F c k a after = withProgress (withTree newSession F) (advance (advance (newSession .progress) c (taken k)) a after)
 
 pub record StoresStart (s : List ℕ) (slot : ℕ) (o : List ℕ) (n c k a : ℕ) (after : Progress) (s′ : List ℕ) : Type 0 where
   pub tells : (F : Forest Value) → take n o ≡ treeBytes F → n ≡ length (treeBytes F) → trees.WellFormed trees.treeDeep trees.treeMany (tree trees.empty F)
-      → part s slot 4096 ≡ slotBytes free → s′ ≡ withPart s slot (slotBytes (live (startedWith F c k a after)))
+      → part s slot slotSize ≡ slotBytes free → s′ ≡ withPart s slot (slotBytes (live (startedWith F c k a after)))
 
 -- The slot holds the session S if that keeps to its limits; otherwise 18, and all bytes stay.
 abbrev pub KeptOr : Bool → List ℕ → ℕ → Session → List ℕ → Outcome → Type 0
@@ -92,31 +83,34 @@ Saved s slot S s′ o = KeptOr (within (S .tree)) s slot S s′ o
 
 -- A free slot's session started by the branch k of the choice c: by its input's path, and by its input.
 pub record StartsBy (file s : List ℕ) (slot c k a p : ℕ) (after : Progress) (l s′ : List ℕ) (o : Outcome) : Type 0 where
-  pub tells : WellFormed file → c < behaviourCount file → a < behaviourCount file → p < pathCount file → part s slot 4096 ≡ slotBytes free
+  pub tells : WellFormed file → c < behaviourCount file → a < behaviourCount file → p < pathCount file → part s slot slotSize ≡ slotBytes free
       → (m : Tree Value) → trees.Message l m → Saved s slot (startedBy c k a (pathOf file p) after m) s′ o
 
+-- 15 without an input.
+abbrev pub StartedAs : Optional Input → List ℕ → ℕ → ℕ → ℕ → ReplyTo → Tree Value → List ℕ → Outcome → Type 0
+StartedAs none s slot c k to m s′ o = (o ≡ refusedBy MoveNotAllowed) × (s′ ≡ s)
+StartedAs (some i) s slot c k to m s′ o = part s slot slotSize ≡ slotBytes free → Saved s slot (started c k i to m) s′ o
+
 pub record Starts (file s : List ℕ) (slot c k a : ℕ) (to : ReplyTo) (l s′ : List ℕ) (o : Outcome) : Type 0 where
-  pub tells : WellFormed file → c < behaviourCount file → a < behaviourCount file → part s slot 4096 ≡ slotBytes free
-      → (w : ℕ) → definition.isInputOf w (behaviourOf file a) ≡ true → (m : Tree Value) → trees.Message l m
-      → Saved s slot (started c k (behaviourOf file a) to m) s′ o
+  pub tells : WellFormed file → c < behaviourCount file → a < behaviourCount file → (m : Tree Value) → trees.Message l m
+      → StartedAs (inputOf (behaviourOf file a)) s slot c k to m s′ o
 
 -- Does a session that starts so keep to its limits: by its input's path, by its input, and by the message's target? A queued message takes no tree.
 pub record PathWithin (file : List ℕ) (p : ℕ) (l : List ℕ) (x : Bool) : Type 0 where
   pub tells : WellFormed file → p < pathCount file → (m : Tree Value) → trees.Message l m → x ≡ within (replaceAt voidValue (pathOf file p) m end)
 
-pub record InputWithin (file : List ℕ) (a : ℕ) (l : List ℕ) (x : Bool) : Type 0 where
-  pub tells : WellFormed file → a < behaviourCount file → (w : ℕ) → definition.isInputOf w (behaviourOf file a) ≡ true → (c k : ℕ) (to : ReplyTo)
-      (m : Tree Value) → trees.Message l m → x ≡ within (started c k (behaviourOf file a) to m .tree)
-
 abbrev pub startWithin : definition.Target → ReplyTo → Tree Value → Bool
 startWithin definition.noTarget to m = true
 startWithin definition.queueFull to m = true
 startWithin definition.queued to m = true
-startWithin (definition.starts c k a) to m = within (started c k a to m .tree)
+startWithin (definition.starts c k i) to m = within (started c k i to m .tree)
+
+pub record InputWithin (file : List ℕ) (a : ℕ) (l : List ℕ) (x : Bool) : Type 0 where
+  pub tells : WellFormed file → a < behaviourCount file → (c k : ℕ) (to : ReplyTo) (m : Tree Value) → trees.Message l m
+      → x ≡ startWithin (startWith c k (inputOf (behaviourOf file a))) to m
 
 pub record StartsWithin (file : List ℕ) (t : Target) (l : List ℕ) (x : Bool) : Type 0 where
-  pub tells : WellFormed file → StarterExists file t → (G : State) (o : Operation) (n : ℕ) → targetAs file t ≡ definition.target (networkOf file) G o n
-      → (to : ReplyTo) (m : Tree Value) → trees.Message l m → x ≡ startWithin (targetAs file t) to m
+  pub tells : WellFormed file → StarterExists file t → (to : ReplyTo) (m : Tree Value) → trees.Message l m → x ≡ startWithin (targetAs file t) to m
 
 -- One more message of O row i in the queue of the slot's session.
 pub record Queues (s : List ℕ) (slot i : ℕ) (to : ReplyTo) (l s′ : List ℕ) (o : Outcome) : Type 0 where

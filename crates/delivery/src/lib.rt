@@ -3,26 +3,20 @@
 ghost use mathlib.Core.Path.{_≡_};
 ghost use Prim.Native.Nat.{_+_, _≤_, _<_};
 ghost use lib.ListN.{length};
+ghost use Rattle.state.specs.Places.{slotSize, treeRoom};
 ghost use Rattle.state.specs.Session.{received};
 ghost use Rattle.progress.specs.Meaning.{meaning};
 ghost use Rattle.queues.specs.Queue.{replyOf};
-ghost use Rattle.delivery.specs.Delivery.{Permitted, Allowed, MustFit, InputAt, StartTree, StoresStart, StartsBy, Starts};
+ghost use Rattle.delivery.specs.Delivery.{Permitted, Allowed, MustFit, StartTree, StoresStart, StartsBy, Starts};
 ghost use Rattle.delivery.specs.Delivery.{PathWithin, InputWithin, StartsWithin, Queues, Delivers};
 use progress::Progress;
 use queues::ReplyTo;
 use refusal::Outcome;
 use refusal::Refusal;
 use refusal::Verdict;
-use rows::BehaviourRow;
+use rows::InputRow;
 use session_trees::Change;
 use targets::Target;
-
-// An input: the P row into which it receives.
-pub enum Input {
-    OneWay(u16),
-    RequestResponse(u16),
-    Nothing,
-}
 
 // 15: does 6 pass the starter's input, B row a, in service q?
 fn permitted(file: &[u8], q: u16, a: u16) -> Verdict
@@ -57,17 +51,6 @@ pub fn must_fit(message: &[u8], file: &[u8], r: u16) -> bool
     types::fits(message, file, r)
 }
 
-// The input of B row a.
-fn input_at(file: &[u8], a: u16) -> Input
-    ensures { λ x. ⌜ InputAt (now (file .entry)) a x ⌝ }
-{
-    match rows::behaviour_row(file, a) {
-        BehaviourRow::OneWay(_, p) => Input::OneWay(p),
-        BehaviourRow::RequestResponse(_, p, _, _) => Input::RequestResponse(p),
-        _ => Input::Nothing,
-    }
-}
-
 // The progress of a request-response that was received.
 fn received(to: ReplyTo) -> Progress
     ensures { λ x. ⌜ meaning x ≡ received (replyOf to) ⌝ }
@@ -84,7 +67,7 @@ fn start_tree(out: &mut [u8], file: &[u8], p: u16, message: &[u8]) -> Change
     requires { ⌜ 2304 ≤ length (now out) ⌝ }
     ensures { λ x. ⌜ StartTree (now (file .entry)) p (now (message .entry)) (now (out .exit)) x ⌝ }
 {
-    let mut slot = [0u8; 4096];
+    let mut slot = [0u8; state::SLOT];
     slots::begin(&mut slot, 0);
     session_trees::replace(out, &slot, 0, rows::path_row(file, p), message)
 }
@@ -100,7 +83,7 @@ fn store_start(
     a: u16,
     after: Progress,
 )
-    requires { ⌜ (slot + 4096 ≤ length (now state)) × (n ≤ 1024) × (n ≤ length (now tree)) × (c < 256) × (a < 256) ⌝ }
+    requires { ⌜ (slot + slotSize ≤ length (now state)) × (n ≤ treeRoom) × (n ≤ length (now tree)) × (c < 256) × (a < 256) ⌝ }
     ensures { λ _. ⌜ StoresStart (now (state .entry)) slot (now (tree .entry)) n c k a (meaning after) (now (state .exit)) ⌝ }
 {
     slots::begin(state, slot);
@@ -121,7 +104,7 @@ fn start_by(
     after: Progress,
     message: &[u8],
 ) -> Outcome
-    requires { ⌜ slot + 4096 ≤ length (now state) ⌝ }
+    requires { ⌜ slot + slotSize ≤ length (now state) ⌝ }
     ensures { λ o. ⌜ StartsBy (now (file .entry)) (now (state .entry)) slot c k a p (meaning after) (now (message .entry)) (now (state .exit)) o ⌝ }
 {
     let mut tree = [0u8; 2304];
@@ -153,15 +136,15 @@ fn start(
     to: ReplyTo,
     message: &[u8],
 ) -> Outcome
-    requires { ⌜ slot + 4096 ≤ length (now state) ⌝ }
+    requires { ⌜ slot + slotSize ≤ length (now state) ⌝ }
     ensures { λ o. ⌜ Starts (now (file .entry)) (now (state .entry)) slot c k a (replyOf to) (now (message .entry)) (now (state .exit)) o ⌝ }
 {
-    match input_at(file, a) {
-        Input::OneWay(p) => start_by(file, state, slot, c, k, a, p, Progress::Done, message),
-        Input::RequestResponse(p) => {
+    match rows::input_of(file, a) {
+        InputRow::OneWay(_, p) => start_by(file, state, slot, c, k, a, p, Progress::Done, message),
+        InputRow::RequestResponse(_, p, _, _) => {
             start_by(file, state, slot, c, k, a, p, received(to), message)
         }
-        Input::Nothing => refusal::refused(Refusal::MoveNotAllowed),
+        InputRow::Nothing => refusal::refused(Refusal::MoveNotAllowed),
     }
 }
 
@@ -180,10 +163,10 @@ fn path_within(file: &[u8], p: u16, message: &[u8]) -> bool
 fn input_within(file: &[u8], a: u16, message: &[u8]) -> bool
     ensures { λ x. ⌜ InputWithin (now (file .entry)) a (now (message .entry)) x ⌝ }
 {
-    match input_at(file, a) {
-        Input::OneWay(p) => path_within(file, p, message),
-        Input::RequestResponse(p) => path_within(file, p, message),
-        Input::Nothing => true,
+    match rows::input_of(file, a) {
+        InputRow::OneWay(_, p) => path_within(file, p, message),
+        InputRow::RequestResponse(_, p, _, _) => path_within(file, p, message),
+        InputRow::Nothing => true,
     }
 }
 
@@ -201,7 +184,7 @@ pub fn starts_within(file: &[u8], target: Target, message: &[u8]) -> bool
 
 // Queues the message of O row i at the live session of the slot.
 fn queue(state: &mut [u8], slot: usize, i: u16, to: ReplyTo, message: &[u8]) -> Outcome
-    requires { ⌜ slot + 4096 ≤ length (now state) ⌝ }
+    requires { ⌜ slot + slotSize ≤ length (now state) ⌝ }
     ensures { λ o. ⌜ Queues (now (state .entry)) slot i (replyOf to) (now (message .entry)) (now (state .exit)) o ⌝ }
 {
     if 254 < i {
@@ -235,7 +218,7 @@ pub fn deliver(
     if 3 < n {
         return refusal::refused(Refusal::MoveNotAllowed);
     }
-    let slot = 4096 * (4 * wire::index(q) + wire::index(n));
+    let slot = state::slot_start(q, n);
     match target {
         Target::NoTarget => refusal::refused(Refusal::MoveNotAllowed),
         Target::QueueFull => refusal::refused(Refusal::QueueFull),

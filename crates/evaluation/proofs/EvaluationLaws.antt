@@ -2,7 +2,7 @@
 use Prim.Native.Nat.{ℕ, _+_, _-_, _<_, _≤_}
 use mathlib.Core.Path.{_≡_, refl, sym, _∙_, ap, subst}
 use mathlib.Core.List.{List}
-use mathlib.Core.Bool.{Bool, true, false, _||_}
+use mathlib.Core.Bool.{Bool, true, false}
 use native.Mathlib.Omega.{arith}
 use lib.ListN.{length}
 use lib.Dec.{leb}
@@ -13,7 +13,7 @@ use Rattle.scalar.specs.Value.{Value, value, pick, isValue}
 use Rattle.scalar.specs.Operator.{ofBool}
 use Rattle.scalar.specs.Scalar.{valueOf}
 use Rattle.scalar.specs.declared.Operand.{Operand}
-use Rattle.syntax.specs.Syntax.{Optional, none, some, Expression, constant, valueAt, presence, unary, binary}
+use Rattle.syntax.specs.Syntax.{Expression, constant, valueAt, presence, unary, binary}
 use Rattle.tree.specs.Encode.{Encodes, empty, payload, treeDeep, treeMany}
 use Rattle.tree.specs.EncodeLaws.{sized, got, and-right}
 use Rattle.tree.specs.Decode as bytes
@@ -31,27 +31,28 @@ use Rattle.rows.specs.Readers.{pathIds}
 use Rattle.row_parts.specs.Parts.{unaryOf, binaryOf}
 use Rattle.row_parts.specs.declared.UnaryOperator.{UnaryOperator}
 use Rattle.row_parts.specs.declared.BinaryOperator.{BinaryOperator}
-use Rattle.moves.specs.Evaluation.{leaf, found, isThere, applyUnary, applyBinary, onRoot, asLeaf, evaluate}
+use Rattle.moves.specs.Evaluation.{Evaluation, missing, wrongKind, given, leaf, found, isThere, applyUnary, applyBinary, onRoot, asLeaf, evaluate}
 use Rattle.row_parts.specs.PathLaws.{path-is, ids-path}
 use Rattle.evaluation.specs.declared.Source.{Source}
 use Rattle.evaluation.specs.declared.Evaluated.{Evaluated}
 use Rattle.row_parts.specs.declared.Part.{Part}
 use Rattle.row_parts.specs.Parts.{partOf}
-use Rattle.evaluation.specs.Evaluated.{isStuck, literal, unaryOn, binaryOn, AloneAs, Computes, SourceOf, StandsFor, StandsAt, Reads}
+use Rattle.evaluation.specs.Evaluated.{onSource, literal, unaryOn, binaryOn, AloneAs, Computes, SourceOf, StandsFor, StandsAt, Reads}
 use Rattle.evaluation.specs.Evaluated.{Presents, Evaluates}
 use Rattle.row_parts.specs.PartLaws.{part-is}
 
 -- ---- what is alone stands for a leaf
 
-source-alone : (s : List ℕ) (k : Source) (v : Operand) (w : Optional Value) → AloneAs k v w → SourceOf s k v (asLeaf w)
+source-alone : (s : List ℕ) (k : Source) (v : Operand) (w : Evaluation Value) → AloneAs k v w → SourceOf s k v (asLeaf w)
 source-alone s (Source.At at) v w h = absurd h
 source-alone s Source.Alone v w h = ap asLeaf h
-source-alone s Source.Stuck v w h = ap asLeaf h
+source-alone s Source.Missing v w h = ap asLeaf h
+source-alone s Source.Wrong v w h = ap asLeaf h
 
-stands-alone : (s : List ℕ) {x : Evaluated} {w : Optional Value} → Computes x w → StandsFor s x (asLeaf w)
+stands-alone : (s : List ℕ) {x : Evaluated} {w : Evaluation Value} → Computes x w → StandsFor s x (asLeaf w)
 stands-alone s {x} {w} h = source-alone s (x .source) (x .root) w (h .gives)
 
-stands-as : (s : List ℕ) (x : Evaluated) {f g : Optional (Tree Value)} → f ≡ g → StandsFor s x f → StandsFor s x g
+stands-as : (s : List ℕ) (x : Evaluated) {f g : Evaluation (Tree Value)} → f ≡ g → StandsFor s x f → StandsFor s x g
 stands-as s x e h = subst (StandsFor s x) e h
 
 -- ---- the tree at a place
@@ -75,7 +76,7 @@ module _ (s : List ℕ) (at : ℕ) {i b c m : ℕ} {h : Head} (p : h ≡ bytes.h
   pub tree-there : (v : Operand) → valueOf v ≡ value b (part s (at + 5) (m - at - 5)) → StandsAt s at (record { source = Source.At at; root = v })
   tree-there v e = record { tells = tells }
     where
-      tells : (j : ℕ) (t : Tree Value) → Root s at j t → StandsFor s (record { source = Source.At at; root = v }) (some t)
+      tells : (j : ℕ) (t : Tree Value) → Root s at j t → StandsFor s (record { source = Source.At at; root = v }) (given t)
       tells j (tree (value d u) ks) w =
           let y = root-seen s at j d u ks w h i b c m p q in
           record {
@@ -102,38 +103,35 @@ module _ (file s : List ℕ) (p : ℕ) {ids : List ℕ} {y : Found} (d : ids ≡
       subst (λ (q : Path). Spot s (lastId (pathOf ids)) z (read q F)) (ap pathOf d ∙ path-is file p)
       (subst (λ (w : Found). Spot s (lastId (pathOf ids)) w (read (pathOf ids) F)) e h)
 
-  pub read-none : (x : Evaluated) → y ≡ Found.Nothing → Computes x none → Reads file s p x
+  pub read-none : (x : Evaluated) → y ≡ Found.Nothing → Computes x missing → Reads file s p x
   read-none x e c = record { tells = λ F w wf le. stands-as s x (sym (ap found (spot e F w wf le))) (stands-alone s c) }
 
   pub read-there : (x : Evaluated) {at : ℕ} → y ≡ Found.At at → StandsAt s at x → Reads file s p x
   read-there x e c = record { tells = λ F w wf le. let u = spot e F w wf le in stands-as s x (sym (ap found (u .is))) (c .tells _ (u .there) (u .root)) }
 
-  pub present-none : (x : Evaluated) → y ≡ Found.Nothing → Computes x (some (ofBool false)) → Presents file s p x
+  pub present-none : (x : Evaluated) → y ≡ Found.Nothing → Computes x (given (ofBool false)) → Presents file s p x
   present-none x e c = record {
-    tells = λ F w wf le. stands-as s x (ap (λ (f : Lookup Value). some (leaf (ofBool (isThere f)))) (sym (spot e F w wf le))) (stands-alone s c);
+    tells = λ F w wf le. stands-as s x (ap (λ (f : Lookup Value). given (leaf (ofBool (isThere f)))) (sym (spot e F w wf le))) (stands-alone s c);
   }
 
-  pub present-there : (x : Evaluated) {at : ℕ} → y ≡ Found.At at → Computes x (some (ofBool true)) → Presents file s p x
+  pub present-there : (x : Evaluated) {at : ℕ} → y ≡ Found.At at → Computes x (given (ofBool true)) → Presents file s p x
   present-there x e c = record {
-    tells = λ F w wf le. stands-as s x (ap (λ (f : Lookup Value). some (leaf (ofBool (isThere f)))) (sym (spot e F w wf le .is))) (stands-alone s c);
+    tells = λ F w wf le. stands-as s x (ap (λ (f : Lookup Value). given (leaf (ofBool (isThere f)))) (sym (spot e F w wf le .is))) (stands-alone s c);
   }
 
 pub ruleset path-laws = (read-none, read-there, present-none, present-there)
 
 -- ---- operands: their root values count
 
-root-of : (t : Tree Value) (f : Value → Optional Value) → onRoot (some t) f ≡ f (payload t)
+root-of : (t : Tree Value) (f : Value → Evaluation Value) → onRoot (given t) f ≡ f (payload t)
 root-of (tree v k) f = refl
 
-source-root : (s : List ℕ) (k : Source) (v : Operand) (g : Optional (Tree Value)) (f : Value → Optional Value) → SourceOf s k v g
-    → onRoot g f ≡ pick (isStuck k) none (f (valueOf v))
-source-root s (Source.At at) v g f h = ap (λ (z : Optional (Tree Value)). onRoot z f) (h .is) ∙ root-of (h .there) f ∙ ap f (sym (h .value))
-source-root s Source.Alone v g f h = ap (λ (z : Optional (Tree Value)). onRoot z f) h
-source-root s Source.Stuck v g f h = ap (λ (z : Optional (Tree Value)). onRoot z f) h
-
-both-roots : (a b : Bool) (o : Optional Value) → pick a none (pick b none o) ≡ pick (a || b) none o
-both-roots true b o = refl
-both-roots false b o = refl
+source-root : (s : List ℕ) (k : Source) (v : Operand) (g : Evaluation (Tree Value)) (f : Value → Evaluation Value) → SourceOf s k v g
+    → onRoot g f ≡ onSource k (f (valueOf v))
+source-root s (Source.At at) v g f h = ap (λ (z : Evaluation (Tree Value)). onRoot z f) (h .is) ∙ root-of (h .there) f ∙ ap f (sym (h .value))
+source-root s Source.Alone v g f h = ap (λ (z : Evaluation (Tree Value)). onRoot z f) h
+source-root s Source.Missing v g f h = ap (λ (z : Evaluation (Tree Value)). onRoot z f) h
+source-root s Source.Wrong v g f h = ap (λ (z : Evaluation (Tree Value)). onRoot z f) h
 
 -- ---- rows
 
@@ -151,7 +149,7 @@ constant-evaluates file s r {y} {b} {v} {n} {x} p q c = evaluates-as file s r (�
     let k = and-right (leb (v + n) (dataSize file)) (isValue b (dataPart file v n)) (u .1) in
     (constant (value b (dataPart file v n)), u .0, stands-as s x (ap asLeaf (fits k)) (stands-alone s c)))
   where
-    fits : {t : Bool} {w : Value} → t ≡ true → pick t (some w) none ≡ some w
+    fits : {t : Bool} {w : Value} → t ≡ true → pick t (given w) wrongKind ≡ given w
     fits k = rw k refl
 
 pub value-evaluates : (file s : List ℕ) (r : ℕ) {y : Part} {p : ℕ} {x : Evaluated} → y ≡ partOf file r → y ≡ Part.ValueAt p
@@ -182,11 +180,11 @@ binary-evaluates file s r {y} {o} {a} {b} {x} {t} {z} m n h k c = evaluates-as f
     let u = part-is file w r l m n in
     let i = u .1 in
     let j = u .2 in
-    let right : (v : Value) → Optional Value = λ v. onRoot (evaluate F (expressionOf file b)) (applyBinary (binaryOf o) v) in
+    let right : (v : Value) → Evaluation Value = λ v. onRoot (evaluate F (expressionOf file b)) (applyBinary (binaryOf o) v) in
     let e = source-root s (x .source) (x .root) (evaluate F (expressionOf file a)) right (h .tells F g w (omega arith)) in
     let d = source-root s (t .source) (t .root) (evaluate F (expressionOf file b)) (applyBinary (binaryOf o) (valueOf (x .root)))
     (k .tells F g w (omega arith)) in
-    let all = e ∙ ap (λ (q : Optional Value). pick (isStuck (x .source)) none q) d ∙ both-roots (isStuck (x .source)) (isStuck (t .source)) _ in
+    let all = e ∙ ap (onSource (x .source)) d in
     (binary (binaryOf o) (expressionOf file a) (expressionOf file b), u .0, stands-as s z (ap asLeaf (sym all)) (stands-alone s c)))
 
 pub broken-evaluates : (file s : List ℕ) (r : ℕ) {y : Part} (x : Evaluated) → y ≡ partOf file r → y ≡ Part.Broken → Evaluates file s r x

@@ -2,47 +2,44 @@
 use Prim.Native.Nat.{ℕ, _+_, _-_, _≤_}
 use mathlib.Core.Path.{_≡_, refl, sym, _∙_, ap, subst}
 use mathlib.Core.List.{List, []}
-use mathlib.Core.Bool.{Bool, true, false, _||_}
-use lib.IntN.{ℤ}
-use lib.Ieee.{Float, binary64, fits}
+use mathlib.Core.Bool.{Bool, true, false, not}
 use native.Mathlib.Omega.{arith}
-use lib.Dec.{T, leb}
-use lib.ListN.{length, take, drop, length-drop, length-take}
-use borrow.Author.Tests.{le-leb}
+use lib.ListN.{length, take, drop, length-drop}
 use Rattle.wire.specs.Wire.{part}
-use Rattle.scalar.specs.Value.{Value, value, number, isValue, Sound}
+use Rattle.scalar.specs.Value.{Value, value, isValue}
 use Rattle.scalar.specs.Operator.{notOf, negateOf, addOf, subtractOf, lessOf, equalOf, andOf}
-use Rattle.scalar.specs.Scalar.{valueOf, valueBeside, beside, answerOf}
-use Rattle.scalar.specs.NumberLaws.{sound-bool, sound-int, sound-long, sound-double}
+use Rattle.scalar.specs.Scalar.{valueOf, valueBeside, answerOf, truthOf}
 use Rattle.scalar.specs.declared.Operand.{Operand}
 use Rattle.scalar.specs.declared.Scalar.{Scalar}
 use Rattle.scalar.specs.declared.Computed.{Computed}
-use Rattle.syntax.specs.Syntax.{Optional, none, some}
 use Rattle.layout.specs.Loops.{clip, clip-below, drop-clip, take-clip}
 use Rattle.network.specs.Layout.{D, start, dataPart}
+use Rattle.network.specs.TestLaws.{apart, true-false, told, untold}
 use Rattle.row_parts.specs.Parts.{unaryOf, binaryOf}
 use Rattle.row_parts.specs.declared.UnaryOperator.{UnaryOperator}
 use Rattle.row_parts.specs.declared.BinaryOperator.{BinaryOperator}
-use Rattle.moves.specs.Evaluation.{answered, applyUnary, applyBinary}
+use Rattle.moves.specs.Evaluation.{Evaluation, wrongKind, given, answered, applyUnary, applyBinary}
+use Rattle.scalar.specs.declared.Truth.{Truth}
 use Rattle.evaluation.specs.declared.Decision.{Decision}
 use Rattle.evaluation.specs.declared.Evaluated.{Evaluated}
-use Rattle.evaluation.specs.Condition.{truthOf, conditionOf}
-use Rattle.evaluation.specs.Evaluated.{isStuck, literal, unaryOn, binaryOn, Computes}
+use Rattle.evaluation.specs.declared.Source.{Source}
+use Rattle.evaluation.specs.Condition.{decisionBy, decisionOf, conditionOf}
+use Rattle.evaluation.specs.Evaluated.{isGiven, onSource, literal, unaryOn, binaryOn, AloneAs, Computes}
 
-computes-as : {x : Evaluated} {v w : Optional Value} → v ≡ w → Computes x v → Computes x w
+computes-as : {x : Evaluated} {v w : Evaluation Value} → v ≡ w → Computes x v → Computes x w
 computes-as {x} e h = subst (Computes x) e h
 
-pub value-alone : (v : Operand) {w : Value} {x : Evaluated} → valueOf v ≡ w → Computes x (some (valueOf v)) → Computes x (some w)
-value-alone v e h = computes-as (ap some e) h
+pub value-alone : (v : Operand) {w : Value} {x : Evaluated} → valueOf v ≡ w → Computes x (given (valueOf v)) → Computes x (given w)
+value-alone v e h = computes-as (ap given e) h
 
-pub answer-wrong : {c : Computed} {x : Evaluated} → c ≡ Computed.Wrong → Computes x none → Computes x (answered (answerOf c))
+pub answer-wrong : {c : Computed} {x : Evaluated} → c ≡ Computed.Wrong → Computes x wrongKind → Computes x (answered (answerOf c))
 unfolding answerOf
 answer-wrong e h = computes-as (sym (ap (λ (c : Computed). answered (answerOf c)) e)) h
 
 pub answer-gives : (v : Operand) {c : Computed} {y : Scalar} {x : Evaluated} → c ≡ Computed.Gives y → valueOf v ≡ valueBeside y []
-    → Computes x (some (valueOf v)) → Computes x (answered (answerOf c))
+    → Computes x (given (valueOf v)) → Computes x (answered (answerOf c))
 unfolding answerOf
-answer-gives v e f h = computes-as (ap some f ∙ sym (ap (λ (c : Computed). answered (answerOf c)) e)) h
+answer-gives v e f h = computes-as (ap given f ∙ sym (ap (λ (c : Computed). answered (answerOf c)) e)) h
 
 pub ruleset answer-laws = (value-alone, answer-wrong, answer-gives)
 
@@ -84,31 +81,51 @@ pub ruleset operator-laws = (not-applies, negate-applies, add-applies, subtract-
 
 -- ---- operators on what evaluation answers
 
-module _ (o : UnaryOperator) (x : Evaluated) {t : Bool} {z : Evaluated} (e : t ≡ isStuck (x .source)) where
-  pub unary-stuck : t ≡ true → Computes z none → Computes z (unaryOn o x)
+-- Where nothing is given, the answer itself stays; else what follows counts.
+source-stays : (k : Source) (v : Operand) (w : Evaluation Value) → isGiven k ≡ false → AloneAs k v (onSource k w)
+source-stays (Source.At at) v w e = true-false e
+source-stays Source.Alone v w e = true-false e
+source-stays Source.Missing v w e = refl
+source-stays Source.Wrong v w e = refl
+
+source-gives : (k : Source) (w : Evaluation Value) → isGiven k ≡ true → onSource k w ≡ w
+source-gives (Source.At at) w e = refl
+source-gives Source.Alone w e = refl
+source-gives Source.Missing w e = apart e
+source-gives Source.Wrong w e = apart e
+
+answer-stays : (x : Evaluated) (w : Evaluation Value) {t : Bool} → t ≡ isGiven (x .source) → not t ≡ true → Computes x (onSource (x .source) w)
+answer-stays x w e f = record { gives = source-stays (x .source) (x .root) w (untold e f) }
+
+answer-follows : (x : Evaluated) (w : Evaluation Value) {t : Bool} → t ≡ isGiven (x .source) → not t ≡ false → onSource (x .source) w ≡ w
+answer-follows x w e f = source-gives (x .source) w (told e f)
+
+module _ (o : UnaryOperator) (x : Evaluated) {t : Bool} (e : t ≡ isGiven (x .source)) where
+  pub unary-stays : not t ≡ true → Computes x (unaryOn o x)
   unfolding unaryOn
-  unary-stuck f h = rw (sym e ∙ f) h
+  unary-stays f = answer-stays x _ e f
 
-  pub unary-gives : (c : Computed) → t ≡ false → answered (answerOf c) ≡ applyUnary (unaryOf o) (valueOf (x .root)) → Computes z (answered (answerOf c))
-      → Computes z (unaryOn o x)
+  pub unary-gives : {z : Evaluated} (c : Computed) → not t ≡ false → answered (answerOf c) ≡ applyUnary (unaryOf o) (valueOf (x .root))
+      → Computes z (answered (answerOf c)) → Computes z (unaryOn o x)
   unfolding unaryOn
-  unary-gives c f g h = rw (sym e ∙ f) (computes-as g h)
+  unary-gives c f g h = computes-as (g ∙ sym (answer-follows x _ e f)) h
 
-either-stuck : {a b p q t u : Bool} → p ≡ a → q ≡ b → t ≡ (p || q) → t ≡ u → (a || b) ≡ u
-either-stuck a b e f = rw (← a, ← b) (sym e ∙ f)
-
-module _ (o : BinaryOperator) (x y : Evaluated) {p q t : Bool} {z : Evaluated} (a : p ≡ isStuck (x .source)) (b : q ≡ isStuck (y .source))
-    (e : t ≡ (p || q)) where
-  pub binary-stuck : t ≡ true → Computes z none → Computes z (binaryOn o x y)
+module _ (o : BinaryOperator) (x y : Evaluated) {t : Bool} (e : t ≡ isGiven (x .source)) where
+  pub left-stays : not t ≡ true → Computes x (binaryOn o x y)
   unfolding binaryOn
-  binary-stuck f h = rw (either-stuck a b e f) h
+  left-stays f = answer-stays x _ e f
 
-  pub binary-gives : (c : Computed) → t ≡ false → answered (answerOf c) ≡ applyBinary (binaryOf o) (valueOf (x .root)) (valueOf (y .root))
-      → Computes z (answered (answerOf c)) → Computes z (binaryOn o x y)
-  unfolding binaryOn
-  binary-gives c f g h = rw (either-stuck a b e f) (computes-as g h)
+  module _ {u : Bool} (g : not t ≡ false) (d : u ≡ isGiven (y .source)) where
+    pub right-stays : not u ≡ true → Computes y (binaryOn o x y)
+    unfolding binaryOn
+    right-stays f = computes-as (sym (answer-follows x _ e g)) (answer-stays y _ d f)
 
-pub ruleset operand-laws = (unary-stuck, unary-gives, binary-stuck, binary-gives)
+    pub binary-gives : {z : Evaluated} (c : Computed) → not u ≡ false → answered (answerOf c) ≡ applyBinary (binaryOf o) (valueOf (x .root)) (valueOf (y .root))
+        → Computes z (answered (answerOf c)) → Computes z (binaryOn o x y)
+    unfolding binaryOn
+    binary-gives c f i h = computes-as (i ∙ sym (answer-follows x _ e g ∙ answer-follows y _ d f)) h
+
+pub ruleset operand-laws = (unary-stays, unary-gives, left-stays, right-stays, binary-gives)
 
 -- ---- constants: the bytes of D, as far as there are so many
 
@@ -132,102 +149,43 @@ module _ (s : List ℕ) (at n from len : ℕ) (p : from ≡ clip at (length s)) 
     part-data = part-clip ∙ rw (k, f, g, j) refl
 
     pub constant-value : (y : Operand) {t : Bool} {x : Evaluated} → t ≡ isValue b (part s from len) → t ≡ true → valueOf y ≡ value b (part s from len)
-        → Computes x (some (valueOf y)) → Computes x (literal b (dataPart s v m))
+        → Computes x (given (valueOf y)) → Computes x (literal b (dataPart s v m))
     unfolding literal
-    constant-value y e h w c = rw (← part-data, sym e ∙ h) (computes-as (ap some w) c)
+    constant-value y e h w c = rw (← part-data, sym e ∙ h) (computes-as (ap given w) c)
 
-    pub constant-none : {t : Bool} {x : Evaluated} → t ≡ isValue b (part s from len) → t ≡ false → Computes x none → Computes x (literal b (dataPart s v m))
+    pub constant-none : {t : Bool} {x : Evaluated} → t ≡ isValue b (part s from len) → t ≡ false → Computes x wrongKind → Computes x (literal b (dataPart s v m))
     unfolding literal
     constant-none e h c = rw (← part-data, sym e ∙ h) c
 
 pub ruleset constant-laws = (from-inside, part-inside, constant-value, constant-none)
 
--- ---- a value by its scalar: what it says as a condition, and its basic type
+-- ---- conditions
 
-module _ (v : Operand) where
-  value-is : {k : Scalar} → v .scalar ≡ k → valueOf v ≡ valueBeside k (beside v)
-  unfolding valueOf
-  value-is e = ap (λ (k : Scalar). valueBeside k (beside v)) e
+pub decided-true : {t : Truth} → t ≡ Truth.True → Decision.True ≡ decisionBy t
+decided-true e = ap decisionBy (sym e)
 
-  abbrev Says : Decision → Type 0
-  Says d = d ≡ truthOf (valueOf v)
+pub decided-false : {t : Truth} → t ≡ Truth.False → Decision.False ≡ decisionBy t
+decided-false e = ap decisionBy (sym e)
 
-  says-as : {k : Scalar} {d : Decision} → v .scalar ≡ k → d ≡ truthOf (valueBeside k (beside v)) → Says d
-  says-as e f = f ∙ sym (ap truthOf (value-is e))
+pub decided-wrong : {t : Truth} → t ≡ Truth.Wrong → Decision.Wrong ≡ decisionBy t
+decided-wrong e = ap decisionBy (sym e)
 
-  pub truth-true : {p : Bool} → v .scalar ≡ Scalar.Bool p → p ≡ true → Says Decision.True
-  unfolding truthOf number
-  truth-true e f = says-as (e ∙ ap Scalar.Bool f) refl
+pub ruleset decided-laws = (decided-true, decided-false, decided-wrong)
 
-  pub truth-false : {p : Bool} → v .scalar ≡ Scalar.Bool p → p ≡ false → Says Decision.False
-  unfolding truthOf number
-  truth-false e f = says-as (e ∙ ap Scalar.Bool f) refl
-
-  pub truth-int : {z : ℤ} → v .scalar ≡ Scalar.Int z → Says Decision.Stuck
-  unfolding truthOf
-  truth-int e = says-as e refl
-
-  pub truth-double : {x : Float} → v .scalar ≡ Scalar.Double x → Says Decision.Stuck
-  unfolding truthOf
-  truth-double e = says-as e refl
-
-  pub truth-long : {z : ℤ} → v .scalar ≡ Scalar.Long z → Says Decision.Stuck
-  unfolding truthOf
-  truth-long e = says-as e refl
-
-  pub truth-string : v .scalar ≡ Scalar.String → Says Decision.Stuck
-  unfolding truthOf
-  truth-string e = says-as e refl
-
-  pub truth-raw : v .scalar ≡ Scalar.Raw → Says Decision.Stuck
-  unfolding truthOf
-  truth-raw e = says-as e refl
-
-  pub truth-void : v .scalar ≡ Scalar.Void → Says Decision.Stuck
-  unfolding truthOf
-  truth-void e = says-as e refl
-
-  sound-as : {k : Scalar} {b : ℕ} → v .scalar ≡ k → Sound b (valueBeside k (beside v)) → Sound b (valueOf v)
-  sound-as {k} {b} e h = subst (Sound b) (sym (value-is e)) h
-
-  pub kind-bool : {p : Bool} → v .scalar ≡ Scalar.Bool p → Sound 0 (valueOf v)
-  kind-bool {p} e = sound-as e (sound-bool p)
-
-  pub kind-int : {z : ℤ} → v .scalar ≡ Scalar.Int z → Sound 1 (valueOf v)
-  kind-int {z} e = sound-as e (sound-int z)
-
-  pub kind-double : {x : Float} → v .scalar ≡ Scalar.Double x → T (fits binary64 x) → Sound 2 (valueOf v)
-  kind-double {x} e f = sound-as e (sound-double x f)
-
-  pub kind-long : {z : ℤ} → v .scalar ≡ Scalar.Long z → Sound 3 (valueOf v)
-  kind-long {z} e = sound-as e (sound-long z)
-
-  pub kind-void : v .scalar ≡ Scalar.Void → Sound 6 (valueOf v)
-  unfolding isValue
-  kind-void e = sound-as e (record { basic = refl; rule = refl })
-
-  module _ (l : length (v .bytes) ≡ 16) where
-    short : leb (length (beside v)) 16 ≡ true
-    short = le-leb (length (beside v)) 16 (omega (arith, length-take (v .len) (v .bytes)))
-
-    pub kind-string : v .scalar ≡ Scalar.String → Sound 4 (valueOf v)
-    unfolding isValue
-    kind-string e = sound-as e (record { basic = refl; rule = short })
-
-    pub kind-raw : v .scalar ≡ Scalar.Raw → Sound 5 (valueOf v)
-    unfolding isValue
-    kind-raw e = sound-as e (record { basic = refl; rule = short })
-
-pub ruleset truth-laws = (truth-true, truth-false, truth-int, truth-double, truth-long, truth-string, truth-raw, truth-void)
-
-pub ruleset kind-laws = (kind-bool, kind-int, kind-long, kind-void)
-
-pub condition-stuck : (x : Evaluated) {t : Bool} → t ≡ isStuck (x .source) → t ≡ true → Decision.Stuck ≡ conditionOf x
+decides-as : (x : Evaluated) {k : Source} {d : Decision} → x .source ≡ k → d ≡ decisionOf k (truthOf (valueOf (x .root))) → d ≡ conditionOf x
 unfolding conditionOf
-condition-stuck x e f = rw (sym e ∙ f) refl
+decides-as x e f = f ∙ ap (λ (k : Source). decisionOf k (truthOf (valueOf (x .root)))) (sym e)
 
-pub condition-says : (x : Evaluated) {t : Bool} {d : Decision} → t ≡ isStuck (x .source) → t ≡ false → d ≡ truthOf (valueOf (x .root)) → d ≡ conditionOf x
-unfolding conditionOf
-condition-says x e f g = rw (sym e ∙ f) g
+pub condition-at : (x : Evaluated) {at : ℕ} {t : Truth} {d : Decision} → x .source ≡ Source.At at → t ≡ truthOf (valueOf (x .root)) → d ≡ decisionBy t → d ≡ conditionOf x
+condition-at x e f g = decides-as x e (g ∙ ap decisionBy f)
 
-pub ruleset condition-laws = (condition-stuck, condition-says)
+pub condition-alone : (x : Evaluated) {t : Truth} {d : Decision} → x .source ≡ Source.Alone → t ≡ truthOf (valueOf (x .root)) → d ≡ decisionBy t → d ≡ conditionOf x
+condition-alone x e f g = decides-as x e (g ∙ ap decisionBy f)
+
+pub condition-missing : (x : Evaluated) → x .source ≡ Source.Missing → Decision.Missing ≡ conditionOf x
+condition-missing x e = decides-as x e refl
+
+pub condition-wrong : (x : Evaluated) → x .source ≡ Source.Wrong → Decision.Wrong ≡ conditionOf x
+condition-wrong x e = decides-as x e refl
+
+pub ruleset condition-laws = (condition-at, condition-alone, condition-missing, condition-wrong)

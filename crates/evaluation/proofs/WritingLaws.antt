@@ -10,18 +10,18 @@ use Rattle.forest.specs.Forest.{Forest, end, node, Tree, tree}
 use Rattle.scalar.specs.Value.{Value, value, basicOf, bytesOf, Sound}
 use Rattle.scalar.specs.Scalar.{valueOf}
 use Rattle.scalar.specs.declared.Operand.{Operand}
-use Rattle.syntax.specs.Syntax.{Optional, none, some}
-use Rattle.tree.specs.Encode.{encode, rooted, empty, Octets, WellFormed, Encodes, treeDeep, treeMany}
+use Rattle.tree.specs.Encode.{encode, rooted, empty, Octets, Encodes, treeDeep, treeMany}
 use Rattle.tree.specs.EncodeLaws.{length-node}
 use Rattle.tree.specs.Standing.{Root, Ended}
 use Rattle.tree.specs.StandingLaws.{root-inside, root-part, root-good}
 use Rattle.tree_edit.specs.Wrote.{Wrote}
 use Rattle.tree_edit.specs.WroteLaws.{wrote-more, wrote-all-of}
 use Rattle.state.specs.SizeLaws.{session-tree-size}
-use Rattle.moves.specs.Evaluation.{leaf}
+use Rattle.moves.specs.Evaluation.{Evaluation, leaf}
 use Rattle.evaluation.specs.declared.Source.{Source}
 use Rattle.evaluation.specs.declared.Evaluated.{Evaluated}
-use Rattle.evaluation.specs.Evaluated.{FoundAt, SourceOf, StandsFor}
+use Rattle.evaluation.specs.declared.Written.{Written}
+use Rattle.evaluation.specs.Evaluated.{SourceOf, StandsFor}
 use Rattle.evaluation.specs.Writing.{WritesLeaf, WritesTree, Writes}
 use Rattle.evaluation.specs.WritingLaws.{leaf-good}
 
@@ -104,61 +104,42 @@ module _ (s : List ℕ) (at e : ℕ) (h : Ended s at e) (o : List ℕ) where
 
 -- ---- what evaluation gave
 
-same-some : {A : Type 0} {x y : A} → some x ≡ some y → x ≡ y
-same-some e = cc
-
 session-small : (s : List ℕ) (F : Forest Value) → Encodes treeDeep treeMany s (tree empty F) → length s ≤ 1024
 session-small s F m = omega (arith, ap length (m .bytes), session-tree-size F (m .good))
 
+stood : (s : List ℕ) (x : Evaluated) {k : Source} → x .source ≡ k → (f : Evaluation (Tree Value)) → StandsFor s x f → SourceOf s k (x .root) f
+stood s x e f h = subst (λ (k : Source). SourceOf s k (x .root) f) e h
+
 module _ (s : List ℕ) (x : Evaluated) {o : List ℕ} (l : 1024 ≤ length o) where
-  pub source-at : {at r : ℕ} {o′ : List ℕ} → x .source ≡ Source.At at → WritesTree s at o o′ r → Writes s x o o′ r
+  pub source-at : {at r : ℕ} {o′ : List ℕ} → x .source ≡ Source.At at → WritesTree s at o o′ r → Writes s x o o′ (Written.Tree r)
   source-at {at} {r} {o′} e w = record {
     inside = w .inside;
     rest = w .rest;
-    nothing = λ h. absurd (missing (stood none h));
-    tells = λ F t m h. let u = stood (some t) h in
-        subst (λ (z : Tree Value). Wrote o o′ 0 r r (encode (rooted z))) (sym (same-some (u .is)))
-        (w .tells (u .id) (u .there) (u .root) (omega (arith, session-small s F m)));
-    good = λ t h. let u = stood (some t) h in
-        subst (WellFormed treeDeep treeMany) (sym (same-some (u .is))) (root-good s at (u .id) (u .there) (u .root));
+    tells = λ F f m h. let u = stood s x e f h in (
+      u .there,
+      u .is,
+      record {
+        bytes = w .tells (u .id) (u .there) (u .root) (omega (arith, session-small s F m)) .holds;
+        good = root-good s at (u .id) (u .there) (u .root);
+      },
+    );
   }
-    where
-      stood : (f : Optional (Tree Value)) → StandsFor s x f → FoundAt s at (x .root) f
-      stood f h = subst (λ (k : Source). SourceOf s k (x .root) f) e h
 
-      missing : FoundAt s at (x .root) none → ⊥
-      missing h = let z = h .is in let q : _≡_ {A = ℕ} 0 1 = cc in omega arith
-
-  pub source-alone : {r : ℕ} {o′ : List ℕ} → x .source ≡ Source.Alone → WritesLeaf (x .root) o o′ r → length o′ ≡ length o → Writes s x o o′ r
+  pub source-alone : {r : ℕ} {o′ : List ℕ} → x .source ≡ Source.Alone → WritesLeaf (x .root) o o′ r → length o′ ≡ length o
+      → Writes s x o o′ (Written.Tree r)
   source-alone {r} {o′} e w k = record {
     inside = omega (arith, w .wrote .fits);
     rest = w .wrote .keeps;
-    nothing = λ h. absurd (missing (alone none h));
-    tells = λ F t m h. subst (λ (z : Tree Value). Wrote o o′ 0 r r (encode (rooted z))) (sym (same-some (alone (some t) h))) (w .wrote);
-    good = λ t h. subst (WellFormed treeDeep treeMany) (sym (same-some (alone (some t) h))) (leaf-good treeDeep treeMany (valueOf (x .root)) (w .proper));
+    tells = λ F f m h.
+        (leaf (valueOf (x .root)), stood s x e f h, record { bytes = w .wrote .holds; good = leaf-good treeDeep treeMany (valueOf (x .root)) (w .proper) });
   }
-    where
-      alone : (f : Optional (Tree Value)) → StandsFor s x f → f ≡ some (leaf (valueOf (x .root)))
-      alone f h = subst (λ (k : Source). SourceOf s k (x .root) f) e h
 
-      missing : none ≡ some (leaf (valueOf (x .root))) → ⊥
-      missing z = let q : _≡_ {A = ℕ} 0 1 = cc in omega arith
+  pub source-missing : x .source ≡ Source.Missing → Writes s x o o Written.Missing
+  source-missing e = record { inside = omega arith; rest = refl; tells = λ F f m h. stood s x e f h }
 
-  pub source-stuck : x .source ≡ Source.Stuck → Writes s x o o 0
-  source-stuck e = record {
-    inside = omega arith;
-    rest = refl;
-    nothing = λ h. refl;
-    tells = λ F t m h. absurd (there t h);
-    good = λ t h. absurd (there t h);
-  }
-    where
-      there : (t : Tree Value) → StandsFor s x (some t) → ⊥
-      there t h =
-          let z : some t ≡ none = subst (λ (k : Source). SourceOf s k (x .root) (some t)) e h in
-          let q : _≡_ {A = ℕ} 0 1 = cc in
-          omega arith
+  pub source-wrong : x .source ≡ Source.Wrong → Writes s x o o Written.Wrong
+  source-wrong e = record { inside = omega arith; rest = refl; tells = λ F f m h. stood s x e f h }
 
 pub ruleset tree-laws = (tree-past, tree-before, tree-short, tree-long, tree-written)
 
-pub ruleset source-laws = (source-at, source-alone, source-stuck)
+pub ruleset source-laws = (source-at, source-alone, source-missing, source-wrong)

@@ -4,18 +4,15 @@ use mathlib.Core.List.{List}
 use Prim.Native.Nat.{ℕ}
 use native.Mathlib.Omega.{arith}
 use lib.ListN.{take}
-use Rattle.forest.specs.Forest.{Forest, Tree, tree, Rising, present, measure}
+use Rattle.forest.specs.Forest.{Rising, present, measure}
 use Rattle.scalar.specs.Value.{Value}
 use Rattle.scalar.specs.Scalar.{valueOf}
 use Rattle.scalar.specs.declared.Operand.{Operand}
-use Rattle.syntax.specs.Syntax.{some}
-use Rattle.tree.specs.Encode.{empty, Proper, Sound, WellFormed, Encodes, treeDeep, treeMany}
+use Rattle.tree.specs.Encode.{Proper, Sound, WellFormed}
 use Rattle.tree.specs.Decode.{decode}
 use Rattle.tree.specs.DecodeLaws.{decode-complete}
 use Rattle.moves.specs.Evaluation.{leaf}
-use Rattle.evaluation.specs.declared.Evaluated.{Evaluated}
-use Rattle.evaluation.specs.Evaluated.{StandsFor}
-use Rattle.evaluation.specs.Writing.{WritesLeaf, Writes}
+use Rattle.evaluation.specs.Writing.{WritesLeaf}
 
 -- A value alone keeps to any limits.
 pub leaf-good : (deep many : ℕ) (v : Value) → Proper v → WellFormed deep many (leaf v)
@@ -24,7 +21,3 @@ leaf-good deep many v p = record { root = p; sound = tt; rising = tt; shallow = 
 
 pub leaf-decoded : {v : Operand} {o o′ : List ℕ} {r : ℕ} → WritesLeaf v o o′ r → decode 0 0 (take r o′) ≡ present (leaf (valueOf v))
 leaf-decoded {v} w = decode-complete 0 0 _ (leaf (valueOf v)) (record { bytes = w .wrote .holds; good = leaf-good 0 0 (valueOf v) (w .proper) })
-
-pub value-decoded : {s : List ℕ} {x : Evaluated} {o o′ : List ℕ} {r : ℕ} → Writes s x o o′ r → (F : Forest Value) (t : Tree Value)
-    → Encodes treeDeep treeMany s (tree empty F) → StandsFor s x (some t) → decode treeDeep treeMany (take r o′) ≡ present t
-value-decoded w F t m h = decode-complete treeDeep treeMany _ t (record { bytes = w .tells F t m h .holds; good = w .good t h })

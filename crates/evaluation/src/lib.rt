@@ -4,67 +4,86 @@ ghost use mathlib.Core.Path.{_≡_};
 ghost use Prim.Native.Nat.{_≤_};
 ghost use lib.ListN.{length};
 ghost use Rattle.scalar.specs.Scalar.{answerOf, valueOf};
-ghost use Rattle.scalar.specs.Value.{Sound};
 ghost use Rattle.scalar.specs.Operator.{ofBool};
-ghost use Rattle.syntax.specs.Syntax.{none, some};
 ghost use Rattle.row_parts.specs.Parts.{unaryOf, binaryOf};
-ghost use Rattle.moves.specs.Evaluation.{answered, applyUnary, applyBinary};
+ghost use Rattle.moves.specs.Evaluation.{missing, wrongKind, given, answered, applyUnary, applyBinary};
 ghost use Rattle.network.specs.Layout.{dataPart};
-ghost use Rattle.evaluation.specs.Condition.{truthOf, conditionOf};
+ghost use Rattle.evaluation.specs.Condition.{decisionBy, conditionOf};
 ghost use Rattle.evaluation.specs.Writing.{WritesLeaf, WritesTree, Writes};
-ghost use Rattle.evaluation.specs.Evaluated.{isStuck, literal, unaryOn, binaryOn, Computes, StandsAt, Reads, Presents, Evaluates};
-use layout::both;
-use layout::either;
+ghost use Rattle.evaluation.specs.Evaluated.{isGiven, literal, unaryOn, binaryOn, Computes, StandsAt, Reads, Presents, Evaluates};
 use row_parts::BinaryOperator;
 use row_parts::Part;
 use row_parts::UnaryOperator;
 use scalar::Computed;
+use scalar::Truth;
 use scalar::Operand;
 use scalar::Scalar;
 
-// Where the value of an expression is: a tree at a place of the session's tree, or a value alone; or it is missing or of the wrong kind.
+// Where the value of an expression is: a tree at a place of the session's tree, or a value alone. Or a value read is missing, or an operand
+// is of the wrong kind.
 pub enum Source {
     At(usize),
     Alone,
-    Stuck,
+    Missing,
+    Wrong,
 }
 
-// What evaluation answers: the source, and the root value beside it, which says nothing where the source is stuck.
+// What evaluation answers: the source, and the root value beside it, which says nothing where no value is given.
 pub struct Evaluated {
     pub source: Source,
     pub root: Operand,
 }
 
-// What a condition says, or that it is missing or no bool.
+// What a condition says; or a value read is missing, or an operand or the condition itself is of the wrong kind.
 pub enum Decision {
     True,
     False,
-    Stuck,
+    Missing,
+    Wrong,
 }
 
-fn is_stuck(p: Source) -> bool
-    ensures { λ t. ⌜ t ≡ isStuck p ⌝ }
+// The length of a tree that was written; or a value read is missing, or an operand is of the wrong kind.
+pub enum Written {
+    Tree(usize),
+    Missing,
+    Wrong,
+}
+
+fn is_given(p: Source) -> bool
+    ensures { λ t. ⌜ t ≡ isGiven p ⌝ }
 {
     match p {
-        Source::At(_) => false,
-        Source::Alone => false,
-        Source::Stuck => true,
+        Source::At(_) => true,
+        Source::Alone => true,
+        Source::Missing => false,
+        Source::Wrong => false,
     }
 }
 
-// "A value read is missing, an operand .. is of the wrong kind"
-fn stuck() -> Evaluated
-    ensures { λ x. ⌜ Computes x none ⌝ }
+// "A value read is missing"
+fn absent() -> Evaluated
+    ensures { λ x. ⌜ Computes x missing ⌝ }
 {
     let v = scalar::plain(Scalar::Void);
     Evaluated {
-        source: Source::Stuck,
+        source: Source::Missing,
+        root: v,
+    }
+}
+
+// "an operand .. is of the wrong kind"
+fn wrong() -> Evaluated
+    ensures { λ x. ⌜ Computes x wrongKind ⌝ }
+{
+    let v = scalar::plain(Scalar::Void);
+    Evaluated {
+        source: Source::Wrong,
         root: v,
     }
 }
 
 fn alone(v: Operand) -> Evaluated
-    ensures { λ x. ⌜ Computes x (some (valueOf v)) ⌝ }
+    ensures { λ x. ⌜ Computes x (given (valueOf v)) ⌝ }
 {
     Evaluated {
         source: Source::Alone,
@@ -74,7 +93,7 @@ fn alone(v: Operand) -> Evaluated
 
 // Presence "gives bool".
 fn flag(p: bool) -> Evaluated
-    ensures { λ x. ⌜ Computes x (some (ofBool p)) ⌝ }
+    ensures { λ x. ⌜ Computes x (given (ofBool p)) ⌝ }
 {
     alone(scalar::plain(Scalar::Bool(p)))
 }
@@ -84,7 +103,7 @@ fn computed(c: Computed) -> Evaluated
     ensures { λ x. ⌜ Computes x (answered (answerOf c)) ⌝ }
 {
     match c {
-        Computed::Wrong => stuck(),
+        Computed::Wrong => wrong(),
         Computed::Gives(v) => alone(scalar::plain(v)),
     }
 }
@@ -110,18 +129,19 @@ fn binary_value(o: BinaryOperator, v: Operand, w: Operand) -> Computed
     }
 }
 
-// An operator on an operand's root value.
+// An operator on an operand's root value; where none is given, the answer stays.
 fn unary(o: UnaryOperator, x: Evaluated) -> Evaluated
     ensures { λ z. ⌜ Computes z (unaryOn o x) ⌝ }
 {
     let p = x.source;
     let v = x.root;
-    if is_stuck(p) {
-        return stuck();
+    if !is_given(p) {
+        return x;
     }
     computed(unary_value(o, v))
 }
 
+// The left operand's answer comes first, then the right one's, then the operator's.
 fn binary(o: BinaryOperator, x: Evaluated, y: Evaluated) -> Evaluated
     ensures { λ z. ⌜ Computes z (binaryOn o x y) ⌝ }
 {
@@ -129,8 +149,11 @@ fn binary(o: BinaryOperator, x: Evaluated, y: Evaluated) -> Evaluated
     let q = y.source;
     let v = x.root;
     let w = y.root;
-    if either(is_stuck(p), is_stuck(q)) {
-        return stuck();
+    if !is_given(p) {
+        return x;
+    }
+    if !is_given(q) {
+        return y;
     }
     computed(binary_value(o, v, w))
 }
@@ -145,7 +168,7 @@ fn constant(file: &[u8], b: u8, v: u16, n: u16) -> Evaluated
     if scalar::value_ok(file, from, b, len) {
         return alone(scalar::read(file, from, b, len));
     }
-    stuck()
+    wrong()
 }
 
 // The tree that stands at a place, with its root value.
@@ -153,7 +176,7 @@ fn tree_at(s: &[u8], at: usize) -> Evaluated
     ensures { λ x. ⌜ StandsAt (now (s .entry)) at x ⌝ }
 {
     let tree::Head::Node(_, b, _, mid) = tree::head_at(s, at) else {
-        return stuck();
+        return absent();
     };
     let v = scalar::read(s, at + 5, b, mid - at - 5);
     Evaluated {
@@ -167,7 +190,7 @@ fn value_at(file: &[u8], s: &[u8], p: u16) -> Evaluated
     ensures { λ x. ⌜ Reads (now (file .entry)) (now (s .entry)) p x ⌝ }
 {
     let tree::Found::At(at) = tree::follow(s, rows::path_row(file, p)) else {
-        return stuck();
+        return absent();
     };
     tree_at(s, at)
 }
@@ -198,28 +221,18 @@ pub fn evaluate(file: &[u8], s: &[u8], r: u16) -> Evaluated
             let y = evaluate(file, s, b);
             binary(o, x, y)
         }
-        Part::Broken => stuck(),
+        Part::Broken => wrong(),
     }
 }
 
-// What a value says as a condition.
-fn truth(v: Operand) -> Decision
-    ensures { λ c. ⌜ c ≡ truthOf (valueOf v) ⌝ }
+// What a value's truth decides.
+fn decided(t: Truth) -> Decision
+    ensures { λ d. ⌜ d ≡ decisionBy t ⌝ }
 {
-    let k = v.scalar;
-    match k {
-        Scalar::Bool(p) => {
-            if p {
-                return Decision::True;
-            }
-            Decision::False
-        }
-        Scalar::Int(_) => Decision::Stuck,
-        Scalar::Double(_) => Decision::Stuck,
-        Scalar::Long(_) => Decision::Stuck,
-        Scalar::String => Decision::Stuck,
-        Scalar::Raw => Decision::Stuck,
-        Scalar::Void => Decision::Stuck,
+    match t {
+        Truth::True => Decision::True,
+        Truth::False => Decision::False,
+        Truth::Wrong => Decision::Wrong,
     }
 }
 
@@ -229,25 +242,11 @@ pub fn condition(x: Evaluated) -> Decision
 {
     let p = x.source;
     let v = x.root;
-    if is_stuck(p) {
-        return Decision::Stuck;
-    }
-    truth(v)
-}
-
-// The basic type of a value.
-fn basic_of(v: Operand) -> u8
-    ensures { λ b. ⌜ Sound b (valueOf v) ⌝ }
-{
-    let k = v.scalar;
-    match k {
-        Scalar::Bool(_) => 0,
-        Scalar::Int(_) => 1,
-        Scalar::Double(_x) => 2,
-        Scalar::Long(_) => 3,
-        Scalar::String => 4,
-        Scalar::Raw => 5,
-        Scalar::Void => 6,
+    match p {
+        Source::At(_) => decided(scalar::truth_of(v)),
+        Source::Alone => decided(scalar::truth_of(v)),
+        Source::Missing => Decision::Missing,
+        Source::Wrong => Decision::Wrong,
     }
 }
 
@@ -256,7 +255,7 @@ pub fn write_leaf(out: &mut [u8], v: Operand) -> usize
     requires { ⌜ 21 ≤ length (now out) ⌝ }
     ensures { λ r. ⌜ WritesLeaf v (now (out .entry)) (now (out .exit)) r ⌝ }
 {
-    let b = basic_of(v);
+    let b = scalar::basic_of(v);
     let mut bytes = [0u8; 16];
     let n = scalar::write(&mut bytes, 0, v);
     tree::octets(&bytes[..n]);
@@ -286,16 +285,17 @@ fn write_tree(out: &mut [u8], s: &[u8], at: usize) -> usize
     tree_edit::append(out, a, s, at + 2, n - 2)
 }
 
-// Writes what evaluation in the session's tree s gave to the start of out as a tree alone, and gives its length.
-pub fn write_value(out: &mut [u8], s: &[u8], x: Evaluated) -> usize
+// Writes what evaluation in the session's tree s gave to the start of out as a tree alone; where nothing is given, the answer stays.
+pub fn write_value(out: &mut [u8], s: &[u8], x: Evaluated) -> Written
     requires { ⌜ 1024 ≤ length (now out) ⌝ }
     ensures { λ r. ⌜ Writes (now (s .entry)) x (now (out .entry)) (now (out .exit)) r ⌝ }
 {
     let p = x.source;
     let v = x.root;
     match p {
-        Source::At(at) => write_tree(out, s, at),
-        Source::Alone => write_leaf(out, v),
-        Source::Stuck => 0,
+        Source::At(at) => Written::Tree(write_tree(out, s, at)),
+        Source::Alone => Written::Tree(write_leaf(out, v)),
+        Source::Missing => Written::Missing,
+        Source::Wrong => Written::Wrong,
     }
 }

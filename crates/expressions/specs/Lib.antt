@@ -1,2 +1,3 @@
 pub mod Typings
 pub mod SmallLaws
+pub mod TypingsLaws

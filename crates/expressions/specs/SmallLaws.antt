@@ -1,51 +1,30 @@
 -- An expression's basic type is one of 0 to 6.
 use Prim.Native.Nat.{ℕ, zero, suc, _+_, _<_, _≤_}
-use mathlib.Core.Path.{_≡_, refl, sym, _∙_, ap, subst}
+use mathlib.Core.Path.{_≡_, refl, ap, subst}
 use mathlib.Core.List.{List, [], _∷_}
 use mathlib.Core.Bool.{Bool, true, false, not, _&&_}
 use native.Mathlib.Omega.{arith}
 use lib.Dec.{eqb}
-use borrow.Author.Tests.{ne-eqb}
 use Rattle.forest.specs.Compare.{Compare, lt, eq, gt, compare}
 use Rattle.forest.specs.Forest.{end, node, tree, Lookup, absent, present, findBy, find}
 use Rattle.forest.specs.Path.{Path, path, readSteps, read}
 use Rattle.refusal.specs.declared.Refusal.{Refusal}
 use Rattle.refusal.specs.declared.Refusal.the-variants.{PathNotFirm, OperandType}
 use Rattle.scalar.specs.Basic.{bool, void, lastBasic}
-use Rattle.scalar.specs.Value.{value, isValue, basicOf, bytesOf}
+use Rattle.scalar.specs.Value.{value, basicOf, bytesOf}
+use Rattle.scalar.specs.ValueLaws.{value-basic}
+use Rattle.scalar.specs.Operator.{isNumber}
 use Rattle.syntax.specs.Syntax.{Mark, mark, Types, MessageType, Unary, logicalNot, negate, Binary, add, subtract, less, equal, logicalAnd, Expression, constant, valueAt, presence, unary, binary}
 use Rattle.subtyping.specs.Subtype.{rootBasic}
 use Rattle.typing.specs.Result.{Result, fails, yields, require, andThen}
 use Rattle.typing.specs.Environment.{isIn, standsFirm, theType, readFirm, leaf}
-use Rattle.typing.specs.ExpressionTyping.{numeric, unaryType, binaryType, typeOf}
+use Rattle.typing.specs.ExpressionTyping.{unaryType, binaryType, typeOf}
 use Rattle.network.specs.Form.{WellFormed}
 use Rattle.network.specs.Layout.{expressionCount}
 use Rattle.network.specs.Decode.{expressionOf}
 use Rattle.network.specs.Shapes.{PartsShape, ExpressionShape}
 use Rattle.network.specs.DecodeLaws.{expression-shape}
-use Rattle.network.specs.TestLaws.{apart}
 use Rattle.types.specs.Image.{InRange}
-
-value-none : (b : ℕ) (v : List ℕ) → 6 < b → isValue b v ≡ false
-unfolding isValue
-value-none b v h =
-    rw (
-      ne-eqb b 0 (λ e. omega arith),
-      ne-eqb b 1 (λ e. omega arith),
-      ne-eqb b 2 (λ e. omega arith),
-      ne-eqb b 3 (λ e. omega arith),
-      ne-eqb b 4 (λ e. omega arith),
-      ne-eqb b 5 (λ e. omega arith),
-      ne-eqb b 6 (λ e. omega arith),
-    ) refl
-
-value-small : (b : ℕ) (v : List ℕ) → isValue b v ≡ true → b ≤ lastBasic
-value-small b v e = go (compare b 7)
-  where
-    go : Compare b 7 → b ≤ lastBasic
-    go (lt h) = omega arith
-    go (eq h) = apart (sym (value-none b v (omega arith)) ∙ e)
-    go (gt h) = apart (sym (value-none b v (omega arith)) ∙ e)
 
 -- What stands in an environment.
 abbrev FoundSmall : Lookup Mark → Type 0
@@ -92,18 +71,18 @@ leaf-small false b n why h e = absurd (not-yields e)
 
 unary-small : (o : Unary) (b : ℕ) (n : MessageType) → b ≤ lastBasic → unaryType o b ≡ yields n → rootBasic n ≤ lastBasic
 unary-small logicalNot b n h e = leaf-small (eqb b bool) bool n OperandType (omega arith) e
-unary-small negate b n h e = leaf-small (numeric b) b n OperandType h e
+unary-small negate b n h e = leaf-small (isNumber b) b n OperandType h e
 
 binary-small : (o : Binary) (b c : ℕ) (n : MessageType) → b ≤ lastBasic → binaryType o b c ≡ yields n → rootBasic n ≤ lastBasic
-binary-small add b c n h e = leaf-small (numeric b && eqb b c) b n OperandType h e
-binary-small subtract b c n h e = leaf-small (numeric b && eqb b c) b n OperandType h e
-binary-small less b c n h e = leaf-small (numeric b && eqb b c) bool n OperandType (omega arith) e
+binary-small add b c n h e = leaf-small (isNumber b && eqb b c) b n OperandType h e
+binary-small subtract b c n h e = leaf-small (isNumber b && eqb b c) b n OperandType h e
+binary-small less b c n h e = leaf-small (isNumber b && eqb b c) bool n OperandType (omega arith) e
 binary-small equal b c n h e = leaf-small (not (eqb b void) && eqb b c) bool n OperandType (omega arith) e
 binary-small logicalAnd b c n h e = leaf-small (eqb b bool && eqb c bool) bool n OperandType (omega arith) e
 
 small : (Γ : Types) → InRange Γ → (e : Expression) → PartsShape e → (n : MessageType) → typeOf Γ e ≡ yields n → rootBasic n ≤ lastBasic
 unfolding typeOf PartsShape
-small Γ h (constant (value b v)) s n e = subst (λ (y : MessageType). rootBasic y ≤ lastBasic) (yields-same e) (value-small b v s)
+small Γ h (constant (value b v)) s n e = subst (λ (y : MessageType). rootBasic y ≤ lastBasic) (yields-same e) (value-basic b v s)
 small Γ h (valueAt x) s n e = firm-small x Γ h n e
 small Γ h (presence x) s n e = leaf-small (isIn x Γ) bool n PathNotFirm (omega arith) e
 small Γ h (unary o a) s n e = go (typeOf Γ a) (small Γ h a s) e

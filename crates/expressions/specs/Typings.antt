@@ -9,10 +9,11 @@ use lib.Dec.{eqb}
 use Rattle.refusal.specs.declared.Refusal.the-variants.{PathNotFirm, OperandType}
 use Rattle.scalar.specs.Basic.{bool, void, lastBasic}
 use Rattle.scalar.specs.Value.{pick}
+use Rattle.scalar.specs.Operator.{isNumber}
 use Rattle.syntax.specs.Syntax.{Types, MessageType}
-use Rattle.typing.specs.Result.{Result, fails, yields, require}
+use Rattle.typing.specs.Result.{Result, yields, require, refused, atRow}
 use Rattle.typing.specs.Environment.{isIn, readFirm, leaf}
-use Rattle.typing.specs.ExpressionTyping.{numeric, typeOf}
+use Rattle.typing.specs.ExpressionTyping.{typeOf}
 use Rattle.network.specs.Form.{WellFormed}
 use Rattle.network.specs.Layout.{pathCount, expressionCount}
 use Rattle.network.specs.Decode.{pathOf, expressionOf}
@@ -23,51 +24,49 @@ use Rattle.row_parts.specs.declared.UnaryOperator.{UnaryOperator}
 use Rattle.row_parts.specs.declared.BinaryOperator.{BinaryOperator}
 use Rattle.expressions.specs.declared.Typing.{Typing}
 
--- The basic type, where the operands are right; else 8.
-abbrev pub resultOf : Bool → ℕ → Typing
-resultOf right b = pick right (Typing.Leaf b) Typing.OperandType
+-- The basic type, where the operands are right; else 8, placed at the B row.
+abbrev pub resultOf : ℕ → Bool → ℕ → Typing
+resultOf row right b = pick right (Typing.Leaf b) (Typing.Refused (OperandType row))
 
-unfoldable pub unaryTyping : UnaryOperator → ℕ → Typing
-unaryTyping UnaryOperator.Not b = resultOf (eqb b bool) bool
-unaryTyping UnaryOperator.Negate b = resultOf (numeric b) b
+unfoldable pub unaryTyping : ℕ → UnaryOperator → ℕ → Typing
+unaryTyping row UnaryOperator.Not b = resultOf row (eqb b bool) bool
+unaryTyping row UnaryOperator.Negate b = resultOf row (isNumber b) b
 
-unfoldable pub binaryTyping : BinaryOperator → ℕ → ℕ → Typing
-binaryTyping BinaryOperator.Add b c = resultOf (numeric b && eqb b c) b
-binaryTyping BinaryOperator.Subtract b c = resultOf (numeric b && eqb b c) b
-binaryTyping BinaryOperator.Less b c = resultOf (numeric b && eqb b c) bool
-binaryTyping BinaryOperator.Equal b c = resultOf (not (eqb b void) && eqb b c) bool
-binaryTyping BinaryOperator.And b c = resultOf (eqb b bool && eqb c bool) bool
+unfoldable pub binaryTyping : ℕ → BinaryOperator → ℕ → ℕ → Typing
+binaryTyping row BinaryOperator.Add b c = resultOf row (isNumber b && eqb b c) b
+binaryTyping row BinaryOperator.Subtract b c = resultOf row (isNumber b && eqb b c) b
+binaryTyping row BinaryOperator.Less b c = resultOf row (isNumber b && eqb b c) bool
+binaryTyping row BinaryOperator.Equal b c = resultOf row (not (eqb b void) && eqb b c) bool
+binaryTyping row BinaryOperator.And b c = resultOf row (eqb b bool && eqb c bool) bool
 
 -- An operand's basic type goes on; a refusal stays.
 abbrev pub withBasic : (ℕ → Typing) → Typing → Typing
 withBasic f (Typing.At at b) = f b
 withBasic f (Typing.Leaf b) = f b
-withBasic f Typing.PathNotFirm = Typing.PathNotFirm
-withBasic f Typing.OperandType = Typing.OperandType
+withBasic f (Typing.Refused why) = Typing.Refused why
 
-abbrev pub unaryTyped : UnaryOperator → Typing → Typing
-unaryTyped o x = withBasic (unaryTyping o) x
+abbrev pub unaryTyped : ℕ → UnaryOperator → Typing → Typing
+unaryTyped row o x = withBasic (unaryTyping row o) x
 
-abbrev pub besideTyped : BinaryOperator → ℕ → Typing → Typing
-besideTyped o b y = withBasic (binaryTyping o b) y
+abbrev pub besideTyped : ℕ → BinaryOperator → ℕ → Typing → Typing
+besideTyped row o b y = withBasic (binaryTyping row o b) y
 
-abbrev pub binaryTyped : BinaryOperator → Typing → Typing → Typing
-binaryTyped o x y = withBasic (λ b. besideTyped o b y) x
+abbrev pub binaryTyped : ℕ → BinaryOperator → Typing → Typing → Typing
+binaryTyped row o x y = withBasic (λ b. besideTyped row o b y) x
 
--- x is what typing found: the tree at a place of e, a basic type alone, or the kind of refusal.
-abbrev pub TypedAs : Environment → Typing → Result MessageType → Type 0
-TypedAs e (Typing.At at b) found = ReadAt e at b found
-TypedAs e (Typing.Leaf b) found = found ≡ yields (leaf b)
-TypedAs e Typing.PathNotFirm found = found ≡ fails PathNotFirm
-TypedAs e Typing.OperandType found = found ≡ fails OperandType
+-- x is what typing found for a B row: the tree at a place of e, a basic type alone, or the refusal placed at the row.
+abbrev pub TypedAs : Environment → ℕ → Typing → Result MessageType → Type 0
+TypedAs e row (Typing.At at b) found = ReadAt e at b found
+TypedAs e row (Typing.Leaf b) found = found ≡ yields (leaf b)
+TypedAs e row (Typing.Refused why) found = atRow row found ≡ refused why
 
 -- Of a path, of its presence, and of an E row.
-pub record ValueTyped (file : List ℕ) (e : Environment) (p : ℕ) (x : Typing) : Type 0 where
-  pub tells : (Γ : Types) → StandsFor e Γ → WellFormed file → p < pathCount file → TypedAs e x (readFirm (pathOf file p) Γ)
+pub record ValueTyped (file : List ℕ) (e : Environment) (p row : ℕ) (x : Typing) : Type 0 where
+  pub tells : (Γ : Types) → StandsFor e Γ → WellFormed file → p < pathCount file → TypedAs e row x (readFirm (pathOf file p) Γ)
 
-pub record PresenceTyped (file : List ℕ) (e : Environment) (p : ℕ) (x : Typing) : Type 0 where
+pub record PresenceTyped (file : List ℕ) (e : Environment) (p row : ℕ) (x : Typing) : Type 0 where
   pub tells : (Γ : Types) → StandsFor e Γ → WellFormed file → p < pathCount file
-      → TypedAs e x (require (isIn (pathOf file p) Γ) PathNotFirm (yields (leaf bool)))
+      → TypedAs e row x (require (isIn (pathOf file p) Γ) PathNotFirm (yields (leaf bool)))
 
-pub record Typed (file : List ℕ) (e : Environment) (r : ℕ) (x : Typing) : Type 0 where
-  pub tells : (Γ : Types) → StandsFor e Γ → WellFormed file → r < expressionCount file → TypedAs e x (typeOf Γ (expressionOf file r))
+pub record Typed (file : List ℕ) (e : Environment) (r row : ℕ) (x : Typing) : Type 0 where
+  pub tells : (Γ : Types) → StandsFor e Γ → WellFormed file → r < expressionCount file → TypedAs e row x (typeOf Γ (expressionOf file r))

@@ -1,13 +1,13 @@
 -- Clearing a buffer and starting clients in it, at each of the ways out of the code.
-use mathlib.Core.Path.{_≡_, refl, sym, ap, subst, _∙_}
-use mathlib.Core.List.{List, [], _∷_, _++_, append-assoc}
-use mathlib.Core.Bool.{Bool, true, false}
-use Prim.Native.Nat.{ℕ, zero, suc, _+_, _-_, _*_, _≤_, _<_}
+use mathlib.Core.Path.{_≡_, refl, sym, ap, _∙_}
+use mathlib.Core.List.{List, [], _∷_, _++_}
+use mathlib.Core.Bool.{Bool, false}
+use Prim.Native.Nat.{ℕ, zero, suc, _+_, _-_, _≤_, _<_}
 use native.Mathlib.Numerals.{add-one}
 use native.Mathlib.Omega.{arith}
 use lib.ListN.{length, take, set, length-set}
 use lib.Seq.{take-suc-set, take-all}
-use lib.Dec.{eqb, ltb}
+use lib.Dec.{ltb}
 use borrow.Author.Tests.{eq-eqb, ne-eqb, le-ltb}
 use Rattle.refusal.specs.declared.Refusal.{Refusal}
 use Rattle.refusal.specs.declared.Refusal.the-variants.{BufferSize}
@@ -17,7 +17,7 @@ use Rattle.refusal.specs.declared.Outcome.{Outcome}
 use Rattle.refusal.specs.Refusal.{doneWith, refusedBy}
 use Rattle.scalar.specs.Value.{pick}
 use Rattle.syntax.specs.Rows.{entry}
-use Rattle.syntax.specs.Syntax.{Behaviour, Optional, none, some, Service}
+use Rattle.syntax.specs.Syntax.{none, some, Service}
 use Rattle.network.specs.Form.{formOf, WellFormed}
 use Rattle.network.specs.Layout.{serviceCount}
 use Rattle.network.specs.Rows.{clientRow, noRow}
@@ -31,12 +31,15 @@ use Rattle.typing.specs.NetworkChecker.{checkNetwork}
 use Rattle.checking.specs.FileChecker.{afterForm, checkFile}
 use Rattle.checker.specs.declared.Answer.{Answer}
 use Rattle.checker.specs.Answer.{answerOf, IfPassed, ShapedAll}
-use Rattle.state.specs.Session.{State, free, live, newSession, setSlot}
+use Rattle.state.specs.Places.{slotStart}
+use Rattle.state.specs.Session.{free}
 use Rattle.state.specs.Bytes.{zeros, stateBytes}
 use Rattle.state.specs.Shape.{serviceAt, clientOf, freshState, freshUpTo}
-use Rattle.state.specs.FreshLaws.{free-bytes, start-bytes, fresh-none, fresh-all, fresh-idle, fresh-client, fresh-sized}
+use Rattle.state.specs.FreshLaws.{free-bytes, fresh-none, fresh-all, fresh-idle, fresh-client, fresh-sized}
 use Rattle.moves.specs.Fresh.{Freshened, freshRefused, afterCheck, fresh}
 use Rattle.fresh_state.specs.Starting.{Starts, StartsFrom}
+use Rattle.slots.specs.Slots.{begun}
+use Rattle.slots.specs.SlotLaws.{begun-state}
 
 -- ---- clearing
 
@@ -86,23 +89,19 @@ client-none file q r k e = record {
       ∙ ap (λ (t : Bool). pick t none (some (behaviourOf file (clientRow file q)))) (eq-eqb (clientRow file q) noRow (sym k ∙ e)))));
 }
 
-pub client-new : (file : List ℕ) (q r i : ℕ) {s s₁ : List ℕ} → r ≡ clientRow file q → (r ≡ 65535 → ⊥) → q < 4 → i ≡ q
-    → s₁ ≡ set (set (set s (16384 * i) 1) (16384 * i + 2) 5) (16384 * i + 18) 6 → Starts file q s s₁
+pub client-new : (file : List ℕ) (q r at : ℕ) {s s₁ : List ℕ} → r ≡ clientRow file q → (r ≡ 65535 → ⊥) → q < 4 → at ≡ slotStart q 0
+    → s₁ ≡ begun s at → Starts file q s s₁
 unfolding serviceOf
-client-new file q r i {s} {s₁} k e m d t = record {
+client-new file q r at {s} {s₁} k e m d t = record {
   tells = λ w l h.
       let N = networkOf file in
       let c = client-is file q l
       ∙ ap (λ (u : Bool). pick u none (some (behaviourOf file (clientRow file q)))) (ne-eqb (clientRow file q) noRow (λ i. e (k ∙ i))) in
-      let at = 16384 * i in
-      let p : 16384 * i ≡ 4096 * (4 * q + 0) = omega (arith, d) in
       let g : freshUpTo N q q 0 ≡ free = ap (λ (u : Bool). pick u (freshState N q 0) free) (below q) in
-      let b = start-bytes (fresh-sized N q) q 0 m (omega arith) g in
-      let v : set (set (set s at 1) (at + 2) 5) (at + 18) 6
-      ≡ set (set (set (stateBytes (freshUpTo N q)) (4096 * (4 * q + 0)) 1) (4096 * (4 * q + 0) + 2) 5) (4096 * (4 * q + 0) + 18) 6 =
-      ap (λ (x : List ℕ). set (set (set x at 1) (at + 2) 5) (at + 18) 6) h
-      ∙ ap (λ (a : ℕ). set (set (set (stateBytes (freshUpTo N q)) a 1) (a + 2) 5) (a + 18) 6) p in
-      t ∙ (v ∙ (sym b ∙ sym (ap stateBytes (fresh-client N q (behaviourOf file (clientRow file q)) c))));
+      let b = begun-state (fresh-sized N q) q 0 m (omega arith) g in
+      let v : begun s at ≡ begun (stateBytes (freshUpTo N q)) (slotStart q 0) =
+      ap (λ (x : List ℕ). begun x at) h ∙ ap (begun (stateBytes (freshUpTo N q))) d in
+      t ∙ (v ∙ (b ∙ sym (ap stateBytes (fresh-client N q (behaviourOf file (clientRow file q)) c))));
 }
   where
     below : (q : ℕ) → ltb q q ≡ false

@@ -28,7 +28,7 @@ fn start_client(file: &[u8], q: u16, state: &mut [u8])
     if rows::client_row(file, q) == 65535 {
         return;
     }
-    slots::begin(state, 16384 * wire::index(q));
+    slots::begin(state, state::slot_start(q, 0));
 }
 
 // Starts the clients of the n services from q on.

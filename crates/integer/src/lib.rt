@@ -1,10 +1,9 @@
 // Signed 32-bit and 64-bit numbers, their two's complement patterns, and arithmetic that wraps at the width.
 ghost use mathlib.Core.Path.{_≡_};
-ghost use Prim.Native.Nat.{_+_, _-_, _%_, _^_};
 ghost use mir.Syntax.{w32, w64};
 ghost use mir.Val.{toZ, ofZ};
 ghost use lib.IntN.{_+ℤ_, _-ℤ_, negℤ};
-ghost use Rattle.integer.specs.Wrap.{wrap};
+ghost use Rattle.integer.specs.Wrap.{wrap, fits, moved};
 
 // The number whose pattern is n. A cast must fit, so the upper half goes through -1 - x.
 pub fn int_of(n: u32) -> i32
@@ -28,42 +27,66 @@ pub fn int_bits(x: i32) -> u32
     }
 }
 
-fn add_u32(a: u32, b: u32) -> u32
-    ensures { λ r. ⌜ r ≡ (a + b) % 2 ^ 32 ⌝ }
+// Does the exact sum fit the width?
+fn int_sum_fits(a: i32, b: i32) -> bool
+    ensures { λ t. ⌜ t ≡ fits w32 (a +ℤ b) ⌝ }
 {
-    if b <= 4294967295 - a {
-        a + b
+    if b < 0 {
+        -2147483648 - b <= a
     } else {
-        a - (4294967295 - b) - 1
+        a <= 2147483647 - b
     }
 }
 
-fn sub_u32(a: u32, b: u32) -> u32
-    ensures { λ r. ⌜ r ≡ (a + (2 ^ 32 - b)) % 2 ^ 32 ⌝ }
+// Does the exact difference fit the width?
+fn int_difference_fits(a: i32, b: i32) -> bool
+    ensures { λ t. ⌜ t ≡ fits w32 (a -ℤ b) ⌝ }
 {
-    if b <= a {
-        a - b
+    if b < 0 {
+        a <= 2147483647 + b
     } else {
-        a + (4294967295 - b) + 1
+        -2147483648 + b <= a
     }
 }
 
+// x moved by half the range of the width, to the other sign.
+fn int_moved(x: i32) -> i32
+    ensures { λ r. ⌜ r ≡ moved w32 x ⌝ }
+{
+    if x < 0 {
+        x - -2147483648
+    } else {
+        x + -2147483648
+    }
+}
+
+// A sum that does not fit is of two numbers of one sign, and wraps by the whole range.
 pub fn int_add(a: i32, b: i32) -> i32
     ensures { λ r. ⌜ r ≡ wrap w32 (a +ℤ b) ⌝ }
 {
-    int_of(add_u32(int_bits(a), int_bits(b)))
+    if int_sum_fits(a, b) {
+        return a + b;
+    }
+    int_moved(a) + int_moved(b)
 }
 
 pub fn int_subtract(a: i32, b: i32) -> i32
     ensures { λ r. ⌜ r ≡ wrap w32 (a -ℤ b) ⌝ }
 {
-    int_of(sub_u32(int_bits(a), int_bits(b)))
+    if int_difference_fits(a, b) {
+        return a - b;
+    }
+    int_moved(a) - int_moved(b)
 }
 
+// The least number's opposite does not fit, and wraps to the least number.
 pub fn int_negate(a: i32) -> i32
     ensures { λ r. ⌜ r ≡ wrap w32 (negℤ a) ⌝ }
 {
-    int_subtract(0, a)
+    if -2147483648 < a {
+        return -a;
+    }
+    a
 }
 
 // The number whose pattern is n.
@@ -88,40 +111,64 @@ pub fn long_bits(x: i64) -> u64
     }
 }
 
-fn add_u64(a: u64, b: u64) -> u64
-    ensures { λ r. ⌜ r ≡ (a + b) % 2 ^ 64 ⌝ }
+// Does the exact sum fit the width?
+fn long_sum_fits(a: i64, b: i64) -> bool
+    ensures { λ t. ⌜ t ≡ fits w64 (a +ℤ b) ⌝ }
 {
-    if b <= 18446744073709551615 - a {
-        a + b
+    if b < 0 {
+        -9223372036854775808 - b <= a
     } else {
-        a - (18446744073709551615 - b) - 1
+        a <= 9223372036854775807 - b
     }
 }
 
-fn sub_u64(a: u64, b: u64) -> u64
-    ensures { λ r. ⌜ r ≡ (a + (2 ^ 64 - b)) % 2 ^ 64 ⌝ }
+// Does the exact difference fit the width?
+fn long_difference_fits(a: i64, b: i64) -> bool
+    ensures { λ t. ⌜ t ≡ fits w64 (a -ℤ b) ⌝ }
 {
-    if b <= a {
-        a - b
+    if b < 0 {
+        a <= 9223372036854775807 + b
     } else {
-        a + (18446744073709551615 - b) + 1
+        -9223372036854775808 + b <= a
     }
 }
 
+// x moved by half the range of the width, to the other sign.
+fn long_moved(x: i64) -> i64
+    ensures { λ r. ⌜ r ≡ moved w64 x ⌝ }
+{
+    if x < 0 {
+        x - -9223372036854775808
+    } else {
+        x + -9223372036854775808
+    }
+}
+
+// A sum that does not fit is of two numbers of one sign, and wraps by the whole range.
 pub fn long_add(a: i64, b: i64) -> i64
     ensures { λ r. ⌜ r ≡ wrap w64 (a +ℤ b) ⌝ }
 {
-    long_of(add_u64(long_bits(a), long_bits(b)))
+    if long_sum_fits(a, b) {
+        return a + b;
+    }
+    long_moved(a) + long_moved(b)
 }
 
 pub fn long_subtract(a: i64, b: i64) -> i64
     ensures { λ r. ⌜ r ≡ wrap w64 (a -ℤ b) ⌝ }
 {
-    long_of(sub_u64(long_bits(a), long_bits(b)))
+    if long_difference_fits(a, b) {
+        return a - b;
+    }
+    long_moved(a) - long_moved(b)
 }
 
+// The least number's opposite does not fit, and wraps to the least number.
 pub fn long_negate(a: i64) -> i64
     ensures { λ r. ⌜ r ≡ wrap w64 (negℤ a) ⌝ }
 {
-    long_subtract(0, a)
+    if -9223372036854775808 < a {
+        return -a;
+    }
+    a
 }

@@ -97,7 +97,7 @@ few file = by (formOf file) refl
     by : (v : Verdict) → formOf file ≡ v → length (environmentsOf (afterForm v (checkNetwork (networkOf file)))) ≤ 4
     by (Refused why) e = omega arith
     by Done e =
-        outputs (checkServices 0 (networkOf file .services)) (checkOutputs (networkOf file .services) (networkOf file .operations) (networkOf file .operations))
+        outputs (checkServices 0 (networkOf file .services)) (checkOutputs (networkOf file) (networkOf file .operations))
         (omega (arith, services-few 0 (networkOf file .services), service-length file, counts-kept file e .services))
 
 -- ---- the whole answer

@@ -1,15 +1,19 @@
 -- Local moves of a reached row, at each of the ways out of the code.
 use mathlib.Core.Path.{_≡_, refl, sym, ap, subst, _∙_}
 use mathlib.Core.Bool.{Bool, true, false, not}
-use mathlib.Core.List.{List, []}
+use mathlib.Core.List.{List, [], _∷_}
 use Prim.Native.Nat.{ℕ, _+_, _*_, _≤_, _<_}
 use native.Mathlib.Omega.{arith}
 use lib.ListN.{length, take}
-use Rattle.forest.specs.Forest.{Forest, Tree, tree}
+use types.Run.{OneOf, miss}
+use denote.Enum.Declared.{tagOf}
+use Rattle.forest.specs.Forest.{Forest, tree}
 use Rattle.forest.specs.Path.{setPayloadAt}
 use Rattle.wire.specs.Wire.{withPart}
 use Rattle.scalar.specs.Value.{Value}
-use Rattle.syntax.specs.Syntax.{Optional, Behaviour}
+use Rattle.scalar.specs.Scalar.{valueOf}
+use Rattle.scalar.specs.declared.Operand.{Operand}
+use Rattle.syntax.specs.Syntax.{Behaviour}
 use Rattle.refusal.specs.declared.Refusal.{Refusal}
 use Rattle.refusal.specs.declared.Refusal.the-variants.{MoveNotAllowed, Stuck}
 use Rattle.refusal.specs.declared.Outcome.{Outcome}
@@ -18,34 +22,37 @@ use Rattle.typing.specs.Environment.{within}
 use Rattle.tree.specs.Encode.{empty, treeDeep, treeMany}
 use Rattle.tree.specs.Encode as encoding
 use Rattle.network.specs.Form.{WellFormed}
-use Rattle.network.specs.Layout.{behaviourCount}
+use Rattle.network.specs.Layout.{pathCount, behaviourCount}
 use Rattle.network.specs.RowLaws.{counts-kept}
 use Rattle.network.specs.Decode.{pathOf, expressionOf, behaviourOf, networkOf}
 use Rattle.network.specs.TestLaws.{told as held, untold as failed}
 use Rattle.rows.specs.declared.BehaviourRow.{BehaviourRow}
+use Rattle.rows.proofs.BehaviourRow as rows
 use Rattle.rows.specs.Readers.{behaviourRowOf}
 use Rattle.row_parts.specs.Behaviours.{behaviourBy, KeptBy}
 use Rattle.row_parts.specs.KindLaws.{row-is}
-use Rattle.state.specs.Session.{Progress, undone, done, taken, advance, reopen, Session, live, State, setSlot}
-use Rattle.state.specs.Bytes.{u16Bytes, padded, progressBytes, rowsBytes, treeBytes, slotBytes, stateBytes, readSession}
+use Rattle.state.specs.Places.{slotSize, rowsPlace}
+use Rattle.state.specs.Session.{Progress, done, taken, advance, reopen, Session, withTree, withProgress, live, State, setSlot}
+use Rattle.state.specs.Bytes.{rowsBytes, slotBytes, stateBytes, readSession}
 use Rattle.state.specs.Shape.{isUndone, WellMade}
 use Rattle.state.specs.SizeLaws.{made-fits, rows-size}
 use Rattle.state.specs.PartLaws.{replace-within}
 use Rattle.state.specs.ReadLaws.{slot-parts}
 use Rattle.state.specs.ChangeLaws.{change-rows}
-use Rattle.state.specs.KeepLaws.{advance-past, reopen-past}
+use Rattle.state.specs.KeepLaws.{reopen-past, made-tree, made-row, made-progress}
 use Rattle.moves.specs.Readiness.{isDone, Reached, reached, reach}
-use Rattle.moves.specs.Evaluation.{evaluate}
-use Rattle.moves.specs.Moves.{refused, moved, notAllowed, require, onTree, onBool, rootValue, voidValue, withTree, assigned, decided, repeated}
+use Rattle.moves.specs.Evaluation.{leaf, evaluate}
+use Rattle.moves.specs.Moves.{Result, refused, moved, notAllowed, require, onTree, onBool, rootValue, voidValue, assigned, decided, repeated}
 use Rattle.moves.specs.Moves.{localAt, localReached, localMove}
-use Rattle.moves.specs.Step.{finish}
-use Rattle.slots.specs.Slots.{treeIn}
+use Rattle.moves.specs.Step.{Step, finish}
+use Rattle.slots.specs.Slots.{treeIn, treeStored}
 use Rattle.slots.specs.SlotLaws.{row-set, tree-set, living-set, set-again, stands-set, living-holds, living-tree}
 use Rattle.slots.specs.Living.{Living}
 use Rattle.evaluation.specs.declared.Decision.{Decision}
 use Rattle.evaluation.specs.declared.Evaluated.{Evaluated}
-use Rattle.evaluation.specs.Condition.{conditionOf, onCondition}
-use Rattle.evaluation.specs.ConditionLaws.{on-condition}
+use Rattle.evaluation.specs.declared.Source.{Source}
+use Rattle.evaluation.specs.Condition.{ifGiven, conditionOf, onCondition}
+use Rattle.evaluation.specs.ConditionLaws.{on-value, on-condition}
 use Rattle.evaluation.specs.Evaluated.{Evaluates}
 use Rattle.reopening.specs.Reopening.{rowsBelow, withUndone}
 use Rattle.reopening.specs.ReopeningLaws.{undone-rows}
@@ -53,12 +60,13 @@ use Rattle.readiness.specs.declared.Reached as coded
 use Rattle.readiness.specs.Reaching.{reachedAs, Reaches}
 use Rattle.readiness.specs.ReachedLaws.{reached-row}
 use Rattle.session_trees.specs.declared.Change.{Change}
-use Rattle.session_trees.specs.Changing.{KeptTree}
+use Rattle.session_trees.specs.Changing.{KeptTree, ChangedTo}
 use Rattle.moving.specs.declared.Running.{Running}
 use Rattle.moving.specs.Made.{StateOf, Made, InSession, Runs, RunsAt}
-use Rattle.moving.specs.MadeLaws.{in-session}
-use Rattle.local_moves.specs.Local.{readyWhile, Decides, AssignedTo, AssignsValue, MadeBy, RowMade}
+use Rattle.moving.specs.MadeLaws.{in-session, refused-step}
+use Rattle.local_moves.specs.Local.{readyWhile, Decides, SetsRoot, AssignsValue, MadeBy, RowMade}
 use Rattle.local_moves.proofs.MarkLaws.{if-undone, if-ready-while}
+use Rattle.progress.specs.Stored.{rowStored}
 
 -- ---- a condition
 
@@ -73,35 +81,25 @@ condition-decides file s slot e {t} {x} {d} q v c = record {
 -- ---- one store after another
 
 pub then-row : (slot r : ℕ) (x : Progress) {s₁ s₂ a : List ℕ} {o : Outcome} → s₁ ≡ a
-    → (s₂ ≡ withPart s₁ (slot + 2416 + 6 * r) (progressBytes x)) × (o ≡ doneWith 0)
-    → (s₂ ≡ withPart a (slot + 2416 + 6 * r) (progressBytes x)) × (o ≡ doneWith 0)
-then-row slot r x e h = (h .0 ∙ ap (λ (y : List ℕ). withPart y (slot + 2416 + 6 * r) (progressBytes x)) e, h .1)
+    → (s₂ ≡ rowStored s₁ slot r x) × (o ≡ doneWith 0)
+    → (s₂ ≡ rowStored a slot r x) × (o ≡ doneWith 0)
+then-row slot r x e h = (h .0 ∙ ap (λ (y : List ℕ). rowStored y slot r x) e, h .1)
 
 -- ---- sessions that are changed
 
 advanced : Session → ℕ → Progress → Session
-advanced S r x = record { tree = S .tree; queue = S .queue; progress = advance (S .progress) r x }
+advanced S r x = withProgress S (advance (S .progress) r x)
 
 advanced-made : (S : Session) (r : ℕ) (x : Progress) → r < 256 → WellMade S → WellMade (advanced S r x)
 unfolding advanced
-advanced-made S r x l w = record {
-  bounded = w .bounded;
-  upToFour = w .upToFour;
-  messages = w .messages;
-  noRowsPast = advance-past (S .progress) r x l (w .noRowsPast);
-}
+advanced-made S r x l w = made-row w r x l
 
 reopened : Session → Behaviour → Session
-reopened S b = record { tree = S .tree; queue = S .queue; progress = reopen (S .progress) b }
+reopened S b = withProgress S (reopen (S .progress) b)
 
 reopened-made : (S : Session) (b : Behaviour) → WellMade S → WellMade (reopened S b)
 unfolding reopened
-reopened-made S b w = record {
-  bounded = w .bounded;
-  upToFour = w .upToFour;
-  messages = w .messages;
-  noRowsPast = reopen-past (S .progress) b (w .noRowsPast);
-}
+reopened-made S b w = made-progress w (reopen (S .progress) b) (reopen-past (S .progress) b (w .noRowsPast))
 
 -- The rows of a behaviour, undone again in a live session's slot.
 reopen-set : {s : List ℕ} {at : ℕ} {S : Session} → Living s at S → (file : List ℕ) (b : ℕ)
@@ -110,23 +108,23 @@ unfolding reopened
 reopen-set {s} {at} {S} h file b =
     let p = reopen (S .progress) (behaviourOf file b) in
     undone-rows (rowsBelow file b) at (S .progress) s (h .inside) (slot-parts S (made-fits (h .made)) (living-holds h) .rows)
-    ∙ (sym (replace-within s at 4096 2416 (rowsBytes p) (h .inside) (omega (arith, rows-size p)))
-    ∙ ap (withPart s at) (ap (λ (t : List ℕ). withPart t 2416 (rowsBytes p)) (h .bytes) ∙ sym (change-rows S (made-fits (h .made)) p)))
+    ∙ (sym (replace-within s at slotSize rowsPlace (rowsBytes p) (h .inside) (omega (arith, rows-size p)))
+    ∙ ap (withPart s at) (ap (λ (t : List ℕ). withPart t rowsPlace (rowsBytes p)) (h .bytes) ∙ sym (change-rows S (made-fits (h .made)) p)))
 
 planted : Session → Forest Value → Session
-planted S F = record { tree = F; queue = S .queue; progress = S .progress }
+planted S F = withTree S F
 
 planted-made : (S : Session) (F : Forest Value) → encoding.WellFormed treeDeep treeMany (tree empty F) → WellMade S → WellMade (planted S F)
 unfolding planted
-planted-made S F g w = record { bounded = g; upToFour = w .upToFour; messages = w .messages; noRowsPast = w .noRowsPast }
+planted-made S F g w = made-tree w F g
 
-tree-planted : {s : List ℕ} {at : ℕ} {S : Session} → Living s at S → (F : Forest Value) → length (treeBytes F) ≤ 1024
-    → withPart (withPart s (at + 2) (u16Bytes (length (treeBytes F)))) (at + 16) (padded 1024 (treeBytes F)) ≡ withPart s at (slotBytes (live (planted S F)))
+tree-planted : {s : List ℕ} {at : ℕ} {S : Session} → Living s at S → (F : Forest Value) (o : List ℕ) (n : ℕ) → KeptTree o n F
+    → treeStored s at o n ≡ withPart s at (slotBytes (live (planted S F)))
 unfolding planted
-tree-planted h F l = tree-set h F l
+tree-planted h F o n k = tree-set h F o n (k .bytes) (k .size) (omega (arith, k .size, k .small))
 
 planted-done : Session → Forest Value → ℕ → Session
-planted-done S F r = withTree S F (advance (S .progress) r done)
+planted-done S F r = withProgress (withTree S F) (advance (S .progress) r done)
 
 planted-done-made : (S : Session) (F : Forest Value) (r : ℕ) → r < 256 → WellMade (planted S F) → WellMade (planted-done S F r)
 unfolding planted planted-done advanced
@@ -134,17 +132,21 @@ planted-done-made S F r l w = advanced-made (planted S F) r done l w
 
 planted-again : {s : List ℕ} {at : ℕ} {S : Session} → Living s at S → (F : Forest Value) (r : ℕ) → WellMade (planted S F) → WellMade (planted-done S F r)
     → withPart (withPart s at (slotBytes (live (planted S F)))) at
-    (slotBytes (live (record { tree = planted S F .tree; queue = planted S F .queue; progress = advance (planted S F .progress) r done })))
+    (slotBytes (live (withProgress (planted S F) (advance (planted S F .progress) r done))))
     ≡ withPart s at (slotBytes (live (planted-done S F r)))
 unfolding planted planted-done
 planted-again {s} {at} {S} h F r w v = set-again h (planted S F) (live (planted-done S F r)) w v
 
 -- A tree within its limits is saved.
 saved : (G : State) (q n : ℕ) (S : Session) (r : ℕ) (F : Forest Value) → within F ≡ true
-    → require (within F) Stuck (moved (setSlot G q n (live (withTree S F (advance (S .progress) r done)))) [])
+    → require (within F) Stuck (moved (setSlot G q n (live (withProgress (withTree S F) (advance (S .progress) r done)))) [])
     ≡ moved (setSlot G q n (live (planted-done S F r))) []
 unfolding planted-done
-saved G q n S r F e = ap (λ (b : Bool). require b Stuck (moved (setSlot G q n (live (withTree S F (advance (S .progress) r done)))) [])) e
+saved G q n S r F e = ap (λ (b : Bool). require b Stuck (moved (setSlot G q n (live (withProgress (withTree S F) (advance (S .progress) r done)))) [])) e
+
+-- A session's tree with the value v set at P row p.
+abbrev rootSet : List ℕ → ℕ → Operand → Session → Forest Value
+rootSet file p v S = setPayloadAt voidValue (pathOf file p) (valueOf v) (S .tree)
 
 -- ---- a row's move
 
@@ -153,25 +155,61 @@ module _ (file s : List ℕ) (slot r : ℕ) where
       → (WellFormed file → (G : State) (q n b left : ℕ) (h : InSession file s G q n slot b) → KeptBy file left y
       → localAt G q n (h .session) (behaviourBy file r y) ≡ refused why)
       → MadeBy y file s s slot r o
-  by-refused y {o} {why} e k = record {
-    tells = λ w G st q n b left h p out.
-        ap (λ (z : Outcome). record { outcome = z; state = s; out = out }) e ∙ ap (finish s out) (sym (k w G q n b left h p));
-  }
+  by-refused y e k = record { tells = λ w G st q n b left h p out. refused-step e (k w G q n b left h p) }
+
+  -- The state's bytes with another session in the slot.
+  step-moved : {s′ : List ℕ} {o : Outcome} {G : State} {q n b : ℕ} → StateOf file s G → InSession file s G q n slot b → (S′ : Session) (R : Result)
+      → o ≡ doneWith 0 → s′ ≡ withPart s slot (slotBytes (live S′)) → WellMade S′ → R ≡ moved (setSlot G q n (live S′)) [] → (out : List ℕ)
+      → _≡_ {A = Step} (record { outcome = o; state = s′; out = out }) (finish s out R)
+  step-moved {s′} {o} {G} {q} {n} st h S′ R e k m g out =
+      let x = live S′ in
+      let t : s′ ≡ stateBytes (setSlot G q n x) =
+      k ∙ (ap (λ (j : ℕ). withPart s j (slotBytes x)) (h .place) ∙ stands-set st q n x (h .service) (h .number) m) in
+      ap (λ (z : Outcome). record { outcome = z; state = s′; out = out }) e
+      ∙ (ap (λ (z : List ℕ). record { outcome = doneWith 0; state = z; out = out }) t ∙ ap (finish s out) (sym g))
 
   by-moved : (y : BehaviourRow) {s′ : List ℕ} {o : Outcome} → o ≡ doneWith 0
       → (WellFormed file → (G : State) (q n b left : ℕ) (h : InSession file s G q n slot b) → KeptBy file left y
       → (S′ : Session) × (s′ ≡ withPart s slot (slotBytes (live S′))) × WellMade S′
       × (localAt G q n (h .session) (behaviourBy file r y) ≡ moved (setSlot G q n (live S′)) []))
       → MadeBy y file s s′ slot r o
-  by-moved y {s′} {o} e f = record {
-    tells = λ w G st q n b left h p out.
-        let k = f w G q n b left h p in
-        let x = live (k .0) in
-        let t : s′ ≡ stateBytes (setSlot G q n x) =
-        k .1 ∙ (ap (λ (j : ℕ). withPart s j (slotBytes x)) (h .place) ∙ stands-set st q n x (h .service) (h .number) (k .2)) in
-        ap (λ (z : Outcome). record { outcome = z; state = s′; out = out }) e
-        ∙ (ap (λ (z : List ℕ). record { outcome = doneWith 0; state = z; out = out }) t ∙ ap (finish s out) (sym (k .3)));
+  by-moved y e f = record {
+    tells = λ w G st q n b left h p out. let k = f w G q n b left h p in step-moved st h (k .0) _ e (k .1) (k .2) (k .3) out;
   }
+
+  -- ---- a value that is assigned
+
+  module _ (p : ℕ) (v : Operand) {c : Change} {o′ : List ℕ} (a : SetsRoot file s slot p v o′ c) where
+    told : {y : Change} → c ≡ y → WellFormed file → {G : State} {q n b : ℕ} (h : InSession file s G q n slot b) → p < pathCount file
+        → ChangedTo o′ y (rootSet file p v (h .session))
+    told g w h l = subst (λ (z : Change). ChangedTo o′ z (rootSet file p v (h .session))) g (a .tells w (h .session) (h .living) l)
+
+    pub value-large : {o : Outcome} → c ≡ Change.TooLarge → o ≡ refusedBy Stuck → AssignsValue file s s slot r p v o
+    value-large g k = record {
+      tells = λ w G st q n b h l out.
+          let S = h .session in
+          refused-step k (ap (λ (z : Bool). require z Stuck (moved (setSlot G q n (live (withProgress (withTree S (rootSet file p v S)) (advance (S .progress) r done)))) [])) (told g w h l));
+    }
+
+    -- A tree that keeps to its limits has 1,013 bytes at most.
+    pub value-long : {o : Outcome} {s′ : List ℕ} {m : ℕ} → c ≡ Change.Kept m → 1024 < m → AssignsValue file s s′ slot r p v o
+    value-long g l = record { tells = λ w G st q n b h j out. absurd (omega (arith, l, told g w h j .small)) }
+
+    pub value-kept : {o : Outcome} {s′ : List ℕ} {m : ℕ} → c ≡ Change.Kept m → r < 256
+        → (s′ ≡ rowStored (treeStored s slot o′ m) slot r done) × (o ≡ doneWith 0)
+        → AssignsValue file s s′ slot r p v o
+    value-kept {o} {s′} {m} g l k = record {
+      tells = λ w G st q n b h j out.
+          let S = h .session in
+          let F = rootSet file p v S in
+          let K : KeptTree o′ m F = told g w h j in
+          let S₁ = planted S F in
+          let w₁ = planted-made S F (K .made) (h .living .made) in
+          step-moved st h (planted-done S F r) _ (k .1)
+          (k .0 ∙ (ap (λ (y : List ℕ). rowStored y slot r done) (tree-planted (h .living) F o′ m K)
+          ∙ (row-set (living-set (h .living) S₁ w₁) r done l ∙ planted-again (h .living) F r w₁ (planted-done-made S F r l w₁))))
+          (planted-done-made S F r l w₁) (saved G q n S r F (K .fits)) out;
+    }
 
   module _ {x : Bool} (u : x ≡ isUndone (readSession s slot .progress r)) where
     undone-is : {G : State} {q n b : ℕ} (h : InSession file s G q n slot b) {t : Bool} → isUndone (readSession s slot .progress r) ≡ t
@@ -198,12 +236,16 @@ module _ (file s : List ℕ) (slot r : ℕ) where
             if-undone (S .progress r) next ∙ (ap (λ (z : Bool). require z MoveNotAllowed next) (undone-is h (held u f))
             ∙ v .tells w S (h .living) (p .0) (decided G q n S r))
 
-        pub if-stuck : {o : Outcome} → d ≡ Decision.Stuck → o ≡ refusedBy Stuck → MadeBy (BehaviourRow.If e a b) file s s slot r o
-        if-stuck g k = by-refused (BehaviourRow.If e a b) k (λ w G q n c left h p.
+        pub if-missing : {o : Outcome} → d ≡ Decision.Missing → o ≡ refusedBy Stuck → MadeBy (BehaviourRow.If e a b) file s s slot r o
+        if-missing g k = by-refused (BehaviourRow.If e a b) k (λ w G q n c left h p.
+            if-decides w G q n c left h p ∙ ap (λ (z : Decision). onCondition z (decided G q n (h .session) r)) g)
+
+        pub if-wrong : {o : Outcome} → d ≡ Decision.Wrong → o ≡ refusedBy Stuck → MadeBy (BehaviourRow.If e a b) file s s slot r o
+        if-wrong g k = by-refused (BehaviourRow.If e a b) k (λ w G q n c left h p.
             if-decides w G q n c left h p ∙ ap (λ (z : Decision). onCondition z (decided G q n (h .session) r)) g)
 
         pub if-true : {o : Outcome} {s′ : List ℕ} → d ≡ Decision.True → r < 256
-            → (s′ ≡ withPart s (slot + 2416 + 6 * r) (progressBytes (taken 0))) × (o ≡ doneWith 0) → MadeBy (BehaviourRow.If e a b) file s s′ slot r o
+            → (s′ ≡ rowStored s slot r (taken 0)) × (o ≡ doneWith 0) → MadeBy (BehaviourRow.If e a b) file s s′ slot r o
         unfolding advanced
         if-true g l k = by-moved (BehaviourRow.If e a b) (k .1) (λ w G q n c left h p.
             let S = h .session in (
@@ -214,7 +256,7 @@ module _ (file s : List ℕ) (slot r : ℕ) where
             ))
 
         pub if-false : {o : Outcome} {s′ : List ℕ} → d ≡ Decision.False → r < 256
-            → (s′ ≡ withPart s (slot + 2416 + 6 * r) (progressBytes (taken 1))) × (o ≡ doneWith 0) → MadeBy (BehaviourRow.If e a b) file s s′ slot r o
+            → (s′ ≡ rowStored s slot r (taken 1)) × (o ≡ doneWith 0) → MadeBy (BehaviourRow.If e a b) file s s′ slot r o
         unfolding advanced
         if-false g l k = by-moved (BehaviourRow.If e a b) (k .1) (λ w G q n c left h p.
             let S = h .session in (
@@ -234,71 +276,55 @@ module _ (file s : List ℕ) (slot r : ℕ) where
           let next = onTree (evaluate (S .tree) (expressionOf file e)) (assigned G q n S r (pathOf file p)) in
           if-undone (S .progress r) next ∙ ap (λ (z : Bool). require z MoveNotAllowed next) (undone-is h (failed u f)))
 
-      module _ {c : Change} {o′ : List ℕ} (f : not x ≡ false) (v : AssignsValue file s slot p e o′ c) where
+      module _ {t : List ℕ} {y : Evaluated} (f : not x ≡ false) (g : t ≡ treeIn s slot) (v : Evaluates file t e y) where
         assign-is : WellFormed file → (G : State) (q n b left : ℕ) (h : InSession file s G q n slot b) → KeptBy file left (BehaviourRow.Assign p e)
-            → localAt G q n (h .session) (behaviourBy file r (BehaviourRow.Assign p e))
-            ≡ onTree (evaluate (h .session .tree) (expressionOf file e)) (assigned G q n (h .session) r (pathOf file p))
+            → {k : Source} → y .source ≡ k → localAt G q n (h .session) (behaviourBy file r (BehaviourRow.Assign p e))
+            ≡ ifGiven k (assigned G q n (h .session) r (pathOf file p) (leaf (valueOf (y .root))))
         unfolding localAt
-        assign-is w G q n b left h g =
+        assign-is w G q n b left h j i =
             let S = h .session in
             let next = onTree (evaluate (S .tree) (expressionOf file e)) (assigned G q n S r (pathOf file p)) in
-            if-undone (S .progress r) next ∙ ap (λ (z : Bool). require z MoveNotAllowed next) (undone-is h (held u f))
+            let set : Value → Result = λ z. assigned G q n S r (pathOf file p) (leaf z) in
+            if-undone (S .progress r) next ∙ (ap (λ (z : Bool). require z MoveNotAllowed next) (undone-is h (held u f))
+            ∙ (on-value t y (evaluate (S .tree) (expressionOf file e)) set
+            (v .tells (S .tree) (record { bytes = g ∙ living-tree (h .living); good = h .living .made .bounded }) w (j .1))
+            ∙ ap (λ (z : Source). ifGiven z (set (valueOf (y .root)))) i))
 
-        told : {y : Change} → c ≡ y → WellFormed file → {G : State} {q n b : ℕ} (left : ℕ) (h : InSession file s G q n slot b)
-            → KeptBy file left (BehaviourRow.Assign p e)
-            → AssignedTo o′ y (pathOf file p) (h .session .tree) (evaluate (h .session .tree) (expressionOf file e))
-        told g w left h k =
-            subst (λ (z : Change). AssignedTo o′ z (pathOf file p) (h .session .tree) (evaluate (h .session .tree) (expressionOf file e))) g
-            (v .tells w (h .session) (h .living) (k .0) (k .1))
+        assign-by : {k : Source} {s′ : List ℕ} {o : Outcome} → y .source ≡ k → ((z : Result) → ifGiven k z ≡ z)
+            → AssignsValue file s s′ slot r p (y .root) o → MadeBy (BehaviourRow.Assign p e) file s s′ slot r o
+        assign-by i j a = record {
+          tells = λ w G st q n b left h d out.
+              a .tells w G st q n b h (d .0) out ∙ ap (finish s out) (sym (assign-is w G q n b left h d i ∙ j _));
+        }
 
-        pub assign-stuck : {o : Outcome} → c ≡ Change.TooLarge → o ≡ refusedBy Stuck → MadeBy (BehaviourRow.Assign p e) file s s slot r o
-        assign-stuck g k = by-refused (BehaviourRow.Assign p e) k (λ w G q n b left h j.
-            let S = h .session in
-            assign-is w G q n b left h j
-            ∙ told g w left h j
-            (λ t. moved (setSlot G q n (live (withTree S (setPayloadAt voidValue (pathOf file p) (rootValue t) (S .tree)) (advance (S .progress) r done)))) []))
-
-        -- A tree that keeps to its limits has 1,013 bytes at most.
-        pub assign-long : {o : Outcome} {s′ : List ℕ} {m : ℕ} → c ≡ Change.Kept m → 1024 < m → MadeBy (BehaviourRow.Assign p e) file s s′ slot r o
-        assign-long g l = record { tells = λ w G st q n b left h j out. absurd (omega (arith, l, told g w left h j .2 .small)) }
-
-        pub assign-kept : {o : Outcome} {s′ : List ℕ} {m : ℕ} → c ≡ Change.Kept m → r < 256
-            → (s′ ≡ withPart (withPart (withPart s (slot + 2) (u16Bytes m)) (slot + 16) (padded 1024 (take m o′))) (slot + 2416 + 6 * r) (progressBytes done))
-            × (o ≡ doneWith 0)
+        pub assign-at : {at : ℕ} {s′ : List ℕ} {o : Outcome} → y .source ≡ Source.At at → AssignsValue file s s′ slot r p (y .root) o
             → MadeBy (BehaviourRow.Assign p e) file s s′ slot r o
-        assign-kept {o} {s′} {m} g l k = by-moved (BehaviourRow.Assign p e) (k .1) (λ w G q n b left h j.
-            let S = h .session in
-            let a = told g w left h j in
-            let F = setPayloadAt voidValue (pathOf file p) (rootValue (a .0)) (S .tree) in
-            let K : KeptTree o′ m F = a .2 in
-            let S₁ = planted S F in
-            let w₁ = planted-made S F (K .made) (h .living .made) in
-            let t : withPart (withPart s (slot + 2) (u16Bytes m)) (slot + 16) (padded 1024 (take m o′)) ≡ withPart s slot (slotBytes (live S₁)) =
-            ap (λ (y : List ℕ). withPart (withPart s (slot + 2) (u16Bytes m)) (slot + 16) (padded 1024 y)) (K .bytes)
-            ∙ (ap (λ (y : ℕ). withPart (withPart s (slot + 2) (u16Bytes y)) (slot + 16) (padded 1024 (treeBytes F))) (K .size)
-            ∙ tree-planted (h .living) F (omega (arith, K .size, K .small))) in (
-              planted-done S F r,
-              k .0 ∙ (ap (λ (y : List ℕ). withPart y (slot + 2416 + 6 * r) (progressBytes done)) t
-                  ∙ (row-set (living-set (h .living) S₁ w₁) r done l ∙ planted-again (h .living) F r w₁ (planted-done-made S F r l w₁))),
-              planted-done-made S F r l w₁,
-              assign-is w G q n b left h j ∙ (ap (λ (y : Optional (Tree Value)). onTree y (assigned G q n S r (pathOf file p))) (a .1)
-                  ∙ saved G q n S r F (K .fits)),
-            ))
+        assign-at i a = assign-by i (λ z. refl) a
+
+        pub assign-alone : {s′ : List ℕ} {o : Outcome} → y .source ≡ Source.Alone → AssignsValue file s s′ slot r p (y .root) o
+            → MadeBy (BehaviourRow.Assign p e) file s s′ slot r o
+        assign-alone i a = assign-by i (λ z. refl) a
+
+        pub assign-missing : {o : Outcome} → y .source ≡ Source.Missing → o ≡ refusedBy Stuck → MadeBy (BehaviourRow.Assign p e) file s s slot r o
+        assign-missing i k = by-refused (BehaviourRow.Assign p e) k (λ w G q n b left h j. assign-is w G q n b left h j i)
+
+        pub assign-wrong : {o : Outcome} → y .source ≡ Source.Wrong → o ≡ refusedBy Stuck → MadeBy (BehaviourRow.Assign p e) file s s slot r o
+        assign-wrong i k = by-refused (BehaviourRow.Assign p e) k (λ w G q n b left h j. assign-is w G q n b left h j i)
 
   -- ---- while
 
-  module _ {x : Bool} (e b : ℕ) (u : x ≡ readyWhile (readSession s slot .progress r) (isDone (readSession s slot .progress) 0 (behaviourOf file b))) where
+  module _ {x : Bool} (e b : ℕ) (u : x ≡ readyWhile (readSession s slot .progress r) (isDone (readSession s slot .progress) (behaviourOf file b))) where
     ready-is : {G : State} {q n c : ℕ} (h : InSession file s G q n slot c) {t : Bool}
-        → readyWhile (readSession s slot .progress r) (isDone (readSession s slot .progress) 0 (behaviourOf file b)) ≡ t
-        → readyWhile (h .session .progress r) (isDone (h .session .progress) 0 (behaviourOf file b)) ≡ t
-    ready-is h g = ap (λ (z : Session). readyWhile (z .progress r) (isDone (z .progress) 0 (behaviourOf file b))) (sym (h .reads)) ∙ g
+        → readyWhile (readSession s slot .progress r) (isDone (readSession s slot .progress) (behaviourOf file b)) ≡ t
+        → readyWhile (h .session .progress r) (isDone (h .session .progress) (behaviourOf file b)) ≡ t
+    ready-is h g = ap (λ (z : Session). readyWhile (z .progress r) (isDone (z .progress) (behaviourOf file b))) (sym (h .reads)) ∙ g
 
     pub while-not-ready : {o : Outcome} → not x ≡ true → o ≡ refusedBy MoveNotAllowed → MadeBy (BehaviourRow.While e b) file s s slot r o
     unfolding localAt
     while-not-ready f k = by-refused (BehaviourRow.While e b) k (λ w G q n _ left h p.
         let S = h .session in
         let next = onTree (evaluate (S .tree) (expressionOf file e)) (λ t. onBool (rootValue t) (repeated G q n S r (behaviourOf file b))) in
-        if-ready-while (S .progress r) (isDone (S .progress) 0 (behaviourOf file b)) next
+        if-ready-while (S .progress r) (isDone (S .progress) (behaviourOf file b)) next
         ∙ ap (λ (z : Bool). require z MoveNotAllowed next) (ready-is h (failed u f)))
 
     module _ {d : Decision} (f : not x ≡ false) (v : Decides file s slot e d) where
@@ -308,16 +334,20 @@ module _ (file s : List ℕ) (slot r : ℕ) where
       while-decides w G q n c left h p =
           let S = h .session in
           let next = onTree (evaluate (S .tree) (expressionOf file e)) (λ t. onBool (rootValue t) (repeated G q n S r (behaviourOf file b))) in
-          if-ready-while (S .progress r) (isDone (S .progress) 0 (behaviourOf file b)) next
+          if-ready-while (S .progress r) (isDone (S .progress) (behaviourOf file b)) next
           ∙ (ap (λ (z : Bool). require z MoveNotAllowed next) (ready-is h (held u f))
           ∙ v .tells w S (h .living) (p .0) (repeated G q n S r (behaviourOf file b)))
 
-      pub while-stuck : {o : Outcome} → d ≡ Decision.Stuck → o ≡ refusedBy Stuck → MadeBy (BehaviourRow.While e b) file s s slot r o
-      while-stuck g k = by-refused (BehaviourRow.While e b) k (λ w G q n c left h p.
+      pub while-missing : {o : Outcome} → d ≡ Decision.Missing → o ≡ refusedBy Stuck → MadeBy (BehaviourRow.While e b) file s s slot r o
+      while-missing g k = by-refused (BehaviourRow.While e b) k (λ w G q n c left h p.
+          while-decides w G q n c left h p ∙ ap (λ (z : Decision). onCondition z (repeated G q n (h .session) r (behaviourOf file b))) g)
+
+      pub while-wrong : {o : Outcome} → d ≡ Decision.Wrong → o ≡ refusedBy Stuck → MadeBy (BehaviourRow.While e b) file s s slot r o
+      while-wrong g k = by-refused (BehaviourRow.While e b) k (λ w G q n c left h p.
           while-decides w G q n c left h p ∙ ap (λ (z : Decision). onCondition z (repeated G q n (h .session) r (behaviourOf file b))) g)
 
       pub while-false : {o : Outcome} {s′ : List ℕ} → d ≡ Decision.False → r < 256
-          → (s′ ≡ withPart s (slot + 2416 + 6 * r) (progressBytes done)) × (o ≡ doneWith 0) → MadeBy (BehaviourRow.While e b) file s s′ slot r o
+          → (s′ ≡ rowStored s slot r done) × (o ≡ doneWith 0) → MadeBy (BehaviourRow.While e b) file s s′ slot r o
       unfolding advanced
       while-false g l k = by-moved (BehaviourRow.While e b) (k .1) (λ w G q n c left h p.
           let S = h .session in (
@@ -328,7 +358,7 @@ module _ (file s : List ℕ) (slot r : ℕ) where
           ))
 
       pub while-true : {o : Outcome} {s′ : List ℕ} → d ≡ Decision.True → r < 256
-          → (s′ ≡ withPart (withUndone (rowsBelow file b) slot s) (slot + 2416 + 6 * r) (progressBytes (taken 0))) × (o ≡ doneWith 0)
+          → (s′ ≡ rowStored (withUndone (rowsBelow file b) slot s) slot r (taken 0)) × (o ≡ doneWith 0)
           → MadeBy (BehaviourRow.While e b) file s s′ slot r o
       unfolding advanced reopened
       while-true g l k = by-moved (BehaviourRow.While e b) (k .1) (λ w G q n c left h p.
@@ -338,37 +368,27 @@ module _ (file s : List ℕ) (slot r : ℕ) where
           let w₁ = reopened-made S B (h .living .made) in
           let w₂ = advanced-made S₁ r (taken 0) l w₁ in (
             advanced S₁ r (taken 0),
-            k .0 ∙ (ap (λ (y : List ℕ). withPart y (slot + 2416 + 6 * r) (progressBytes (taken 0))) (reopen-set (h .living) file b)
+            k .0 ∙ (ap (λ (y : List ℕ). rowStored y slot r (taken 0)) (reopen-set (h .living) file b)
                 ∙ (row-set (living-set (h .living) S₁ w₁) r (taken 0) l ∙ set-again (h .living) S₁ (live (advanced S₁ r (taken 0))) w₁ w₂)),
             w₂,
             while-decides w G q n c left h p ∙ ap (λ (z : Decision). onCondition z (repeated G q n S r B)) g,
           ))
 
-pub ruleset if-laws = (if-not-ready, if-stuck, if-true, if-false)
+pub ruleset if-laws = (if-not-ready, if-missing, if-wrong, if-true, if-false)
 
-pub ruleset assign-laws = (assign-not-ready, assign-stuck, assign-long, assign-kept)
+pub ruleset assign-laws = (assign-not-ready, assign-at, assign-alone, assign-missing, assign-wrong)
 
-pub ruleset while-laws = (while-not-ready, while-stuck, while-false, while-true)
+pub ruleset value-laws = (value-large, value-long, value-kept)
+
+pub ruleset while-laws = (while-not-ready, while-missing, while-wrong, while-false, while-true)
 
 -- ---- any row
 
--- An assign, an if or a while.
-abbrev isLocal : BehaviourRow → Bool
-isLocal BehaviourRow.Nil = false
-isLocal (BehaviourRow.OneWay o p) = false
-isLocal (BehaviourRow.RequestResponse o p c d) = false
-isLocal (BehaviourRow.Notification o x) = false
-isLocal (BehaviourRow.SolicitResponse o x p) = false
-isLocal (BehaviourRow.If x a b) = true
-isLocal (BehaviourRow.While x b) = true
-isLocal (BehaviourRow.Sequence a b) = false
-isLocal (BehaviourRow.Parallel a b) = false
-isLocal (BehaviourRow.Assign p x) = true
-isLocal (BehaviourRow.Choice first n) = false
-isLocal (BehaviourRow.Branch a b) = false
-isLocal BehaviourRow.Unknown = false
+-- The kinds that are no assign, if or while.
+abbrev others : List ℕ
+others = 0 ∷ 1 ∷ 2 ∷ 3 ∷ 4 ∷ 7 ∷ 8 ∷ 10 ∷ 11 ∷ 12 ∷ []
 
-other-row : (file : List ℕ) (G : State) (q n : ℕ) (S : Session) (r : ℕ) (y : BehaviourRow) → isLocal y ≡ false
+other-row : (file : List ℕ) (G : State) (q n : ℕ) (S : Session) (r : ℕ) (y : BehaviourRow) → OneOf others (tagOf rows.the-type y)
     → localAt G q n S (behaviourBy file r y) ≡ notAllowed
 unfolding localAt
 other-row file G q n S r BehaviourRow.Nil e = refl
@@ -376,11 +396,11 @@ other-row file G q n S r (BehaviourRow.OneWay o p) e = refl
 other-row file G q n S r (BehaviourRow.RequestResponse o p c d) e = refl
 other-row file G q n S r (BehaviourRow.Notification o x) e = refl
 other-row file G q n S r (BehaviourRow.SolicitResponse o x p) e = refl
-other-row file G q n S r (BehaviourRow.If x a b) e = absurd (let z : _≡_ {A = ℕ} 0 1 = cc in omega arith)
-other-row file G q n S r (BehaviourRow.While x b) e = absurd (let z : _≡_ {A = ℕ} 0 1 = cc in omega arith)
+other-row file G q n S r (BehaviourRow.If x a b) e = absurd (miss others 5 tt e)
+other-row file G q n S r (BehaviourRow.While x b) e = absurd (miss others 6 tt e)
 other-row file G q n S r (BehaviourRow.Sequence a b) e = refl
 other-row file G q n S r (BehaviourRow.Parallel a b) e = refl
-other-row file G q n S r (BehaviourRow.Assign p x) e = absurd (let z : _≡_ {A = ℕ} 0 1 = cc in omega arith)
+other-row file G q n S r (BehaviourRow.Assign p x) e = absurd (miss others 9 tt e)
 other-row file G q n S r (BehaviourRow.Choice first m) e = refl
 other-row file G q n S r (BehaviourRow.Branch a b) e = refl
 other-row file G q n S r BehaviourRow.Unknown e = refl
@@ -393,8 +413,8 @@ module _ (file s : List ℕ) (slot r : ℕ) {x : BehaviourRow} (e : x ≡ behavi
         m .tells w G st q n b (behaviourCount file) h (k .1) out ∙ ap (λ (B : Behaviour). finish s out (localAt G q n (h .session) B)) (sym (k .0));
   }
 
-  pub row-other : (y : BehaviourRow) {o : Outcome} → x ≡ y → isLocal y ≡ false → o ≡ refusedBy MoveNotAllowed → RowMade file s s slot r o
-  row-other y f g k = row-made y f (by-refused file s slot r y k (λ w G q n b left h p. other-row file G q n (h .session) r y g))
+  pub row-other : {o : Outcome} → OneOf others (tagOf rows.the-type x) → o ≡ refusedBy MoveNotAllowed → RowMade file s s slot r o
+  row-other g k = row-made x refl (by-refused file s slot r x k (λ w G q n b left h p. other-row file G q n (h .session) r x g))
 
 -- ---- the move
 
@@ -411,7 +431,7 @@ module _ {file s : List ℕ} {q n : ℕ} {x : Running} (a : RunsAt file s q n x)
   pub slot-starts : slot < 65536
   slot-starts = let l = a .inside slot b e in omega arith
 
-  pub slot-fits : length s ≡ 65536 → slot + 4096 ≤ length s
+  pub slot-fits : length s ≡ 65536 → slot + slotSize ≤ length s
   slot-fits g = let l = a .inside slot b e in omega arith
 
 module _ (file s : List ℕ) (q n r : ℕ) {x : Running} (a : RunsAt file s q n x) where
@@ -420,7 +440,7 @@ module _ (file s : List ℕ) (q n r : ℕ) {x : Running} (a : RunsAt file s q n 
     tells = λ w G st out.
         let h : Runs file s G q n Running.Nothing = subst (Runs file s G q n) e (a .tells w G st) in
         ap (λ (z : Outcome). record { outcome = z; state = s; out = out }) k
-        ∙ ap (finish s out) (sym (h (λ B S. localReached G q n S (reach (S .progress) 0 r B))));
+        ∙ ap (finish s out) (sym (h (λ B S. localReached G q n S (reach (S .progress) r B))));
   }
 
   module _ {slot b : ℕ} {y : coded.Reached} (e : x ≡ Running.Session slot b) (c : Reaches file (readSession s slot .progress) r b y) where
@@ -428,16 +448,16 @@ module _ (file s : List ℕ) (q n r : ℕ) {x : Running} (a : RunsAt file s q n 
     session w G st = subst (Runs file s G q n) e (a .tells w G st)
 
     reaches : (w : WellFormed file) (G : State) (st : StateOf file s G) {z : coded.Reached} → y ≡ z
-        → reachedAs file z ≡ reach (session w G st .session .progress) 0 r (behaviourOf file b)
+        → reachedAs file z ≡ reach (session w G st .session .progress) r (behaviourOf file b)
     reaches w G st f =
         let h = session w G st in
-        ap (reachedAs file) (sym f) ∙ (c .tells w (h .row) ∙ ap (λ (S : Session). reach (S .progress) 0 r (behaviourOf file b)) (h .reads))
+        ap (reachedAs file) (sym f) ∙ (c .tells w (h .row) ∙ ap (λ (S : Session). reach (S .progress) r (behaviourOf file b)) (h .reads))
 
     moves-as : (w : WellFormed file) (G : State) (st : StateOf file s G) {z : coded.Reached} → y ≡ z
         → localMove (networkOf file) G q n r ≡ localReached G q n (session w G st .session) (reachedAs file z)
     moves-as w G st f =
         let h = session w G st in
-        in-session h (λ B S. localReached G q n S (reach (S .progress) 0 r B)) ∙ ap (localReached G q n (h .session)) (sym (reaches w G st f))
+        in-session h (λ B S. localReached G q n S (reach (S .progress) r B)) ∙ ap (localReached G q n (h .session)) (sym (reaches w G st f))
 
     refuses : (z : coded.Reached) {o : Outcome} → y ≡ z → o ≡ refusedBy MoveNotAllowed
         → ((G : State) (S : Session) → localReached G q n S (reachedAs file z) ≡ notAllowed) → Made file (λ N G. localMove N G q n r) s s o

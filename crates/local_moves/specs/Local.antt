@@ -4,28 +4,23 @@ use mathlib.Core.Path.{_≡_}
 use mathlib.Core.Bool.{Bool, true, false}
 use mathlib.Core.List.{List}
 use Prim.Native.Nat.{ℕ, _<_}
-use Rattle.forest.specs.Forest.{Forest, Tree}
-use Rattle.forest.specs.Path.{Path, setPayloadAt}
-use Rattle.scalar.specs.Value.{Value}
+use Rattle.forest.specs.Path.{setPayloadAt}
 use Rattle.scalar.specs.Scalar.{valueOf}
 use Rattle.scalar.specs.declared.Operand.{Operand}
-use Rattle.syntax.specs.Syntax.{Optional, some}
-use Rattle.refusal.specs.declared.Refusal.the-variants.{Stuck}
 use Rattle.refusal.specs.declared.Outcome.{Outcome}
-use Rattle.typing.specs.Environment.{within}
 use Rattle.network.specs.Form.{WellFormed}
 use Rattle.network.specs.Layout.{pathCount, expressionCount, behaviourCount}
 use Rattle.network.specs.Decode.{pathOf, expressionOf, behaviourOf}
 use Rattle.rows.specs.declared.BehaviourRow.{BehaviourRow}
 use Rattle.row_parts.specs.Behaviours.{behaviourBy, KeptBy}
 use Rattle.state.specs.Session.{Progress, undone, done, waits, received, taken, Session, State}
-use Rattle.moves.specs.Evaluation.{evaluate}
-use Rattle.moves.specs.Moves.{Result, refused, require, onTree, onBool, rootValue, voidValue, localAt}
+use Rattle.moves.specs.Evaluation.{leaf, evaluate}
+use Rattle.moves.specs.Moves.{Result, onTree, onBool, rootValue, voidValue, assigned, localAt}
 use Rattle.moves.specs.Step.{Step, finish}
 use Rattle.evaluation.specs.declared.Decision.{Decision}
 use Rattle.evaluation.specs.Condition.{onCondition}
 use Rattle.session_trees.specs.declared.Change.{Change}
-use Rattle.session_trees.specs.Changing.{KeptTree, ChangedTo}
+use Rattle.session_trees.specs.Changing.{ChangedTo}
 use Rattle.moving.specs.Made.{StateOf, InSession}
 use Rattle.slots.specs.Living.{Living}
 
@@ -47,16 +42,11 @@ pub record SetsRoot (file s : List ℕ) (slot p : ℕ) (v : Operand) (o : List �
   pub tells : WellFormed file → (S : Session) → Living s slot S → p < pathCount file
       → ChangedTo o x (setPayloadAt voidValue (pathOf file p) (valueOf v) (S .tree))
 
--- The root value of what evaluation gives, set at the path x in the tree F: the changed tree stands in the scratch buffer o, or there is no
--- value, or the tree passes its limits, and the move gives 18 whatever follows.
-abbrev pub AssignedTo : List ℕ → Change → Path → Forest Value → Optional (Tree Value) → Type 0
-AssignedTo o (Change.Kept n) x F g = (t : Tree Value) × (g ≡ some t) × KeptTree o n (setPayloadAt voidValue x (rootValue t) F)
-AssignedTo o Change.TooLarge x F g =
-    (f : Tree Value → Result) → onTree g (λ t. require (within (setPayloadAt voidValue x (rootValue t) F)) Stuck (f t)) ≡ refused Stuck
-
-pub record AssignsValue (file s : List ℕ) (slot p e : ℕ) (o : List ℕ) (x : Change) : Type 0 where
-  pub tells : WellFormed file → (S : Session) → Living s slot S → p < pathCount file → e < expressionCount file
-      → AssignedTo o x (pathOf file p) (S .tree) (evaluate (S .tree) (expressionOf file e))
+-- Row r assigns the value v to P row p: outcome and state's bytes are those of the definition.
+pub record AssignsValue (file s s′ : List ℕ) (slot r p : ℕ) (v : Operand) (o : Outcome) : Type 0 where
+  pub tells : WellFormed file → (G : State) → StateOf file s G → (q n b : ℕ) (h : InSession file s G q n slot b) → p < pathCount file
+      → (out : List ℕ)
+      → _≡_ {A = Step} (record { outcome = o; state = s′; out = out }) (finish s out (assigned G q n (h .session) r (pathOf file p) (leaf (valueOf v))))
 
 -- A reached B row i that is y, and any reached B row i: outcome and state's bytes are those of the definition, in whatever session the slot
 -- that starts at `slot` has. No local move writes out.

@@ -1,22 +1,24 @@
 // Local moves. 01, Moves: "local: a ready assign, if or while; assign sets one root value and keeps children." Every test comes before the
 // first store, and an assigned tree is made in a scratch buffer, so a refusal leaves the state as it was.
 ghost use mathlib.Core.Path.{_≡_};
-ghost use Prim.Native.Nat.{_+_, _*_, _≤_, _<_};
-ghost use lib.ListN.{length, take};
+ghost use Prim.Native.Nat.{_+_, _≤_, _<_};
+ghost use lib.ListN.{length};
 ghost use Rattle.refusal.specs.Refusal.{doneWith, refusedBy};
 ghost use Rattle.refusal.specs.declared.Refusal.the-variants.{MoveNotAllowed};
-ghost use Rattle.wire.specs.Wire.{withPart};
 ghost use Rattle.network.specs.Decode.{behaviourOf};
 ghost use Rattle.rows.specs.declared.BehaviourRow.{BehaviourRow};
+ghost use Rattle.state.specs.Places.{slotSize, treeRoom};
 ghost use Rattle.state.specs.Session.{done, taken};
-ghost use Rattle.state.specs.Bytes.{u16Bytes, padded, progressBytes, readSession};
+ghost use Rattle.state.specs.Bytes.{readSession};
 ghost use Rattle.state.specs.Shape.{isUndone};
 ghost use Rattle.progress.specs.Meaning.{meaning};
+ghost use Rattle.progress.specs.Stored.{rowStored};
 ghost use Rattle.reopening.specs.Reopening.{rowsBelow, withUndone};
 ghost use Rattle.moves.specs.Readiness.{isDone};
 ghost use Rattle.moves.specs.Moves.{localMove};
 ghost use Rattle.moving.specs.Made.{Made};
 ghost use Rattle.local_moves.specs.Local.{readyWhile, Decides, SetsRoot, AssignsValue, MadeBy, RowMade};
+ghost use Rattle.slots.specs.Slots.{treeStored};
 use evaluation::Decision;
 use evaluation::Source;
 use moving::Running;
@@ -55,7 +57,7 @@ fn is_undone(state: &[u8], slot: usize, r: u16) -> bool
 fn is_ready_while(file: &[u8], state: &[u8], slot: usize, r: u16, b: u16) -> bool
     requires { ⌜ slot < 65536 ⌝ }
     ensures { λ x. ⌜ x ≡ readyWhile (readSession (now (state .entry)) slot .progress r)
-        (isDone (readSession (now (state .entry)) slot .progress) 0 (behaviourOf (now (file .entry)) b)) ⌝ }
+        (isDone (readSession (now (state .entry)) slot .progress) (behaviourOf (now (file .entry)) b)) ⌝ }
 {
     match progress::row_progress(state, slot, r) {
         Progress::Undone => true,
@@ -70,7 +72,7 @@ fn is_ready_while(file: &[u8], state: &[u8], slot: usize, r: u16, b: u16) -> boo
 
 // What the condition of E row e says in the tree of the slot's session.
 fn condition_at(file: &[u8], state: &[u8], slot: usize, e: u16) -> Decision
-    requires { ⌜ slot + 4096 ≤ length (now state) ⌝ }
+    requires { ⌜ slot + slotSize ≤ length (now state) ⌝ }
     ensures { λ d. ⌜ Decides (now (file .entry)) (now (state .entry)) slot e d ⌝ }
 {
     evaluation::condition(evaluation::evaluate(file, slots::tree_of(state, slot), e))
@@ -78,8 +80,8 @@ fn condition_at(file: &[u8], state: &[u8], slot: usize, e: u16) -> Decision
 
 // Row r gets a progress, and the move is done.
 fn settle(state: &mut [u8], slot: usize, r: u16, p: Progress) -> Outcome
-    requires { ⌜ (slot + 4096 ≤ length (now state)) × (r < 256) ⌝ }
-    ensures { λ o. ⌜ (now (state .exit) ≡ withPart (now (state .entry)) (slot + 2416 + 6 * r) (progressBytes (meaning p))) × (o ≡ doneWith 0) ⌝ }
+    requires { ⌜ (slot + slotSize ≤ length (now state)) × (r < 256) ⌝ }
+    ensures { λ o. ⌜ (now (state .exit) ≡ rowStored (now (state .entry)) slot r (meaning p)) × (o ≡ doneWith 0) ⌝ }
 {
     progress::put_row(state, slot, r, p);
     refusal::done(0)
@@ -87,7 +89,7 @@ fn settle(state: &mut [u8], slot: usize, r: u16, p: Progress) -> Outcome
 
 // A ready if takes its part.
 fn decide(file: &[u8], state: &mut [u8], slot: usize, r: u16, e: u16, a: u16, b: u16) -> Outcome
-    requires { ⌜ (slot + 4096 ≤ length (now state)) × (slot < 65536) × (r < 256) ⌝ }
+    requires { ⌜ (slot + slotSize ≤ length (now state)) × (slot < 65536) × (r < 256) ⌝ }
     ensures { λ o. ⌜ MadeBy (BehaviourRow.If e a b) (now (file .entry)) (now (state .entry)) (now (state .exit)) slot r o ⌝ }
 {
     if !is_undone(state, slot, r) {
@@ -96,15 +98,15 @@ fn decide(file: &[u8], state: &mut [u8], slot: usize, r: u16, e: u16, a: u16, b:
     match condition_at(file, state, slot, e) {
         Decision::True => settle(state, slot, r, Progress::Taken(0)),
         Decision::False => settle(state, slot, r, Progress::Taken(1)),
-        Decision::Stuck => refusal::refused(Refusal::Stuck),
+        Decision::Missing => refusal::refused(Refusal::Stuck),
+        Decision::Wrong => refusal::refused(Refusal::Stuck),
     }
 }
 
 // The while of row r takes its body, whose rows are undone again.
 fn take_body(file: &[u8], state: &mut [u8], slot: usize, r: u16, b: u16) -> Outcome
-    requires { ⌜ (slot + 4096 ≤ length (now state)) × (r < 256) ⌝ }
-    ensures { λ o. ⌜ (now (state .exit) ≡ withPart (withUndone (rowsBelow (now (file .entry)) b) slot (now (state .entry))) (slot + 2416 + 6 * r)
-        (progressBytes (taken 0))) × (o ≡ doneWith 0) ⌝ }
+    requires { ⌜ (slot + slotSize ≤ length (now state)) × (r < 256) ⌝ }
+    ensures { λ o. ⌜ (now (state .exit) ≡ rowStored (withUndone (rowsBelow (now (file .entry)) b) slot (now (state .entry))) slot r (taken 0)) × (o ≡ doneWith 0) ⌝ }
 {
     reopening::reopen(file, state, slot, b);
     settle(state, slot, r, Progress::Taken(0))
@@ -112,7 +114,7 @@ fn take_body(file: &[u8], state: &mut [u8], slot: usize, r: u16, b: u16) -> Outc
 
 // A ready while takes its body, or is done.
 fn repeat(file: &[u8], state: &mut [u8], slot: usize, r: u16, e: u16, b: u16) -> Outcome
-    requires { ⌜ (slot + 4096 ≤ length (now state)) × (slot < 65536) × (r < 256) ⌝ }
+    requires { ⌜ (slot + slotSize ≤ length (now state)) × (slot < 65536) × (r < 256) ⌝ }
     ensures { λ o. ⌜ MadeBy (BehaviourRow.While e b) (now (file .entry)) (now (state .entry)) (now (state .exit)) slot r o ⌝ }
 {
     if !is_ready_while(file, state, slot, r, b) {
@@ -121,13 +123,14 @@ fn repeat(file: &[u8], state: &mut [u8], slot: usize, r: u16, e: u16, b: u16) ->
     match condition_at(file, state, slot, e) {
         Decision::True => take_body(file, state, slot, r, b),
         Decision::False => settle(state, slot, r, Progress::Done),
-        Decision::Stuck => refusal::refused(Refusal::Stuck),
+        Decision::Missing => refusal::refused(Refusal::Stuck),
+        Decision::Wrong => refusal::refused(Refusal::Stuck),
     }
 }
 
 // The tree of the slot's session with the value v set at P row p, in the scratch buffer.
 fn set_root(out: &mut [u8], file: &[u8], state: &[u8], slot: usize, p: u16, v: Operand) -> Change
-    requires { ⌜ (slot + 4096 ≤ length (now state)) × (2304 ≤ length (now out)) ⌝ }
+    requires { ⌜ (slot + slotSize ≤ length (now state)) × (2304 ≤ length (now out)) ⌝ }
     ensures { λ x. ⌜ SetsRoot (now (file .entry)) (now (state .entry)) slot p v (now (out .exit)) x ⌝ }
 {
     let mut leaf = [0u8; 21];
@@ -135,43 +138,23 @@ fn set_root(out: &mut [u8], file: &[u8], state: &[u8], slot: usize, p: u16, v: O
     session_trees::assign(out, state, slot, rows::path_row(file, p), &leaf[..n])
 }
 
-// The same with the root value of E row e; what is stuck has no tree.
-fn set_value(out: &mut [u8], file: &[u8], state: &[u8], slot: usize, p: u16, e: u16) -> Change
-    requires { ⌜ (slot + 4096 ≤ length (now state)) × (2304 ≤ length (now out)) ⌝ }
-    ensures { λ x. ⌜ AssignsValue (now (file .entry)) (now (state .entry)) slot p e (now (out .exit)) x ⌝ }
-{
-    let x = evaluation::evaluate(file, slots::tree_of(state, slot), e);
-    let v = x.root;
-    let source = x.source;
-    match source {
-        Source::At(_) => set_root(out, file, state, slot, p, v),
-        Source::Alone => set_root(out, file, state, slot, p, v),
-        Source::Stuck => Change::TooLarge,
-    }
-}
-
 // The slot's session gets the tree of the first n bytes, and row r is done.
 fn store(state: &mut [u8], slot: usize, r: u16, tree: &[u8], n: u16) -> Outcome
-    requires { ⌜ (slot + 4096 ≤ length (now state)) × (r < 256) × (n ≤ 1024) × (n ≤ length (now tree)) ⌝ }
-    ensures { λ o. ⌜ (now (state .exit)
-        ≡ withPart (withPart (withPart (now (state .entry)) (slot + 2) (u16Bytes n)) (slot + 16) (padded 1024 (take n (now (tree .entry)))))
-        (slot + 2416 + 6 * r) (progressBytes done)) × (o ≡ doneWith 0) ⌝ }
+    requires { ⌜ (slot + slotSize ≤ length (now state)) × (r < 256) × (n ≤ treeRoom) × (n ≤ length (now tree)) ⌝ }
+    ensures { λ o. ⌜ (now (state .exit) ≡ rowStored (treeStored (now (state .entry)) slot (now (tree .entry)) n) slot r done) × (o ≡ doneWith 0) ⌝ }
 {
     slots::put_tree(state, slot, tree, n);
     settle(state, slot, r, Progress::Done)
 }
 
-// A ready assign. 18: "an assign .. would take a tree past 48 nodes or 6 levels". A session's tree has 1,013 bytes at most, so the test of its
-// length only keeps the store inside the slot.
-fn assign(file: &[u8], state: &mut [u8], slot: usize, r: u16, p: u16, e: u16) -> Outcome
-    requires { ⌜ (slot + 4096 ≤ length (now state)) × (slot < 65536) × (r < 256) ⌝ }
-    ensures { λ o. ⌜ MadeBy (BehaviourRow.Assign p e) (now (file .entry)) (now (state .entry)) (now (state .exit)) slot r o ⌝ }
+// Row r assigns the value v to P row p. 18: "an assign .. would take a tree past 48 nodes or 6 levels". A session's tree has 1,013 bytes at
+// most, so the test of its length only keeps the store inside the slot.
+fn assign_value(file: &[u8], state: &mut [u8], slot: usize, r: u16, p: u16, v: Operand) -> Outcome
+    requires { ⌜ (slot + slotSize ≤ length (now state)) × (slot < 65536) × (r < 256) ⌝ }
+    ensures { λ o. ⌜ AssignsValue (now (file .entry)) (now (state .entry)) (now (state .exit)) slot r p v o ⌝ }
 {
-    if !is_undone(state, slot, r) {
-        return not_allowed();
-    }
     let mut tree = [0u8; 2304];
-    match set_value(&mut tree, file, state, slot, p, e) {
+    match set_root(&mut tree, file, state, slot, p, v) {
         Change::Kept(n) => {
             if 1024 < n {
                 return refusal::refused(Refusal::Stuck);
@@ -182,25 +165,35 @@ fn assign(file: &[u8], state: &mut [u8], slot: usize, r: u16, p: u16, e: u16) ->
     }
 }
 
+// A ready assign: the root value of E row e. 18: "A value read is missing, an operand .. is of the wrong kind".
+fn assign(file: &[u8], state: &mut [u8], slot: usize, r: u16, p: u16, e: u16) -> Outcome
+    requires { ⌜ (slot + slotSize ≤ length (now state)) × (slot < 65536) × (r < 256) ⌝ }
+    ensures { λ o. ⌜ MadeBy (BehaviourRow.Assign p e) (now (file .entry)) (now (state .entry)) (now (state .exit)) slot r o ⌝ }
+{
+    if !is_undone(state, slot, r) {
+        return not_allowed();
+    }
+    let x = evaluation::evaluate(file, slots::tree_of(state, slot), e);
+    let v = x.root;
+    let source = x.source;
+    match source {
+        Source::At(_) => assign_value(file, state, slot, r, p, v),
+        Source::Alone => assign_value(file, state, slot, r, p, v),
+        Source::Missing => refusal::refused(Refusal::Stuck),
+        Source::Wrong => refusal::refused(Refusal::Stuck),
+    }
+}
+
 // B row r, which is reached.
 fn local_row(file: &[u8], state: &mut [u8], slot: usize, r: u16) -> Outcome
-    requires { ⌜ (slot + 4096 ≤ length (now state)) × (slot < 65536) × (r < 256) ⌝ }
+    requires { ⌜ (slot + slotSize ≤ length (now state)) × (slot < 65536) × (r < 256) ⌝ }
     ensures { λ o. ⌜ RowMade (now (file .entry)) (now (state .entry)) (now (state .exit)) slot r o ⌝ }
 {
     match rows::behaviour_row(file, r) {
-        BehaviourRow::Nil => not_allowed(),
-        BehaviourRow::OneWay(_, _) => not_allowed(),
-        BehaviourRow::RequestResponse(_, _, _, _) => not_allowed(),
-        BehaviourRow::Notification(_, _) => not_allowed(),
-        BehaviourRow::SolicitResponse(_, _, _) => not_allowed(),
         BehaviourRow::If(e, a, b) => decide(file, state, slot, r, e, a, b),
         BehaviourRow::While(e, b) => repeat(file, state, slot, r, e, b),
-        BehaviourRow::Sequence(_, _) => not_allowed(),
-        BehaviourRow::Parallel(_, _) => not_allowed(),
         BehaviourRow::Assign(p, e) => assign(file, state, slot, r, p, e),
-        BehaviourRow::Choice(_, _) => not_allowed(),
-        BehaviourRow::Branch(_, _) => not_allowed(),
-        BehaviourRow::Unknown => not_allowed(),
+        _ => not_allowed(),
     }
 }
 

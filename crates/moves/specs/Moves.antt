@@ -8,22 +8,23 @@ use Rattle.forest.specs.Forest.{Forest, end, Tree, tree, Lookup, absent, presen
 use Rattle.forest.specs.Path.{Path, read, replaceAt, setPayloadAt}
 use Rattle.scalar.specs.Basic.{bool, void}
 use Rattle.scalar.specs.Value.{Value, value, basicOf, bytesOf, number, pick}
-use Rattle.syntax.specs.Syntax.{MessageType, Expression, Optional, none, some, Service, Network, Operation, Direction, input, output, Behaviour, nil, oneWay, requestResponse, notification, solicitResponse, ifThenElse, whileDo, sequence, parallel, assign, choice, branch, lastBranch, waiting, answering}
-use Rattle.syntax.specs.Rows.{atRow, isInputOperation}
-use Rattle.state.specs.Session.{ReplyTo, nobody, outsider, waitingRow, Progress, undone, done, waits, received, taken, Progresses, advance, reopen, Queued, Session, Slot, free, live, State, setSlot, newSession}
+use Rattle.syntax.specs.Syntax.{MessageType, Expression, Optional, none, some, Service, Network, Operation, Direction, input, output, Behaviour}
+use Rattle.syntax.specs.Rows.{atRow, Response, Input, Output, Local, assigns, decides, repeats, twoWayInput, twoWayOutput, inputOf, outputOf, localOf}
+use Rattle.syntax.specs.Rows.{isInputOperation}
+use Rattle.state.specs.Session.{ReplyTo, nobody, outsider, waitingRow, Progress, undone, done, waits, received, taken, Progresses, advance, reopen, Queued, Session, withTree, withQueue, withProgress, Slot, free, live, State, setSlot, newSession}
 use Rattle.refusal.specs.declared.Refusal.{Refusal}
 use Rattle.refusal.specs.declared.Refusal.the-variants.{MoveNotAllowed, QueueFull, NoMessage, Stuck, MessageMisfit}
 use Rattle.subtyping.specs.Own.{fits}
 use Rattle.typing.specs.Environment.{within}
 use Rattle.typing.specs.Rules.{permits}
-use Rattle.network.specs.Meets.{metInput, inFile, firstOf}
+use Rattle.syntax.specs.Meets.{metInput, inFile, firstOf}
 use Rattle.tree.specs.Encode.{messageDeep, messageMany}
 use Rattle.tree.specs.Decode.{decodeMessage}
 use Rattle.state.specs.Bytes.{messageBytes, u32Bytes}
 use Rattle.moves.specs.Readiness.{isDone, Reached, unreached, reached, offered, reach, ifTaken, ifReceived}
 use Rattle.state.specs.Shape.{behaviourIn}
 use Rattle.moves.specs.Targets.{Target, noTarget, queueFull, queued, starts, target}
-use Rattle.moves.specs.Evaluation.{evaluate}
+use Rattle.moves.specs.Evaluation.{Evaluation, missing, wrongKind, given, evaluate}
 
 pub data Result : Type 0 where
   refused : Refusal → Result
@@ -38,10 +39,11 @@ abbrev pub require : Bool → Refusal → Result → Result
 require true why r = r
 require false why r = refused why
 
--- 18: "A value read is missing, an operand or condition is of the wrong kind".
-abbrev pub onTree : Optional (Tree Value) → (Tree Value → Result) → Result
-onTree none f = refused Stuck
-onTree (some t) f = f t
+-- What evaluation answers, as a move goes on with it. 18: "A value read is missing, an operand or condition is of the wrong kind".
+abbrev pub onTree : Evaluation (Tree Value) → (Tree Value → Result) → Result
+onTree missing f = refused Stuck
+onTree wrongKind f = refused Stuck
+onTree (given t) f = f t
 
 abbrev pub onFound : Lookup Value → (Tree Value → Result) → Result
 onFound absent f = refused Stuck
@@ -104,16 +106,6 @@ ifReadyWhile (taken k) bodyDone r = require bodyDone MoveNotAllowed r
 abbrev pub voidValue : Value
 voidValue = value void []
 
--- The session with another tree and progress; with another progress; with one more message.
-abbrev pub withTree : Session → Forest Value → Progresses → Session
-withTree S F p = record { tree = F; queue = S .queue; progress = p }
-
-abbrev pub withProgress : Session → Progresses → Session
-withProgress S p = record { tree = S .tree; queue = S .queue; progress = p }
-
-abbrev pub withQueue : Session → List Queued → Session
-withQueue S l = record { tree = S .tree; queue = l; progress = S .progress }
-
 -- The state with that session live, its tree within 48 nodes and 6 levels, or 18.
 abbrev pub saveWithin : State → ℕ → ℕ → Session → List ℕ → Result
 saveWithin G q n S out = require (within (S .tree)) Stuck (moved (setSlot G q n (live S)) out)
@@ -121,7 +113,7 @@ saveWithin G q n S out = require (within (S .tree)) Stuck (moved (setSlot G q n 
 module _ (G : State) (q n : ℕ) (S : Session) where
   -- "local: a ready assign, if or while; assign sets one root value and keeps children."
   abbrev pub assigned : ℕ → Path → Tree Value → Result
-  assigned r x t = saveWithin G q n (withTree S (setPayloadAt voidValue x (rootValue t) (S .tree)) (advance (S .progress) r done)) []
+  assigned r x t = saveWithin G q n (withProgress (withTree S (setPayloadAt voidValue x (rootValue t) (S .tree))) (advance (S .progress) r done)) []
 
   abbrev pub decided : ℕ → Bool → Result
   decided r c = moved (setSlot G q n (live (withProgress S (advance (S .progress) r (taken (pick c 0 1)))))) []
@@ -130,24 +122,16 @@ module _ (G : State) (q n : ℕ) (S : Session) where
   repeated r b c =
       moved (setSlot G q n (live (withProgress S (pick c (advance (reopen (S .progress) b) r (taken 0)) (advance (S .progress) r done))))) []
 
-  unfoldable pub localAt : Behaviour → Result
-  localAt (nil r) = notAllowed
-  localAt (oneWay r o x) = notAllowed
-  localAt (requestResponse r o x c d) = notAllowed
-  localAt (notification r o e) = notAllowed
-  localAt (solicitResponse r o e x) = notAllowed
-  localAt (ifThenElse r e a b) =
+  abbrev pub localBy : Optional Local → Result
+  localBy none = notAllowed
+  localBy (some (assigns r x e)) = ifUndone (S .progress r) (onTree (evaluate (S .tree) e) (assigned r x))
+  localBy (some (decides r e a b)) =
       ifUndone (S .progress r) (onTree (evaluate (S .tree) e) (λ t. onBool (rootValue t) (decided r)))
-  localAt (whileDo r e b) =
-      ifReadyWhile (S .progress r) (isDone (S .progress) 0 b) (onTree (evaluate (S .tree) e) (λ t. onBool (rootValue t) (repeated r b)))
-  localAt (sequence r a b) = notAllowed
-  localAt (parallel r a b) = notAllowed
-  localAt (assign r x e) = ifUndone (S .progress r) (onTree (evaluate (S .tree) e) (assigned r x))
-  localAt (choice r m) = notAllowed
-  localAt (branch r a b m) = notAllowed
-  localAt (lastBranch r a b) = notAllowed
-  localAt (waiting r o x) = notAllowed
-  localAt (answering r o c d) = notAllowed
+  localBy (some (repeats r e b)) =
+      ifReadyWhile (S .progress r) (isDone (S .progress) b) (onTree (evaluate (S .tree) e) (λ t. onBool (rootValue t) (repeated r b)))
+
+  unfoldable pub localAt : Behaviour → Result
+  localAt b = localBy (localOf b)
 
   abbrev pub localReached : Reached → Result
   localReached unreached = notAllowed
@@ -155,7 +139,19 @@ module _ (G : State) (q n : ℕ) (S : Session) where
   localReached (offered c k b) = notAllowed
 
 abbrev pub localMove : Network → State → ℕ → ℕ → ℕ → Result
-localMove N G q n r = inSession N G q n (λ B S. localReached G q n S (reach (S .progress) 0 r B))
+localMove N G q n r = inSession N G q n (λ B S. localReached G q n S (reach (S .progress) r B))
+
+-- The operation is one that 6 lets pass, for an input or an output row of the service q.
+abbrev pub permitsInput : ℕ → Input → Bool
+permitsInput q i = permits q input (twoWayInput i) (i .operation)
+
+abbrev pub permitsOutput : ℕ → Output → Bool
+permitsOutput q u = permits q output (twoWayOutput u) (u .operation)
+
+-- An input's progress once received: a one-way is done, a request-response holds where its reply goes.
+abbrev pub receivedBy : Bool → ReplyTo → Progress
+receivedBy true to = received to
+receivedBy false to = done
 
 -- The oldest message of the O row w, and the queue without it; "the others keep their order".
 pub data Taken : Type 0 where
@@ -176,26 +172,17 @@ module _ (G : State) (q n : ℕ) (S : Session) where
   abbrev pub takes : Path → Progresses → ℕ → (ReplyTo → Progress) → Taken → Result
   takes x settled r after nothing = notAllowed
   takes x settled r after (message m l) =
-      saveWithin G q n (withQueue (withTree S (replaceAt voidValue x (m .message) (S .tree)) (advance settled r (after (m .replyTo)))) l) []
+      saveWithin G q n (withQueue (withProgress (withTree S (replaceAt voidValue x (m .message) (S .tree))) (advance settled r (after (m .replyTo)))) l) []
+
+  abbrev pub receiveBy : Progresses → Optional Input → Result
+  receiveBy settled none = notAllowed
+  receiveBy settled (some i) =
+      ifUndone (S .progress (i .row))
+      (require (permitsInput q i) MoveNotAllowed
+      (takes (i .into) settled (i .row) (receivedBy (twoWayInput i)) (oldest (i .operation .row) (S .queue))))
 
   unfoldable pub receiveAt : Progresses → Behaviour → Result
-  receiveAt settled (nil r) = notAllowed
-  receiveAt settled (oneWay r o x) =
-      ifUndone (S .progress r) (require (permits q input false o) MoveNotAllowed (takes x settled r (λ to. done) (oldest (o .row) (S .queue))))
-  receiveAt settled (requestResponse r o x c d) =
-      ifUndone (S .progress r) (require (permits q input true o) MoveNotAllowed (takes x settled r received (oldest (o .row) (S .queue))))
-  receiveAt settled (notification r o e) = notAllowed
-  receiveAt settled (solicitResponse r o e x) = notAllowed
-  receiveAt settled (ifThenElse r e a b) = notAllowed
-  receiveAt settled (whileDo r e b) = notAllowed
-  receiveAt settled (sequence r a b) = notAllowed
-  receiveAt settled (parallel r a b) = notAllowed
-  receiveAt settled (assign r x e) = notAllowed
-  receiveAt settled (choice r m) = notAllowed
-  receiveAt settled (branch r a b m) = notAllowed
-  receiveAt settled (lastBranch r a b) = notAllowed
-  receiveAt settled (waiting r o x) = notAllowed
-  receiveAt settled (answering r o c d) = notAllowed
+  receiveAt settled b = receiveBy settled (inputOf b)
 
   abbrev pub receiveReached : Reached → Result
   receiveReached unreached = notAllowed
@@ -203,53 +190,22 @@ module _ (G : State) (q n : ℕ) (S : Session) where
   receiveReached (offered c k b) = receiveAt (advance (S .progress) c (taken k)) b
 
 abbrev pub receiveMove : Network → State → ℕ → ℕ → ℕ → Result
-receiveMove N G q n r = inSession N G q n (λ B S. receiveReached G q n S (reach (S .progress) 0 r B))
+receiveMove N G q n r = inSession N G q n (λ B S. receiveReached G q n S (reach (S .progress) r B))
 
 -- 16: "The target's queue holds four"; 15 where there is no target, or where 6 refuses the starter's input row.
-abbrev pub permitsInput : ℕ → Behaviour → Bool
-permitsInput q (nil r) = false
-permitsInput q (oneWay r o x) = permits q input false o
-permitsInput q (requestResponse r o x c d) = permits q input true o
-permitsInput q (notification r o e) = false
-permitsInput q (solicitResponse r o e x) = false
-permitsInput q (ifThenElse r e a b) = false
-permitsInput q (whileDo r e b) = false
-permitsInput q (sequence r a b) = false
-permitsInput q (parallel r a b) = false
-permitsInput q (assign r x e) = false
-permitsInput q (choice r m) = false
-permitsInput q (branch r a b m) = false
-permitsInput q (lastBranch r a b) = false
-permitsInput q (waiting r o x) = false
-permitsInput q (answering r o c d) = false
-
 abbrev pub allowed : ℕ → Target → Result → Result
 allowed q noTarget r = notAllowed
 allowed q queueFull r = refused QueueFull
 allowed q queued r = r
-allowed q (starts c k a) r = require (permitsInput q a) MoveNotAllowed r
+allowed q (starts c k i) r = require (permitsInput q i) MoveNotAllowed r
 
 -- A started session: the branch k of its starter is taken, and its input has received the message.
 abbrev pub startedBy : ℕ → ℕ → ℕ → Path → Progress → Tree Value → Session
 startedBy c k r x after m =
-    withTree newSession (replaceAt voidValue x m end) (advance (advance (newSession .progress) c (taken k)) r after)
+    withProgress (withTree newSession (replaceAt voidValue x m end)) (advance (advance (newSession .progress) c (taken k)) r after)
 
-abbrev pub started : ℕ → ℕ → Behaviour → ReplyTo → Tree Value → Session
-started c k (nil r) to m = newSession
-started c k (oneWay r o x) to m = startedBy c k r x done m
-started c k (requestResponse r o x y d) to m = startedBy c k r x (received to) m
-started c k (notification r o e) to m = newSession
-started c k (solicitResponse r o e x) to m = newSession
-started c k (ifThenElse r e a b) to m = newSession
-started c k (whileDo r e b) to m = newSession
-started c k (sequence r a b) to m = newSession
-started c k (parallel r a b) to m = newSession
-started c k (assign r x e) to m = newSession
-started c k (choice r b) to m = newSession
-started c k (branch r a b d) to m = newSession
-started c k (lastBranch r a b) to m = newSession
-started c k (waiting r o x) to m = newSession
-started c k (answering r o y d) to m = newSession
+abbrev pub started : ℕ → ℕ → Input → ReplyTo → Tree Value → Session
+started c k i to m = startedBy c k (i .row) (i .into) (receivedBy (twoWayInput i) to) m
 
 -- The message at its target, in a state in which the sender has gone on: "queued at a live one, or starting a free 1 to 3".
 abbrev pub deliver : State → Operation → ℕ → Target → ReplyTo → Tree Value → Result
@@ -258,7 +214,7 @@ deliver G o n queueFull to m = refused QueueFull
 deliver G o n queued to m =
     onLive (G (o .service) n)
     (λ S. moved (setSlot G (o .service) n (live (withQueue S (S .queue ++ (record { operation = o .row; message = m; replyTo = to } ∷ []))))) [])
-deliver G o n (starts c k a) to m = saveWithin G (o .service) n (started c k a to m) []
+deliver G o n (starts c k i) to m = saveWithin G (o .service) n (started c k i to m) []
 
 -- "at most 16 nodes, 4 levels": one of each is the root.
 abbrev pub isMessageTree : Tree Value → Bool
@@ -289,23 +245,24 @@ module _ (N : Network) (G : State) (q n : ℕ) (S : Session) (to : ℕ) where
   sendBy r o e after back =
       pick (inFile N (o .location)) (onOperation (metInput N o) (sendInside r e after back)) (sendOutside r o e after)
 
+  -- An output's progress once sent, and where its reply goes: "A solicit-response then waits."
+  abbrev pub sentBy : Bool → Progress
+  sentBy true = waits
+  sentBy false = done
+
+  abbrev pub repliesTo : Bool → ℕ → ReplyTo
+  repliesTo true r = waitingRow q n r
+  repliesTo false r = nobody
+
+  abbrev pub sendOutput : Optional Output → Result
+  sendOutput none = notAllowed
+  sendOutput (some u) =
+      ifUndone (S .progress (u .row))
+      (require (permitsOutput q u) MoveNotAllowed
+      (sendBy (u .row) (u .operation) (u .message) (sentBy (twoWayOutput u)) (repliesTo (twoWayOutput u) (u .row))))
+
   unfoldable pub sendAt : Behaviour → Result
-  sendAt (nil r) = notAllowed
-  sendAt (oneWay r o x) = notAllowed
-  sendAt (requestResponse r o x c d) = notAllowed
-  sendAt (notification r o e) = ifUndone (S .progress r) (require (permits q output false o) MoveNotAllowed (sendBy r o e done nobody))
-  sendAt (solicitResponse r o e x) =
-      ifUndone (S .progress r) (require (permits q output true o) MoveNotAllowed (sendBy r o e waits (waitingRow q n r)))
-  sendAt (ifThenElse r e a b) = notAllowed
-  sendAt (whileDo r e b) = notAllowed
-  sendAt (sequence r a b) = notAllowed
-  sendAt (parallel r a b) = notAllowed
-  sendAt (assign r x e) = notAllowed
-  sendAt (choice r m) = notAllowed
-  sendAt (branch r a b m) = notAllowed
-  sendAt (lastBranch r a b) = notAllowed
-  sendAt (waiting r o x) = notAllowed
-  sendAt (answering r o c d) = notAllowed
+  sendAt b = sendOutput (outputOf b)
 
   abbrev pub sendReached : Reached → Result
   sendReached unreached = notAllowed
@@ -313,31 +270,26 @@ module _ (N : Network) (G : State) (q n : ℕ) (S : Session) (to : ℕ) where
   sendReached (offered c k b) = notAllowed
 
 abbrev pub sendMove : Network → State → ℕ → ℕ → ℕ → ℕ → Result
-sendMove N G q n r to = inSession N G q n (λ B S. sendReached N G q n S to (reach (S .progress) 0 r B))
+sendMove N G q n r to = inSession N G q n (λ B S. sendReached N G q n S to (reach (S .progress) r B))
 
--- A row that waits for its reply: where the reply goes, and its operation.
+-- The output of a row that waits for its reply: its operation, and the path into which the reply goes.
+abbrev pub onReplyPath : Optional Path → (Path → Result) → Result
+onReplyPath none f = notAllowed
+onReplyPath (some x) f = f x
+
+abbrev pub onWaitingOutput : ℕ → Session → Optional Output → (Operation → Path → Result) → Result
+onWaitingOutput q S none f = notAllowed
+onWaitingOutput q S (some u) f =
+    onReplyPath (u .into) (λ x. ifWaiting (S .progress (u .row)) (require (permitsOutput q u) MoveNotAllowed (f (u .operation) x)))
+
 abbrev pub onWaitingRow : ℕ → Session → Optional Behaviour → (Operation → Path → Result) → Result
 onWaitingRow q S none f = notAllowed
-onWaitingRow q S (some (nil r)) f = notAllowed
-onWaitingRow q S (some (oneWay r o x)) f = notAllowed
-onWaitingRow q S (some (requestResponse r o x c d)) f = notAllowed
-onWaitingRow q S (some (notification r o e)) f = notAllowed
-onWaitingRow q S (some (solicitResponse r o e x)) f = ifWaiting (S .progress r) (require (permits q output true o) MoveNotAllowed (f o x))
-onWaitingRow q S (some (ifThenElse r e a b)) f = notAllowed
-onWaitingRow q S (some (whileDo r e b)) f = notAllowed
-onWaitingRow q S (some (sequence r a b)) f = notAllowed
-onWaitingRow q S (some (parallel r a b)) f = notAllowed
-onWaitingRow q S (some (assign r x e)) f = notAllowed
-onWaitingRow q S (some (choice r m)) f = notAllowed
-onWaitingRow q S (some (branch r a b m)) f = notAllowed
-onWaitingRow q S (some (lastBranch r a b)) f = notAllowed
-onWaitingRow q S (some (waiting r o x)) f = notAllowed
-onWaitingRow q S (some (answering r o c d)) f = notAllowed
+onWaitingRow q S (some b) f = onWaitingOutput q S (outputOf b) f
 
 -- The waiting row r takes its reply: the subtree at its path is replaced, and the row is done.
 abbrev pub takeReply : State → ℕ → ℕ → ℕ → Path → Tree Value → Result
 takeReply G q n r x m =
-    onLive (G q n) (λ S. saveWithin G q n (withTree S (replaceAt voidValue x m (S .tree)) (advance (S .progress) r done)) [])
+    onLive (G q n) (λ S. saveWithin G q n (withProgress (withTree S (replaceAt voidValue x m (S .tree))) (advance (S .progress) r done)) [])
 
 module _ (N : Network) (G : State) (q n : ℕ) (S : Session) where
   abbrev pub answered : ℕ → State
@@ -354,24 +306,21 @@ module _ (N : Network) (G : State) (q n : ℕ) (S : Session) where
       (λ B2 S2. onWaitingRow q2 S2 (atRow r2 B2)
       (λ o2 x2. onFound (read c (S .tree)) (λ m. mustFit m (o2 .reply) (takeReply (answered r) q2 n2 r2 x2 m))))
 
+  abbrev pub onResponse : Optional Response → (Response → Result) → Result
+  onResponse none f = notAllowed
+  onResponse (some a) f = f a
+
+  abbrev pub replyBy : Optional Input → Result
+  replyBy none = notAllowed
+  replyBy (some i) =
+      onResponse (i .response)
+      (λ a. onReceived (S .progress (i .row))
+      (λ to. require (isDone (S .progress) (a .body)) MoveNotAllowed
+      (require (permitsInput q i) MoveNotAllowed (replyTo (i .row) (i .operation) (a .path) to))))
+
   abbrev pub replyAt : Optional Behaviour → Result
   replyAt none = notAllowed
-  replyAt (some (nil r)) = notAllowed
-  replyAt (some (oneWay r o x)) = notAllowed
-  replyAt (some (requestResponse r o x c d)) =
-      onReceived (S .progress r) (λ to. require (isDone (S .progress) 0 d) MoveNotAllowed (require (permits q input true o) MoveNotAllowed (replyTo r o c to)))
-  replyAt (some (notification r o e)) = notAllowed
-  replyAt (some (solicitResponse r o e x)) = notAllowed
-  replyAt (some (ifThenElse r e a b)) = notAllowed
-  replyAt (some (whileDo r e b)) = notAllowed
-  replyAt (some (sequence r a b)) = notAllowed
-  replyAt (some (parallel r a b)) = notAllowed
-  replyAt (some (assign r x e)) = notAllowed
-  replyAt (some (choice r m)) = notAllowed
-  replyAt (some (branch r a b m)) = notAllowed
-  replyAt (some (lastBranch r a b)) = notAllowed
-  replyAt (some (waiting r o x)) = notAllowed
-  replyAt (some (answering r o c d)) = notAllowed
+  replyAt (some b) = replyBy (inputOf b)
 
 abbrev pub replyMove : Network → State → ℕ → ℕ → ℕ → Result
 replyMove N G q n r = inSession N G q n (λ B S. replyAt N G q n S (atRow r B))
@@ -406,7 +355,7 @@ outerReply N G q n r bytes =
 
 -- "close: a done session becomes free; its queue is dropped"
 abbrev pub closeMove : Network → State → ℕ → ℕ → Result
-closeMove N G q n = inSession N G q n (λ B S. require (isDone (S .progress) 0 B) MoveNotAllowed (moved (setSlot G q n free) []))
+closeMove N G q n = inSession N G q n (λ B S. require (isDone (S .progress) B) MoveNotAllowed (moved (setSlot G q n free) []))
 
 -- "A move names service, session and behaviour row".
 pub data Move : Type 0 where

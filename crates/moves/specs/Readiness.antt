@@ -1,11 +1,10 @@
 -- Which rows are done, which are reached, and what remains: 01, Moves ("A row is *ready* when ..", "A nil is done, and so is ..")
 -- and the last paragraph of Typing ("The rest is what remains of its client or starter ..").
--- In a choice the taken branch is a number k counted from 0: the functions below hand k down to the choice's branches, the
--- other behaviours do not look at it.
+-- In a choice the taken branch is a number k counted from 0.
 use mathlib.Core.Bool.{Bool, true, false, _&&_}
 use Prim.Native.Nat.{ℕ, zero, suc}
 use lib.Dec.{eqb}
-use Rattle.syntax.specs.Syntax.{Behaviour, nil, oneWay, requestResponse, notification, solicitResponse, ifThenElse, whileDo, sequence, parallel, assign, choice, branch, lastBranch, waiting, answering}
+use Rattle.syntax.specs.Syntax.{Behaviour, nil, oneWay, requestResponse, notification, solicitResponse, ifThenElse, whileDo, sequence, parallel, assign, choice, waiting, answering, Branches, lastBranch, branch}
 use Rattle.syntax.specs.Rows.{rowOf}
 use Rattle.state.specs.Session.{Progress, Progresses, undone, done, waits, received, taken}
 
@@ -51,24 +50,28 @@ abbrev pub firstOr : {A : Type 0} → ℕ → A → (ℕ → A) → A
 firstOr zero a f = a
 firstOr (suc k) a f = f k
 
--- "A nil is done, and so is a sequence, parallel, if or choice whose chosen parts are." Of the others a row is done when its
--- progress says so; a while only after its condition was false.
-unfoldable pub isDone : Progresses → ℕ → Behaviour → Bool
-isDone p k (nil r) = true
-isDone p k (oneWay r o x) = ifDone (p r) false true
-isDone p k (requestResponse r o x c d) = ifDone (p r) false true
-isDone p k (notification r o e) = ifDone (p r) false true
-isDone p k (solicitResponse r o e x) = ifDone (p r) false true
-isDone p k (ifThenElse r e a b) = ifTaken (p r) false (λ j. thenOrElse j (isDone p 0 a) (isDone p 0 b))
-isDone p k (whileDo r e b) = ifDone (p r) false true
-isDone p k (sequence r a b) = isDone p 0 a && isDone p 0 b
-isDone p k (parallel r a b) = isDone p 0 a && isDone p 0 b
-isDone p k (assign r x e) = ifDone (p r) false true
-isDone p k (choice r m) = ifTaken (p r) false (λ j. isDone p j m)
-isDone p k (branch r a b m) = firstOr k (isDone p 0 a && isDone p 0 b) (λ j. isDone p j m)
-isDone p k (lastBranch r a b) = isDone p 0 a && isDone p 0 b
-isDone p k (waiting r o x) = false
-isDone p k (answering r o c d) = false
+unfoldable mutual
+  -- "A nil is done, and so is a sequence, parallel, if or choice whose chosen parts are." Of the others a row is done when its
+  -- progress says so; a while only after its condition was false.
+  pub isDone : Progresses → Behaviour → Bool
+  isDone p (nil r) = true
+  isDone p (oneWay r o x) = ifDone (p r) false true
+  isDone p (requestResponse r o x c d) = ifDone (p r) false true
+  isDone p (notification r o e) = ifDone (p r) false true
+  isDone p (solicitResponse r o e x) = ifDone (p r) false true
+  isDone p (ifThenElse r e a b) = ifTaken (p r) false (λ k. thenOrElse k (isDone p a) (isDone p b))
+  isDone p (whileDo r e b) = ifDone (p r) false true
+  isDone p (sequence r a b) = isDone p a && isDone p b
+  isDone p (parallel r a b) = isDone p a && isDone p b
+  isDone p (assign r x e) = ifDone (p r) false true
+  isDone p (choice r m) = ifTaken (p r) false (λ k. branchDone p k m)
+  isDone p (waiting r o x) = false
+  isDone p (answering r o c d) = false
+
+  -- The branch k, past the last the last: its input and what follows.
+  pub branchDone : Progresses → ℕ → Branches → Bool
+  branchDone p k (lastBranch r a b) = isDone p a && isDone p b
+  branchDone p k (branch r a b m) = firstOr k (isDone p a && isDone p b) (λ j. branchDone p j m)
 
 -- How a row is reached: not at all; as a behaviour; or as an input of a choice in which no branch is taken (the choice's row,
 -- the branch's number, the input).
@@ -96,80 +99,60 @@ offeredIf true c k b otherwise = offered c k b
 offeredIf false c k b otherwise = otherwise
 
 -- The input with the row i among the branches of the choice c, of which k stand before.
-unfoldable pub offer : ℕ → ℕ → ℕ → Behaviour → Reached
-offer c k i (nil r) = unreached
-offer c k i (oneWay r o x) = unreached
-offer c k i (requestResponse r o x y d) = unreached
-offer c k i (notification r o e) = unreached
-offer c k i (solicitResponse r o e x) = unreached
-offer c k i (ifThenElse r e a b) = unreached
-offer c k i (whileDo r e b) = unreached
-offer c k i (sequence r a b) = unreached
-offer c k i (parallel r a b) = unreached
-offer c k i (assign r x e) = unreached
-offer c k i (choice r m) = unreached
-offer c k i (branch r a b m) = offeredIf (eqb i (rowOf a)) c k a (offer c (suc k) i m)
+unfoldable pub offer : ℕ → ℕ → ℕ → Branches → Reached
 offer c k i (lastBranch r a b) = offeredIf (eqb i (rowOf a)) c k a unreached
-offer c k i (waiting r o x) = unreached
-offer c k i (answering r o y d) = unreached
+offer c k i (branch r a b m) = offeredIf (eqb i (rowOf a)) c k a (offer c (suc k) i m)
 
 unfoldable mutual
   -- The row i from the top down: through sequences whose first part is done, both sides of a parallel, the taken part of an if,
   -- while or choice, "each input of a ready choice", and the body of a received request-response, also where that is such an input.
-  pub reach : Progresses → ℕ → ℕ → Behaviour → Reached
-  reach p k i (nil r) = here (eqb i r) (nil r) unreached
-  reach p k i (oneWay r o x) = here (eqb i r) (oneWay r o x) unreached
-  reach p k i (requestResponse r o x c d) = here (eqb i r) (requestResponse r o x c d) (ifReceived (p r) unreached (reach p 0 i d))
-  reach p k i (notification r o e) = here (eqb i r) (notification r o e) unreached
-  reach p k i (solicitResponse r o e x) = here (eqb i r) (solicitResponse r o e x) unreached
-  reach p k i (ifThenElse r e a b) =
-      here (eqb i r) (ifThenElse r e a b) (ifTaken (p r) unreached (λ j. thenOrElse j (reach p 0 i a) (reach p 0 i b)))
-  reach p k i (whileDo r e b) = here (eqb i r) (whileDo r e b) (ifTaken (p r) unreached (λ j. reach p 0 i b))
-  reach p k i (sequence r a b) = here (eqb i r) (sequence r a b) (orElse (reach p 0 i a) (onlyIf (isDone p 0 a) (reach p 0 i b)))
-  reach p k i (parallel r a b) = here (eqb i r) (parallel r a b) (orElse (reach p 0 i a) (reach p 0 i b))
-  reach p k i (assign r x e) = here (eqb i r) (assign r x e) unreached
-  reach p k i (choice r m) = here (eqb i r) (choice r m) (ifTaken (p r) (orElse (offer r 0 i m) (served p i m)) (λ j. reach p j i m))
-  reach p k i (branch r a b m) =
-      firstOr k (orElse (reach p 0 i a) (onlyIf (isDone p 0 a) (reach p 0 i b))) (λ j. reach p j i m)
-  reach p k i (lastBranch r a b) = orElse (reach p 0 i a) (onlyIf (isDone p 0 a) (reach p 0 i b))
-  reach p k i (waiting r o x) = unreached
-  reach p k i (answering r o c d) = unreached
+  pub reach : Progresses → ℕ → Behaviour → Reached
+  reach p i (nil r) = here (eqb i r) (nil r) unreached
+  reach p i (oneWay r o x) = here (eqb i r) (oneWay r o x) unreached
+  reach p i (requestResponse r o x c d) = here (eqb i r) (requestResponse r o x c d) (ifReceived (p r) unreached (reach p i d))
+  reach p i (notification r o e) = here (eqb i r) (notification r o e) unreached
+  reach p i (solicitResponse r o e x) = here (eqb i r) (solicitResponse r o e x) unreached
+  reach p i (ifThenElse r e a b) =
+      here (eqb i r) (ifThenElse r e a b) (ifTaken (p r) unreached (λ k. thenOrElse k (reach p i a) (reach p i b)))
+  reach p i (whileDo r e b) = here (eqb i r) (whileDo r e b) (ifTaken (p r) unreached (λ k. reach p i b))
+  reach p i (sequence r a b) = here (eqb i r) (sequence r a b) (orElse (reach p i a) (onlyIf (isDone p a) (reach p i b)))
+  reach p i (parallel r a b) = here (eqb i r) (parallel r a b) (orElse (reach p i a) (reach p i b))
+  reach p i (assign r x e) = here (eqb i r) (assign r x e) unreached
+  reach p i (choice r m) = here (eqb i r) (choice r m) (ifTaken (p r) (orElse (offer r 0 i m) (served p i m)) (λ k. reachBranch p k i m))
+  reach p i (waiting r o x) = unreached
+  reach p i (answering r o c d) = unreached
 
-  -- "the body of a received request-response count likewise": the row i in the body of a received input of a choice in which no branch is
-  -- taken. No list of moves from fresh leaves such a choice (docs/DECISIONS.md, 43).
-  pub served : Progresses → ℕ → Behaviour → Reached
-  served p i (nil r) = unreached
-  served p i (oneWay r o x) = unreached
-  served p i (requestResponse r o x c d) = ifReceived (p r) unreached (reach p 0 i d)
-  served p i (notification r o e) = unreached
-  served p i (solicitResponse r o e x) = unreached
-  served p i (ifThenElse r e a b) = unreached
-  served p i (whileDo r e b) = unreached
-  served p i (sequence r a b) = unreached
-  served p i (parallel r a b) = unreached
-  served p i (assign r x e) = unreached
-  served p i (choice r m) = unreached
-  served p i (branch r a b m) = orElse (served p i a) (served p i m)
-  served p i (lastBranch r a b) = served p i a
-  served p i (waiting r o x) = unreached
-  served p i (answering r o c d) = unreached
+  -- In the taken branch k, "as in a sequence".
+  pub reachBranch : Progresses → ℕ → ℕ → Branches → Reached
+  reachBranch p k i (lastBranch r a b) = orElse (reach p i a) (onlyIf (isDone p a) (reach p i b))
+  reachBranch p k i (branch r a b m) =
+      firstOr k (orElse (reach p i a) (onlyIf (isDone p a) (reach p i b))) (λ j. reachBranch p j i m)
 
--- 01's *rest*: "a done row is nil; a waiting one places its reply type; a received one is its body's rest and reply; an if or
--- choice with a part taken is that part's rest; a while with its body taken is the body's rest, then the while."
-unfoldable pub rest : Progresses → ℕ → Behaviour → Behaviour
-rest p k (nil r) = nil r
-rest p k (oneWay r o x) = ifDone (p r) (oneWay r o x) (nil r)
-rest p k (requestResponse r o x c d) =
-    ifDone (p r) (ifReceived (p r) (requestResponse r o x c d) (answering r o c (rest p 0 d))) (nil r)
-rest p k (notification r o e) = ifDone (p r) (notification r o e) (nil r)
-rest p k (solicitResponse r o e x) = ifDone (p r) (ifWaits (p r) (solicitResponse r o e x) (waiting r o x)) (nil r)
-rest p k (ifThenElse r e a b) = ifTaken (p r) (ifThenElse r e a b) (λ j. thenOrElse j (rest p 0 a) (rest p 0 b))
-rest p k (whileDo r e b) = ifDone (p r) (ifTaken (p r) (whileDo r e b) (λ j. sequence r (rest p 0 b) (whileDo r e b))) (nil r)
-rest p k (sequence r a b) = sequence r (rest p 0 a) (rest p 0 b)
-rest p k (parallel r a b) = parallel r (rest p 0 a) (rest p 0 b)
-rest p k (assign r x e) = ifDone (p r) (assign r x e) (nil r)
-rest p k (choice r m) = ifTaken (p r) (choice r m) (λ j. rest p j m)
-rest p k (branch r a b m) = firstOr k (sequence r (rest p 0 a) (rest p 0 b)) (λ j. rest p j m)
-rest p k (lastBranch r a b) = sequence r (rest p 0 a) (rest p 0 b)
-rest p k (waiting r o x) = waiting r o x
-rest p k (answering r o c d) = answering r o c d
+  -- "the body of a received request-response count likewise": the row i below a received input of a choice in which no branch is taken. (The
+  -- inputs themselves are offered first.) No list of moves from fresh leaves such an input (docs/DECISIONS.md, 43).
+  pub served : Progresses → ℕ → Branches → Reached
+  served p i (lastBranch r a b) = ifReceived (p (rowOf a)) unreached (reach p i a)
+  served p i (branch r a b m) = orElse (ifReceived (p (rowOf a)) unreached (reach p i a)) (served p i m)
+
+unfoldable mutual
+  -- 01's *rest*: "a done row is nil; a waiting one places its reply type; a received one is its body's rest and reply; an if or
+  -- choice with a part taken is that part's rest; a while with its body taken is the body's rest, then the while."
+  pub rest : Progresses → Behaviour → Behaviour
+  rest p (nil r) = nil r
+  rest p (oneWay r o x) = ifDone (p r) (oneWay r o x) (nil r)
+  rest p (requestResponse r o x c d) =
+      ifDone (p r) (ifReceived (p r) (requestResponse r o x c d) (answering r o c (rest p d))) (nil r)
+  rest p (notification r o e) = ifDone (p r) (notification r o e) (nil r)
+  rest p (solicitResponse r o e x) = ifDone (p r) (ifWaits (p r) (solicitResponse r o e x) (waiting r o x)) (nil r)
+  rest p (ifThenElse r e a b) = ifTaken (p r) (ifThenElse r e a b) (λ k. thenOrElse k (rest p a) (rest p b))
+  rest p (whileDo r e b) = ifDone (p r) (ifTaken (p r) (whileDo r e b) (λ k. sequence r (rest p b) (whileDo r e b))) (nil r)
+  rest p (sequence r a b) = sequence r (rest p a) (rest p b)
+  rest p (parallel r a b) = parallel r (rest p a) (rest p b)
+  rest p (assign r x e) = ifDone (p r) (assign r x e) (nil r)
+  rest p (choice r m) = ifTaken (p r) (choice r m) (λ k. branchRest p k m)
+  rest p (waiting r o x) = waiting r o x
+  rest p (answering r o c d) = answering r o c d
+
+  pub branchRest : Progresses → ℕ → Branches → Behaviour
+  branchRest p k (lastBranch r a b) = sequence r (rest p a) (rest p b)
+  branchRest p k (branch r a b m) = firstOr k (sequence r (rest p a) (rest p b)) (λ j. branchRest p j m)

@@ -6,7 +6,8 @@ use Prim.Native.Nat.{ℕ, zero, suc}
 use lib.Dec.{eqb, leb, ltb}
 use lib.ListN.{length}
 use Rattle.scalar.specs.Value.{pick}
-use Rattle.syntax.specs.Syntax.{Optional, none, some, Service, Network, Operation, Direction, input, output, Behaviour, nil, oneWay, requestResponse, notification, solicitResponse, ifThenElse, whileDo, sequence, parallel, assign, choice, branch, lastBranch, waiting, answering}
+use Rattle.syntax.specs.Syntax.{Optional, none, some, Service, Network, Operation, Behaviour, Branches, lastBranch, branch}
+use Rattle.syntax.specs.Rows.{Input, inputOf, Choice, choiceOf}
 use Rattle.state.specs.Session.{Session, Slot, free, live, State}
 use Rattle.state.specs.Shape.{behaviourIn}
 
@@ -14,51 +15,25 @@ use Rattle.state.specs.Shape.{behaviourIn}
 -- the starter, a choice of the row c, with that input.
 pub data Target : Type 0 where
   noTarget queueFull queued : Target
-  starts : ℕ → ℕ → Behaviour → Target
+  starts : ℕ → ℕ → Input → Target
 
-abbrev pub startIf : Bool → ℕ → ℕ → Behaviour → Target → Target
-startIf true c k a otherwise = starts c k a
-startIf false c k a otherwise = otherwise
-
--- Does the input name the operation of the O row?
-abbrev pub isInputOf : ℕ → Behaviour → Bool
-isInputOf w (nil r) = false
-isInputOf w (oneWay r o x) = eqb (o .row) w
-isInputOf w (requestResponse r o x c d) = eqb (o .row) w
-isInputOf w (notification r o e) = false
-isInputOf w (solicitResponse r o e x) = false
-isInputOf w (ifThenElse r e a b) = false
-isInputOf w (whileDo r e b) = false
-isInputOf w (sequence r a b) = false
-isInputOf w (parallel r a b) = false
-isInputOf w (assign r x e) = false
-isInputOf w (choice r m) = false
-isInputOf w (branch r a b m) = false
-isInputOf w (lastBranch r a b) = false
-isInputOf w (waiting r o x) = false
-isInputOf w (answering r o c d) = false
+-- The branch k, where its input names exactly the O row w.
+abbrev pub startBy : ℕ → ℕ → ℕ → Optional Input → Target → Target
+startBy w c k none otherwise = otherwise
+startBy w c k (some i) otherwise = pick (eqb (i .operation .row) w) (starts c k i) otherwise
 
 -- The first branch of the starter, from its branch k on, whose input names exactly that O row.
-unfoldable pub startFrom : ℕ → ℕ → ℕ → Behaviour → Target
-startFrom w c k (nil r) = noTarget
-startFrom w c k (oneWay r o x) = noTarget
-startFrom w c k (requestResponse r o x y d) = noTarget
-startFrom w c k (notification r o e) = noTarget
-startFrom w c k (solicitResponse r o e x) = noTarget
-startFrom w c k (ifThenElse r e a b) = noTarget
-startFrom w c k (whileDo r e b) = noTarget
-startFrom w c k (sequence r a b) = noTarget
-startFrom w c k (parallel r a b) = noTarget
-startFrom w c k (assign r x e) = noTarget
-startFrom w c k (choice r m) = startFrom w r 0 m
-startFrom w c k (branch r a b m) = startIf (isInputOf w a) c k a (startFrom w c (suc k) m)
-startFrom w c k (lastBranch r a b) = startIf (isInputOf w a) c k a noTarget
-startFrom w c k (waiting r o x) = noTarget
-startFrom w c k (answering r o y d) = noTarget
+unfoldable pub startFrom : ℕ → ℕ → ℕ → Branches → Target
+startFrom w c k (lastBranch r a b) = startBy w c k (inputOf a) noTarget
+startFrom w c k (branch r a b m) = startBy w c k (inputOf a) (startFrom w c (suc k) m)
+
+abbrev pub startOf : ℕ → Optional Choice → Target
+startOf w none = noTarget
+startOf w (some c) = startFrom w (c .row) 0 (c .branches)
 
 -- A free session is started, if it is one of 1 to 3; a live one queues "up to four messages".
 abbrev pub targetOf : ℕ → ℕ → Behaviour → Slot → Target
-targetOf w n B free = pick (eqb n 0) noTarget (startFrom w 0 0 B)
+targetOf w n B free = pick (eqb n 0) noTarget (startOf w (choiceOf B))
 targetOf w n B (live S) = pick (ltb (length (S .queue)) 4) queued queueFull
 
 abbrev pub onBehaviour : Optional Behaviour → (Behaviour → Target) → Target

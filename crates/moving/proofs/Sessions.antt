@@ -12,6 +12,7 @@ use Rattle.wire.specs.Wire.{byteAt}
 use Rattle.syntax.specs.Syntax.{Behaviour, Optional, none, some}
 use Rattle.network.specs.Form.{WellFormed}
 use Rattle.network.specs.Decode.{behaviourOf, networkOf}
+use Rattle.state.specs.Places.{slotSize, slotStart}
 use Rattle.state.specs.Session.{Session, Slot, free, live, State}
 use Rattle.state.specs.Bytes.{readSession, readSlot}
 use Rattle.state.specs.Shape.{behaviourIn}
@@ -52,27 +53,24 @@ module _ (file s : List ℕ) (q n : ℕ) where
       inside = λ at b e. nowhere e;
     }
 
-    module _ {b : ℕ} (e : x ≡ targets.Runs.Row b) {i j y : ℕ} (l : q ≤ 3) (m : n ≤ 3) (c : i ≡ q) (d : j ≡ n) (v : y ≡ byteAt s (4096 * (4 * i + j))) where
-      place : 4096 * (4 * i + j) ≡ 4096 * (4 * q + n)
-      place = omega (arith, c, d)
-
-      slot-is : (G : State) → StateOf file s G → G q n ≡ pick (eqb (byteAt s (4096 * (4 * q + n))) 0) free (live (readSession s (4096 * (4 * q + n))))
+    module _ {b : ℕ} (e : x ≡ targets.Runs.Row b) {slot y : ℕ} (l : q ≤ 3) (m : n ≤ 3) (place : slot ≡ slotStart q n) (v : y ≡ byteAt s slot) where
+      slot-is : (G : State) → StateOf file s G → G q n ≡ pick (eqb (byteAt s (slotStart q n)) 0) free (live (readSession s (slotStart q n)))
       unfolding readSlot
       slot-is G st = sym (stands-read st q n (omega (arith, l)) (omega (arith, m)))
 
       pub slot-free : y ≡ 0 → RunsAt file s q n Running.Nothing
       slot-free z = record {
         tells = λ w G st.
-            free-session file G q n (slot-is G st ∙ ap (λ (t : Bool). pick t free (live (readSession s (4096 * (4 * q + n)))))
-            (eq-eqb (byteAt s (4096 * (4 * q + n))) 0 (ap (byteAt s) (sym place) ∙ (sym v ∙ z))));
+            free-session file G q n (slot-is G st ∙ ap (λ (t : Bool). pick t free (live (readSession s (slotStart q n))))
+            (eq-eqb (byteAt s (slotStart q n)) 0 (ap (byteAt s) (sym place) ∙ (sym v ∙ z))));
         inside = λ at b e. nowhere e;
       }
 
-      pub slot-live : (y ≡ 0 → ⊥) → RunsAt file s q n (Running.Session (4096 * (4 * i + j)) b)
+      pub slot-live : (y ≡ 0 → ⊥) → RunsAt file s q n (Running.Session slot b)
       unfolding behaviourRun
       slot-live z = record {
         tells = λ w G st.
-            let at = 4096 * (4 * q + n) in
+            let at = slotStart q n in
             let g : G q n ≡ live (readSession s at) = slot-is G st ∙ ap (λ (t : Bool). pick t free (live (readSession s at)))
             (ne-eqb (byteAt s at) 0 (λ k. z (v ∙ (ap (byteAt s) place ∙ k)))) in
             subst (λ (p : ℕ). InSession file s G q n p b) (sym place) (record {
@@ -89,5 +87,7 @@ module _ (file s : List ℕ) (q n : ℕ) where
         inside = λ at k h. by at k h;
       }
         where
-          by : (at k : ℕ) → Running.Session (4096 * (4 * i + j)) b ≡ Running.Session at k → at + 4096 ≤ 65536
-          by at k h = let p : 4096 * (4 * i + j) ≡ at = cc in omega (arith, p, c, d, l, m)
+          by : (at k : ℕ) → Running.Session slot b ≡ Running.Session at k → at + slotSize ≤ 65536
+          by at k h = let p : slot ≡ at = cc in omega (arith, p, place, l, m)
+
+pub ruleset session-laws = (far-service, far-session, runs-nothing, slot-free, slot-live)

@@ -10,6 +10,7 @@ use Rattle.syntax.specs.Syntax.{Network, Behaviour, Optional, some}
 use Rattle.network.specs.Form.{WellFormed}
 use Rattle.network.specs.Layout.{behaviourCount}
 use Rattle.network.specs.Decode.{behaviourOf, networkOf}
+use Rattle.state.specs.Places.{slotSize, slotStart}
 use Rattle.state.specs.Session.{Session, Slot, live, State}
 use Rattle.state.specs.Bytes.{readSession}
 use Rattle.state.specs.Shape.{behaviourIn, Stands}
@@ -37,7 +38,7 @@ pub record InSession (file s : List ℕ) (G : State) (q n at b : ℕ) : Type 0 w
   pub session : Session
   pub service : q < 4
   pub number : n < 4
-  pub place : at ≡ 4096 * (4 * q + n)
+  pub place : at ≡ slotStart q n
   pub isLive : G q n ≡ live session
   pub runs : behaviourIn (networkOf file) q n ≡ some (behaviourOf file b)
   pub row : b < behaviourCount file
@@ -51,4 +52,4 @@ Runs file s G q n (Running.Session at b) = InSession file s G q n at b
 
 pub record RunsAt (file s : List ℕ) (q n : ℕ) (x : Running) : Type 0 where
   pub tells : WellFormed file → (G : State) → StateOf file s G → Runs file s G q n x
-  pub inside : (at b : ℕ) → x ≡ Running.Session at b → at + 4096 ≤ 65536
+  pub inside : (at b : ℕ) → x ≡ Running.Session at b → at + slotSize ≤ 65536

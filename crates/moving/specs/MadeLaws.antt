@@ -12,6 +12,7 @@ use Rattle.syntax.specs.Syntax.{Network, Behaviour, Optional, none, some}
 use Rattle.network.specs.Form.{WellFormed}
 use Rattle.network.specs.Layout.{behaviourCount}
 use Rattle.network.specs.Decode.{behaviourOf, networkOf, operationOf}
+use Rattle.state.specs.Places.{slotSize, slotStart}
 use Rattle.state.specs.Session.{Session, Slot, free, live, State, setSlot}
 use Rattle.state.specs.Bytes.{slotBytes, stateBytes, readState}
 use Rattle.state.specs.Shape.{behaviourIn, MadeSlot, Stands}
@@ -44,7 +45,7 @@ made-out-refused file f e h = record { tells = λ w G st l. refused-step e (h w 
 -- A move within one slot.
 pub made-slot : (file : List ℕ) (f : Network → State → Result) {s s′ : List ℕ} {o : Outcome} (q n at : ℕ) (x : Slot) → o ≡ doneWith 0
     → s′ ≡ withPart s at (slotBytes x)
-    → (WellFormed file → (G : State) → StateOf file s G → (q < 4) × (n < 4) × (at ≡ 4096 * (4 * q + n)) × MadeSlot x × (f (networkOf file) G ≡ moved (setSlot G q n x) []))
+    → (WellFormed file → (G : State) → StateOf file s G → (q < 4) × (n < 4) × (at ≡ slotStart q n) × MadeSlot x × (f (networkOf file) G ≡ moved (setSlot G q n x) []))
     → Made file f s s′ o
 made-slot file f {s} {s′} {o} q n at x e b h = record {
   tells = λ w G st out.
@@ -65,7 +66,7 @@ pub running : {file s : List ℕ} {q n slot b : ℕ} {x : Running} → RunsAt fi
     → StateOf file s G → InSession file s G q n slot b
 running {file} {s} {q} {n} h e w G st = subst (Runs file s G q n) e (h .tells w G st)
 
-pub slot-inside : {file s : List ℕ} {q n slot b : ℕ} {x : Running} → RunsAt file s q n x → x ≡ Running.Session slot b → slot + 4096 ≤ 65536
+pub slot-inside : {file s : List ℕ} {q n slot b : ℕ} {x : Running} → RunsAt file s q n x → x ≡ Running.Session slot b → slot + slotSize ≤ 65536
 slot-inside {slot = slot} {b = b} h e = h .inside slot b e
 
 -- The target in the state that the bytes stand for.

@@ -21,7 +21,7 @@ pub fn session_at(file: &[u8], state: &[u8], q: u16, n: u16) -> Running
     let Runs::Row(b) = targets::behaviour_in(file, q, n) else {
         return Running::Nothing;
     };
-    let slot = 4096 * (4 * wire::index(q) + wire::index(n));
+    let slot = state::slot_start(q, n);
     if wire::byte_at(state, slot) == 0 {
         return Running::Nothing;
     }

@@ -1,4 +1,4 @@
--- The behaviours of an unrefused file: row equations without a level bound, each row once, branches only in choices, the
+-- The behaviours of an unrefused file: row equations without a level bound, branches that begin with inputs, the
 -- shapes of their parts, and every row's operation.
 use Prim.Native.Nat.{ℕ, zero, suc, _+_, _<_, _≤_}
 use mathlib.Core.Path.{_≡_, refl, sym, _∙_, ap, subst}
@@ -8,23 +8,22 @@ use mathlib.Core.Logic.{_⊎_, inl, inr, ⊎-elim}
 use native.Mathlib.Omega.{arith}
 use lib.Dec.{T, eqb, eqb→eq, eqb-refl}
 use Rattle.forest.specs.Compare.{Compare, lt, eq, gt, compare, T-of}
-use Rattle.syntax.specs.Syntax.{Operation, Behaviour, nil, oneWay, requestResponse, notification, solicitResponse, ifThenElse, whileDo, sequence}
-use Rattle.syntax.specs.Syntax.{parallel, assign, choice, branch, lastBranch, waiting, answering}
+use Rattle.syntax.specs.Syntax.{Behaviour, choice}
 use Rattle.network.specs.declared.BehaviourKind.{BehaviourKind}
 use Rattle.network.specs.Layout.{behaviourCount, behaviourAt}
 use Rattle.network.specs.Rows.{fieldA, fieldB, fieldC, fieldD, kindAt, isBranch, isChoice, isInput}
 use Rattle.network.specs.Form.{WellFormed}
-use Rattle.network.specs.Decode.{pathOf, expressionOf, operationOf, branchesFrom, behaviourFrom, behaviourTo, behaviourOf, rowOperation}
+use Rattle.network.specs.Decode.{branchesFrom, behaviourFrom, behaviourTo, behaviourOf, rowOperation}
 use Rattle.syntax.specs.Rows.{hasRow, rowOf}
-use Rattle.network.specs.Shapes.{PathShape, ExpressionShape, OperationShape, BehaviourShape, Outside, Apart, EachRowOnce, Standing}
-use Rattle.network.specs.Shapes.{alone, inChoice, isInputBehaviour, isChoiceBehaviour, AsInFile, OperationsBy}
+use Rattle.network.specs.Shapes.{BehaviourShape, BranchesShape}
+use Rattle.network.specs.Shapes.{isInputBehaviour, isChoiceBehaviour, AsInFile, BranchesInFile, OperationsBy, BranchOperationsBy}
 use Rattle.network.specs.DecodeLaws.{path-shape, expression-shape, operation-shape}
-use Rattle.network.specs.UseLaws.{Uses, one-user, Child, SubKept, InputKept, BranchKept, RowKept, behaviour-kept, branch-kept}
+use Rattle.network.specs.UseLaws.{Uses, one-user, Child, SubKept, InputKept, BranchKept, RowKept, behaviour-kept, branch-kept, choice-kind}
 use Rattle.network.specs.TestLaws.{apart}
 
 -- The n branches from row a on, of the choice r.
-abbrev pub Branches : List ℕ → ℕ → ℕ → ℕ → Type 0
-Branches s r a n = (j : ℕ) → a ≤ j → j < a + n → BranchKept s r j
+abbrev pub BranchesKept : List ℕ → ℕ → ℕ → ℕ → Type 0
+BranchesKept s r a n = (j : ℕ) → a ≤ j → j < a + n → BranchKept s r j
 
 -- Later rows of r: where sub-behaviours are.
 abbrev pub Later : List ℕ → ℕ → (ℕ → Type 0) → Type 0
@@ -32,7 +31,7 @@ Later s r P = (j : ℕ) → r < j → j < behaviourCount s → P j
 
 -- ---- row equations
 
-same-branches : (s : List ℕ) → WellFormed s → (r : ℕ) (f g : ℕ → Behaviour) → Later s r (λ j. f j ≡ g j) → (n a : ℕ) → Branches s r a n
+same-branches : (s : List ℕ) → WellFormed s → (r : ℕ) (f g : ℕ → Behaviour) → Later s r (λ j. f j ≡ g j) → (n a : ℕ) → BranchesKept s r a n
     → branchesFrom s f a n ≡ branchesFrom s g a n
 unfolding branchesFrom
 same-branches s w r f g e zero a h = refl
@@ -96,10 +95,10 @@ behaviour-row s w r l = same-levels s w (behaviourCount s) (suc (behaviourCount 
 
 -- ---- the shapes of parts
 
-branches-shape : (s : List ℕ) → WellFormed s → (r : ℕ) (f : ℕ → Behaviour) → Later s r (λ j. BehaviourShape (f j)) → (n a : ℕ) → Branches s r a n
-    → BehaviourShape (branchesFrom s f a n)
-unfolding branchesFrom BehaviourShape
-branches-shape s w r f e zero a h = tt
+branches-shape : (s : List ℕ) → WellFormed s → (r : ℕ) (f : ℕ → Behaviour) → Later s r (λ j. BehaviourShape (f j)) → (n a : ℕ) → BranchesKept s r a n
+    → BranchesShape (branchesFrom s f a n)
+unfolding branchesFrom BehaviourShape BranchesShape
+branches-shape s w r f e zero a h = (tt, tt)
 branches-shape s w r f e (suc zero) a h =
     let k = h a (omega arith) (omega arith) in
     let b = branch-kept s w r a k in
@@ -154,15 +153,15 @@ pub behaviour-shape : (s : List ℕ) → WellFormed s → (r : ℕ) → r < beha
 unfolding behaviourOf
 behaviour-shape s w r l = shape-to s w (behaviourCount s) r l
 
--- ---- branches only in choices
+-- ---- as in the file
 
 -- What is said of B row r of kind k as a part of the file.
 abbrev InFile : BehaviourKind → Behaviour → Type 0
-InFile k b = (isBranch k ≡ false → AsInFile alone b) × (isInput k ≡ true → T (isInputBehaviour b) × AsInFile alone b)
+InFile k b = (isBranch k ≡ false → AsInFile b) × (isInput k ≡ true → T (isInputBehaviour b) × AsInFile b)
 
 branches-in : (s : List ℕ) → WellFormed s → (r : ℕ) (f : ℕ → Behaviour) → Later s r (λ j. InFile (kindAt s j) (f j))
-    → (n a : ℕ) → 1 ≤ n → Branches s r a n → AsInFile inChoice (branchesFrom s f a n)
-unfolding branchesFrom AsInFile
+    → (n a : ℕ) → 1 ≤ n → BranchesKept s r a n → BranchesInFile (branchesFrom s f a n)
+unfolding branchesFrom BranchesInFile
 branches-in s w r f e zero a o h = absurd (omega arith)
 branches-in s w r f e (suc zero) a o h =
     let k = h a (omega arith) (omega arith) in
@@ -230,37 +229,24 @@ in-to s w (suc d) r l h = row-in s w r (behaviourAt s r) (behaviourTo s d) (λ j
     (behaviour-kept s w r l)
 
 pub behaviour-in-file : (s : List ℕ) → WellFormed s → (r : ℕ) → r < behaviourCount s → isBranch (kindAt s r) ≡ false
-    → AsInFile alone (behaviourOf s r)
+    → AsInFile (behaviourOf s r)
 unfolding behaviourOf
 behaviour-in-file s w r l e = in-to s w (behaviourCount s) r l (omega arith) .0 e
 
 -- A row of kind choice becomes a choice.
-choice-by : (s : List ℕ) (f : ℕ → Behaviour) (r at : ℕ) (k : BehaviourKind) → isChoice k ≡ true → T (isChoiceBehaviour (behaviourFrom s f r at k))
-unfolding behaviourFrom
-choice-by s f r at BehaviourKind.Nil e = apart e
-choice-by s f r at BehaviourKind.OneWay e = apart e
-choice-by s f r at BehaviourKind.RequestResponse e = apart e
-choice-by s f r at BehaviourKind.Notification e = apart e
-choice-by s f r at BehaviourKind.SolicitResponse e = apart e
-choice-by s f r at BehaviourKind.If e = apart e
-choice-by s f r at BehaviourKind.While e = apart e
-choice-by s f r at BehaviourKind.Sequence e = apart e
-choice-by s f r at BehaviourKind.Parallel e = apart e
-choice-by s f r at BehaviourKind.Assign e = apart e
-choice-by s f r at BehaviourKind.Choice e = tt
-choice-by s f r at BehaviourKind.Branch e = apart e
-choice-by s f r at BehaviourKind.Unknown e = apart e
-
 pub choice-row : (s : List ℕ) → WellFormed s → (r : ℕ) → r < behaviourCount s → isChoice (kindAt s r) ≡ true → T (isChoiceBehaviour (behaviourOf s r))
-choice-row s w r l e = subst (λ (b : Behaviour). T (isChoiceBehaviour b)) (sym (behaviour-row s w r l))
-    (choice-by s (behaviourOf s) r (behaviourAt s r) (kindAt s r) e)
+unfolding behaviourFrom
+choice-row s w r l e =
+    let f : behaviourOf s r ≡ behaviourFrom s (behaviourOf s) r (behaviourAt s r) BehaviourKind.Choice =
+    behaviour-row s w r l ∙ ap (behaviourFrom s (behaviourOf s) r (behaviourAt s r)) (choice-kind (kindAt s r) e) in
+    subst (λ (b : Behaviour). T (isChoiceBehaviour b)) (sym f) tt
 
 -- ---- the operation of a node is the operation of its row
 
 branches-operations : (s : List ℕ) (f : ℕ → Behaviour) → ((j : ℕ) → OperationsBy (rowOperation s) (f j)) → (n a : ℕ)
-    → OperationsBy (rowOperation s) (branchesFrom s f a n)
-unfolding branchesFrom OperationsBy
-branches-operations s f e zero a = tt
+    → BranchOperationsBy (rowOperation s) (branchesFrom s f a n)
+unfolding branchesFrom OperationsBy BranchOperationsBy
+branches-operations s f e zero a = (tt, tt)
 branches-operations s f e (suc zero) a = (e (fieldA s (behaviourAt s a)), e (fieldB s (behaviourAt s a)))
 branches-operations s f e (suc (suc n)) a =
     (e (fieldA s (behaviourAt s a)), e (fieldB s (behaviourAt s a)), branches-operations s f e (suc n) (suc a))

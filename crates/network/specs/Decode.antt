@@ -10,8 +10,8 @@ use Rattle.scalar.specs.Basic.{void}
 use Rattle.scalar.specs.Value.{Value, value, pick}
 use Rattle.syntax.specs.Syntax.{Mark, mark, Types, MessageType, Unary, logicalNot, negate, Binary, add, subtract, less, equal, logicalAnd, Expression}
 use Rattle.syntax.specs.Syntax.{constant, valueAt, presence, unary, binary, Direction, input, output, Operation, Behaviour, nil, oneWay}
-use Rattle.syntax.specs.Syntax.{requestResponse, notification, solicitResponse, ifThenElse, whileDo, sequence, parallel, assign, choice, branch}
-use Rattle.syntax.specs.Syntax.{lastBranch, Optional, none, some, Service, Network}
+use Rattle.syntax.specs.Syntax.{requestResponse, notification, solicitResponse, ifThenElse, whileDo, sequence, parallel, assign, choice}
+use Rattle.syntax.specs.Syntax.{Branches, lastBranch, branch, Optional, none, some, Service, Network}
 use Rattle.network.specs.declared.ExpressionKind.{ExpressionKind}
 use Rattle.network.specs.declared.BehaviourKind.{BehaviourKind}
 use Rattle.wire.specs.Wire.{byteAt, u16At}
@@ -91,9 +91,9 @@ operationOf s r = record {
   reply = pick (eqb (operationTwoWay s r) 1) (typeOf s (replyType s r)) noReply;
 }
 
--- The n branches from row r on, one after another: "branch (input row a, of kind 1 or 2, then b, as in a sequence)".
-unfoldable pub branchesFrom : List ℕ → (ℕ → Behaviour) → ℕ → ℕ → Behaviour
-branchesFrom s sub r zero = nil r
+-- The n branches from row r on, one after another: "branch (input row a, of kind 1 or 2, then b, as in a sequence)". A choice has 1 to 8.
+unfoldable pub branchesFrom : List ℕ → (ℕ → Behaviour) → ℕ → ℕ → Branches
+branchesFrom s sub r zero = lastBranch r (nil r) (nil r)
 branchesFrom s sub r (suc zero) = lastBranch r (sub (fieldA s (behaviourAt s r))) (sub (fieldB s (behaviourAt s r)))
 branchesFrom s sub r (suc (suc n)) =
     branch r (sub (fieldA s (behaviourAt s r))) (sub (fieldB s (behaviourAt s r))) (branchesFrom s sub (suc r) (suc n))

@@ -5,8 +5,8 @@ pub mod Rows
 pub mod Uses
 pub mod Sizes
 pub mod Form
+pub mod Breaks
 pub mod Decode
-pub mod Meets
 pub mod Shapes
 pub mod LeastLaws
 pub mod LowestLaws

@@ -8,7 +8,7 @@ use native.Mathlib.Omega.{arith}
 use lib.Dec.{eqb}
 use Rattle.scalar.specs.Value.{pick}
 use Rattle.syntax.specs.Syntax.{Direction, input, output, Operation, Optional, none, some, Service, Network}
-use Rattle.network.specs.Meets.{locationOf, someAt, inFile, sameKind, meets, firstOf, metInput}
+use Rattle.syntax.specs.Meets.{locationOf, someAt, inFile, sameKind, meets, firstOf, metInput}
 use Rattle.syntax.specs.Rows.{entry, isInputOperation}
 use Rattle.network.specs.Shapes.{NetworkShape}
 use Rattle.network.specs.TestLaws.{eq-of, of-eq, and-of, or-of, clash}
@@ -30,6 +30,10 @@ kind-of true false e = let z : _≡_ {A = ℕ} 0 1 = cc in absurd (omega arith)
 kind-of false true e = let z : _≡_ {A = ℕ} 0 1 = cc in absurd (omega arith)
 kind-of false false e = refl
 
+own-kind : (a : Bool) → sameKind a a ≡ true
+own-kind true = refl
+own-kind false = refl
+
 pub met-of : (n : Network) (o i : Operation) → meets n o i ≡ true → Met n o i
 unfolding meets
 met-of n o i e =
@@ -43,6 +47,16 @@ met-of n o i e =
       sameId = eq-of (i .id) (o .id) (c .0);
       sameWay = kind-of (i .twoWay) (o .twoWay) (c .1);
     }
+
+-- What is all that passes the test.
+pub of-met : (n : Network) (o i : Operation) → Met n o i → meets n o i ≡ true
+unfolding meets
+of-met n o i m =
+    let a = ap isInputOperation (m .incoming) in
+    let b = of-eq (locationOf (entry (i .service) (n .services))) (o .location) (m .there) in
+    let c = of-eq (i .id) (o .id) (m .sameId) in
+    let d = ap (λ (x : Bool). sameKind x (o .twoWay)) (m .sameWay) ∙ own-kind (o .twoWay) in
+    rw (a, b, c, d) refl
 
 -- ---- the first that passes
 

@@ -17,7 +17,7 @@ use Rattle.network.specs.Rows.{sameName, serviceLocation, starterRow, cl
 use Rattle.network.specs.Uses.{serviceUses}
 use Rattle.network.specs.Form.{WellFormed}
 use Rattle.network.specs.Decode.{operationOf, behaviourOf, rowOperation, optionalBehaviour, serviceOf, rowsFrom, networkOf}
-use Rattle.network.specs.Meets.{locationOf, someAt, inFile, sameKind, meets, firstOf, metInput}
+use Rattle.syntax.specs.Meets.{locationOf, someAt, inFile, sameKind, meets, firstOf, metInput}
 use Rattle.syntax.specs.Rows.{entry, isInputOperation}
 use Rattle.network.specs.Shapes.{OperationShape, Apart, isChoiceBehaviour, FileBehaviour, IfAny, Role, asStarter, asClient, behaviourIn}
 use Rattle.network.specs.Shapes.{NetworkShape}

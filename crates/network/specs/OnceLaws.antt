@@ -7,19 +7,18 @@ use mathlib.Core.Logic.{_⊎_, inl, inr, ⊎-elim}
 use native.Mathlib.Omega.{arith}
 use lib.Dec.{T, eqb, eqb→eq, eqb-refl}
 use Rattle.forest.specs.Compare.{Compare, lt, eq, gt, compare}
-use Rattle.syntax.specs.Syntax.{Operation, Behaviour, nil, oneWay, requestResponse, notification, solicitResponse, ifThenElse, whileDo, sequence}
-use Rattle.syntax.specs.Syntax.{parallel, assign, choice, branch, lastBranch}
+use Rattle.syntax.specs.Syntax.{Behaviour, choice, Branches, lastBranch, branch}
 use Rattle.network.specs.declared.BehaviourKind.{BehaviourKind}
 use Rattle.network.specs.Layout.{behaviourCount, serviceCount, behaviourAt}
 use Rattle.network.specs.Rows.{fieldA, fieldB, fieldC, fieldD, kindAt}
 use Rattle.network.specs.Uses.{rowUses, serviceUses}
 use Rattle.network.specs.Form.{WellFormed}
-use Rattle.network.specs.Decode.{pathOf, expressionOf, operationOf, branchesFrom, behaviourFrom, behaviourTo, behaviourOf}
-use Rattle.syntax.specs.Rows.{hasRow}
-use Rattle.network.specs.Shapes.{Outside, Apart, EachRowOnce}
+use Rattle.network.specs.Decode.{branchesFrom, behaviourFrom, behaviourTo, behaviourOf}
+use Rattle.syntax.specs.Rows.{hasRow, hasRowIn}
+use Rattle.network.specs.Shapes.{Outside, Apart, EachRowOnce, EachBranchRowOnce}
 use Rattle.network.specs.UseLaws.{Uses, one-user, no-user, one-service, Child, SubKept, InputKept, BranchKept, RowKept, behaviour-kept}
 use Rattle.network.specs.UseLaws.{branch-kept}
-use Rattle.network.specs.BehaviourLaws.{Branches, Later}
+use Rattle.network.specs.BehaviourLaws.{BranchesKept, Later}
 
 pub or-left : (a b : Bool) → T a → T (a || b)
 or-left true b t = tt
@@ -33,27 +32,27 @@ pub or-case : (a b : Bool) {X : Type 0} → (T a → X) → (T b → X) → T (a
 or-case true b f g t = f tt
 or-case false b f g t = g t
 
--- The user of row i, inside X.
-record User (s : List ℕ) (X : Behaviour) (i : ℕ) : Type 0 where
+-- The user of row i, one of the rows that `has` tells.
+record User (s : List ℕ) (has : ℕ → Bool) (i : ℕ) : Type 0 where
   user : ℕ
-  inside : T (hasRow user X)
+  inside : T (has user)
   uses : Uses s user i
   before : user < i
 
 -- The rows of X go up to its top row a.
 abbrev Up : List ℕ → ℕ → Behaviour → Type 0
-Up s a X = (i : ℕ) → T (hasRow i X) → (a ≤ i) × (i < behaviourCount s) × ((i ≡ a → ⊥) → User s X i)
+Up s a X = (i : ℕ) → T (hasRow i X) → (a ≤ i) × (i < behaviourCount s) × ((i ≡ a → ⊥) → User s (λ j. hasRow j X) i)
 
--- The user of row i, the choice r or a row inside M.
-record BranchUser (s : List ℕ) (r : ℕ) (M : Behaviour) (i : ℕ) : Type 0 where
+-- The user of row i, the choice r or a row of its branches M.
+record BranchUser (s : List ℕ) (r : ℕ) (M : Branches) (i : ℕ) : Type 0 where
   user : ℕ
-  inside : T (eqb user r || hasRow user M)
+  inside : T (eqb user r || hasRowIn user M)
   uses : Uses s user i
   before : user < i
 
 -- The rows of the branches M, from row a on, go up to the choice r.
-abbrev UpToChoice : List ℕ → ℕ → ℕ → Behaviour → Type 0
-UpToChoice s r a M = (i : ℕ) → T (hasRow i M) → (a ≤ i) × (i < behaviourCount s) × BranchUser s r M i
+abbrev UpToChoice : List ℕ → ℕ → ℕ → Branches → Type 0
+UpToChoice s r a M = (i : ℕ) → T (hasRowIn i M) → (a ≤ i) × (i < behaviourCount s) × BranchUser s r M i
 
 -- ---- behaviours with different top rows are apart
 
@@ -127,9 +126,9 @@ apart-children s w r a b A B l ka kb ne ua ub i ta tb =
     ne ua ub i i (omega arith) ta tb
 
 -- A part of the branch j and the branches after it, of the choice r.
-apart-branches : (s : List ℕ) → WellFormed s → (r j x : ℕ) (A M : Behaviour) → r < j → j < behaviourCount s → Child s j x → Up s x A
+apart-branches : (s : List ℕ) → WellFormed s → (r j x : ℕ) (A : Behaviour) (M : Branches) → r < j → j < behaviourCount s → Child s j x → Up s x A
     → UpToChoice s r (suc j) M
-    → (n i : ℕ) → i ≤ n → T (hasRow i A) → T (hasRow i M) → ⊥
+    → (n i : ℕ) → i ≤ n → T (hasRow i A) → T (hasRowIn i M) → ⊥
 apart-branches s w r j x A M rj lj kx ua um zero i le ta tm = let z = um i tm .0 in omega arith
 apart-branches s w r j x A M rj lj kx ua um (suc n) i le ta tm = go (compare i x)
     (λ p z. apart-branches s w r j x A M rj lj kx ua um n p (omega arith))
@@ -146,13 +145,13 @@ apart-branches s w r j x A M rj lj kx ua um (suc n) i le ta tm = go (compare i x
     m : BranchUser s r M i
     m = um i tm .2
 
-    go : Compare i x → ((p : ℕ) → p < i → T (hasRow p A) → T (hasRow p M) → ⊥) → ⊥
+    go : Compare i x → ((p : ℕ) → p < i → T (hasRow p A) → T (hasRowIn p M) → ⊥) → ⊥
     go (lt c) ih = let y = xi in omega arith
     go (eq c) ih =
         let f = m .before in
         let l = li in
         let e = one-user s w x (m .user) j (kx .exists) (omega arith) lj (subst (λ (z : ℕ). Uses s (m .user) z) c (m .uses)) (kx .uses) in
-        or-case (eqb (m .user) r) (hasRow (m .user) M)
+        or-case (eqb (m .user) r) (hasRowIn (m .user) M)
         (λ t. let z = eqb→eq (m .user) r t in omega arith)
         (λ t. let z = um (m .user) t .0 in omega arith)
         (m .inside)
@@ -164,23 +163,23 @@ apart-branches s w r j x A M rj lj kx ua um (suc n) i le ta tm = go (compare i x
         let e = one-user s w i (v .user) (m .user) l (omega arith) (omega arith) (v .uses) (m .uses) in
         let y = ua (v .user) (v .inside) .0 in
         let k = jx in
-        or-case (eqb (m .user) r) (hasRow (m .user) M)
+        or-case (eqb (m .user) r) (hasRowIn (m .user) M)
         (λ t. let z = eqb→eq (m .user) r t in omega arith)
-        (λ t. ih (v .user) g (v .inside) (subst (λ (z : ℕ). T (hasRow z M)) (sym e) t))
+        (λ t. ih (v .user) g (v .inside) (subst (λ (z : ℕ). T (hasRowIn z M)) (sym e) t))
         (m .inside)
 
 -- ---- the rows of a behaviour
 
-top-up : (s : List ℕ) (r i : ℕ) (X : Behaviour) → r < behaviourCount s → T (eqb i r) → (r ≤ i) × (i < behaviourCount s) × ((i ≡ r → ⊥) → User s X i)
-top-up s r i X l t = let e = eqb→eq i r t in (omega arith, omega arith, λ f. absurd (f e))
+top-up : (s : List ℕ) (r i : ℕ) (has : ℕ → Bool) → r < behaviourCount s → T (eqb i r) → (r ≤ i) × (i < behaviourCount s) × ((i ≡ r → ⊥) → User s has i)
+top-up s r i has l t = let e = eqb→eq i r t in (omega arith, omega arith, λ f. absurd (f e))
 
--- A row of the sub-behaviour A of row r, as a row of X.
-sub-up : (s : List ℕ) (r a i : ℕ) (A X : Behaviour) → Child s r a → Up s a A → ((j : ℕ) → T (hasRow j A) → T (hasRow j X)) → T (hasRow r X)
+-- A row of the sub-behaviour A of row r, as one of the rows that `has` tells.
+sub-up : (s : List ℕ) (r a i : ℕ) (A : Behaviour) (has : ℕ → Bool) → Child s r a → Up s a A → ((j : ℕ) → T (hasRow j A) → T (has j)) → T (has r)
     → T (hasRow i A)
-    → (r ≤ i) × (i < behaviourCount s) × ((i ≡ r → ⊥) → User s X i)
-sub-up s r a i A X k u inc rx t = (let x = u i t .0 in let y = k .later in omega arith, u i t .1, λ f. go (compare i a))
+    → (r ≤ i) × (i < behaviourCount s) × ((i ≡ r → ⊥) → User s has i)
+sub-up s r a i A has k u inc rx t = (let x = u i t .0 in let y = k .later in omega arith, u i t .1, λ f. go (compare i a))
   where
-    go : Compare i a → User s X i
+    go : Compare i a → User s has i
     go (lt c) = let x = u i t .0 in absurd (omega arith)
     go (eq c) =
         let y = k .later in
@@ -189,23 +188,23 @@ sub-up s r a i A X k u inc rx t = (let x = u i t .0 in let y = k .later in omega
         let v = u i t .2 (λ e. omega arith) in
         record { user = v .user; inside = inc (v .user) (v .inside); uses = v .uses; before = v .before }
 
-two-up : (s : List ℕ) (r x y i : ℕ) (A B X : Behaviour) → r < behaviourCount s → Child s r x → Child s r y → Up s x A → Up s y B
-    → ((j : ℕ) → T (hasRow j A) → T (hasRow j X)) → ((j : ℕ) → T (hasRow j B) → T (hasRow j X)) → T (hasRow r X)
-    → T (eqb i r || (hasRow i A || hasRow i B)) → (r ≤ i) × (i < behaviourCount s) × ((i ≡ r → ⊥) → User s X i)
-two-up s r x y i A B X l kx ky ua ub ia ib rx t =
-    or-case (eqb i r) (hasRow i A || hasRow i B) (λ z. top-up s r i X l z)
-    (λ z. or-case (hasRow i A) (hasRow i B) (λ v. sub-up s r x i A X kx ua ia rx v) (λ v. sub-up s r y i B X ky ub ib rx v) z) t
+two-up : (s : List ℕ) (r x y i : ℕ) (A B : Behaviour) (has : ℕ → Bool) → r < behaviourCount s → Child s r x → Child s r y → Up s x A → Up s y B
+    → ((j : ℕ) → T (hasRow j A) → T (has j)) → ((j : ℕ) → T (hasRow j B) → T (has j)) → T (has r)
+    → T (eqb i r || (hasRow i A || hasRow i B)) → (r ≤ i) × (i < behaviourCount s) × ((i ≡ r → ⊥) → User s has i)
+two-up s r x y i A B has l kx ky ua ub ia ib rx t =
+    or-case (eqb i r) (hasRow i A || hasRow i B) (λ z. top-up s r i has l z)
+    (λ z. or-case (hasRow i A) (hasRow i B) (λ v. sub-up s r x i A has kx ua ia rx v) (λ v. sub-up s r y i B has ky ub ib rx v) z) t
 
--- A row of the branch j, whose parts are A and B, as a row of the branches X.
-branch-up : (s : List ℕ) (r j x y i : ℕ) (A B X : Behaviour) → Child s r j → Child s j x → Child s j y → Up s x A → Up s y B
-    → ((l : ℕ) → T (hasRow l A) → T (hasRow l X)) → ((l : ℕ) → T (hasRow l B) → T (hasRow l X)) → T (hasRow j X)
-    → T (eqb i j || (hasRow i A || hasRow i B)) → (j ≤ i) × (i < behaviourCount s) × BranchUser s r X i
-branch-up s r j x y i A B X kj kx ky ua ub ia ib jx t = go (compare i j)
+-- A row of the branch j, whose parts are A and B, as a row of the branches M.
+branch-up : (s : List ℕ) (r j x y i : ℕ) (A B : Behaviour) (M : Branches) → Child s r j → Child s j x → Child s j y → Up s x A → Up s y B
+    → ((l : ℕ) → T (hasRow l A) → T (hasRowIn l M)) → ((l : ℕ) → T (hasRow l B) → T (hasRowIn l M)) → T (hasRowIn j M)
+    → T (eqb i j || (hasRow i A || hasRow i B)) → (j ≤ i) × (i < behaviourCount s) × BranchUser s r M i
+branch-up s r j x y i A B M kj kx ky ua ub ia ib jx t = go (compare i j)
   where
-    h : (j ≤ i) × (i < behaviourCount s) × ((i ≡ j → ⊥) → User s X i)
-    h = two-up s j x y i A B X (kj .exists) kx ky ua ub ia ib jx t
+    h : (j ≤ i) × (i < behaviourCount s) × ((i ≡ j → ⊥) → User s (λ l. hasRowIn l M) i)
+    h = two-up s j x y i A B (λ l. hasRowIn l M) (kj .exists) kx ky ua ub ia ib jx t
 
-    go : Compare i j → (j ≤ i) × (i < behaviourCount s) × BranchUser s r X i
+    go : Compare i j → (j ≤ i) × (i < behaviourCount s) × BranchUser s r M i
     go (lt c) = let l = h .0 in absurd (omega arith)
     go (eq c) =
         let l = kj .later in (
@@ -213,7 +212,7 @@ branch-up s r j x y i A B X kj kx ky ua ub ia ib jx t = go (compare i j)
           h .1,
           record {
             user = r;
-            inside = or-left (eqb r r) (hasRow r X) (eqb-refl r);
+            inside = or-left (eqb r r) (hasRowIn r M) (eqb-refl r);
             uses = subst (λ (z : ℕ). Uses s r z) (sym c)
                 (kj .uses);
             before = omega arith;
@@ -225,16 +224,16 @@ branch-up s r j x y i A B X kj kx ky ua ub ia ib jx t = go (compare i j)
           h .1,
           record {
             user = v .user;
-            inside = or-right (eqb (v .user) r) (hasRow (v .user) X)
+            inside = or-right (eqb (v .user) r) (hasRowIn (v .user) M)
                 (v .inside);
             uses = v .uses;
             before = v .before;
           },
         )
 
-branches-up : (s : List ℕ) → WellFormed s → (r : ℕ) (f : ℕ → Behaviour) → Later s r (λ j. Up s j (f j)) → (n a : ℕ) → 1 ≤ n → Branches s r a n
+branches-up : (s : List ℕ) → WellFormed s → (r : ℕ) (f : ℕ → Behaviour) → Later s r (λ j. Up s j (f j)) → (n a : ℕ) → 1 ≤ n → BranchesKept s r a n
     → UpToChoice s r a (branchesFrom s f a n)
-unfolding branchesFrom hasRow
+unfolding branchesFrom hasRowIn
 branches-up s w r f u zero a o h i t = absurd (omega arith)
 branches-up s w r f u (suc zero) a o h i t =
     let k = h a (omega arith) (omega arith) in
@@ -248,9 +247,9 @@ branches-up s w r f u (suc zero) a o h i t =
     (λ l z. or-right (eqb l a) (hasRow l (f x) || hasRow l (f y)) (or-right (hasRow l (f x)) (hasRow l (f y)) z))
     (or-left (eqb a a) (hasRow a (f x) || hasRow a (f y)) (eqb-refl a)) t
 branches-up s w r f u (suc (suc n)) a o h i t =
-    or-case (eqb i a) ((hasRow i (f x) || hasRow i (f y)) || hasRow i M)
+    or-case (eqb i a) ((hasRow i (f x) || hasRow i (f y)) || hasRowIn i M)
     (λ z. this (or-left (eqb i a) (hasRow i (f x) || hasRow i (f y)) z))
-    (λ z. or-case (hasRow i (f x) || hasRow i (f y)) (hasRow i M)
+    (λ z. or-case (hasRow i (f x) || hasRow i (f y)) (hasRowIn i M)
     (λ v. this (or-right (eqb i a) (hasRow i (f x) || hasRow i (f y)) v))
     (λ v. later (branches-up s w r f u (suc n) (suc a) (omega arith) (λ j p q. h j (omega arith) (omega arith)) i v)) z) t
   where
@@ -260,7 +259,7 @@ branches-up s w r f u (suc (suc n)) a o h i t =
     y : ℕ
     y = fieldB s (behaviourAt s a)
 
-    M : Behaviour
+    M : Branches
     M = branchesFrom s f (suc a) (suc n)
 
     k : BranchKept s r a
@@ -275,11 +274,11 @@ branches-up s w r f u (suc (suc n)) a o h i t =
         branch-up s r a x y i (f x) (f y) (branch a (f x) (f y) M) (k .child) (b .0 .child) (b .1 .child)
         (u x (let z = b .0 .child .later in omega arith) (b .0 .child .exists))
         (u y (let z = b .1 .child .later in omega arith) (b .1 .child .exists))
-        (λ l z. or-right (eqb l a) ((hasRow l (f x) || hasRow l (f y)) || hasRow l M)
-        (or-left (hasRow l (f x) || hasRow l (f y)) (hasRow l M) (or-left (hasRow l (f x)) (hasRow l (f y)) z)))
-        (λ l z. or-right (eqb l a) ((hasRow l (f x) || hasRow l (f y)) || hasRow l M)
-        (or-left (hasRow l (f x) || hasRow l (f y)) (hasRow l M) (or-right (hasRow l (f x)) (hasRow l (f y)) z)))
-        (or-left (eqb a a) ((hasRow a (f x) || hasRow a (f y)) || hasRow a M) (eqb-refl a)) v
+        (λ l z. or-right (eqb l a) ((hasRow l (f x) || hasRow l (f y)) || hasRowIn l M)
+        (or-left (hasRow l (f x) || hasRow l (f y)) (hasRowIn l M) (or-left (hasRow l (f x)) (hasRow l (f y)) z)))
+        (λ l z. or-right (eqb l a) ((hasRow l (f x) || hasRow l (f y)) || hasRowIn l M)
+        (or-left (hasRow l (f x) || hasRow l (f y)) (hasRowIn l M) (or-right (hasRow l (f x)) (hasRow l (f y)) z)))
+        (or-left (eqb a a) ((hasRow a (f x) || hasRow a (f y)) || hasRowIn a M) (eqb-refl a)) v
 
     later : (suc a ≤ i) × (i < behaviourCount s) × BranchUser s r M i → (a ≤ i) × (i < behaviourCount s) × BranchUser s r (branch a (f x) (f y) M) i
     later v =
@@ -290,10 +289,10 @@ branches-up s w r f u (suc (suc n)) a o h i t =
           record {
             user = p;
             inside =
-                or-case (eqb p r) (hasRow p M) (λ q. or-left (eqb p r) (hasRow p (branch a (f x) (f y) M)) q)
-                (λ q. or-right (eqb p r) (hasRow p (branch a (f x) (f y) M))
-                (or-right (eqb p a) ((hasRow p (f x) || hasRow p (f y)) || hasRow p M)
-                (or-right (hasRow p (f x) || hasRow p (f y)) (hasRow p M) q))) (v .2 .inside);
+                or-case (eqb p r) (hasRowIn p M) (λ q. or-left (eqb p r) (hasRowIn p (branch a (f x) (f y) M)) q)
+                (λ q. or-right (eqb p r) (hasRowIn p (branch a (f x) (f y) M))
+                (or-right (eqb p a) ((hasRow p (f x) || hasRow p (f y)) || hasRowIn p M)
+                (or-right (hasRow p (f x) || hasRow p (f y)) (hasRowIn p M) q))) (v .2 .inside);
             uses = v .2 .uses;
             before = v .2 .before;
           },
@@ -302,22 +301,18 @@ branches-up s w r f u (suc (suc n)) a o h i t =
 row-up : (s : List ℕ) → WellFormed s → (r at : ℕ) → r < behaviourCount s → (f : ℕ → Behaviour) → Later s r (λ j. Up s j (f j)) → (k : BehaviourKind)
     → RowKept s r at k → Up s r (behaviourFrom s f r at k)
 unfolding behaviourFrom hasRow
-row-up s w r at l f u BehaviourKind.Nil h i t = top-up s r i (nil r) l t
-row-up s w r at l f u BehaviourKind.OneWay h i t = top-up s r i (oneWay r (operationOf s (fieldA s at)) (pathOf s (fieldB s at))) l t
+row-up s w r at l f u BehaviourKind.Nil h i t = top-up s r i _ l t
+row-up s w r at l f u BehaviourKind.OneWay h i t = top-up s r i _ l t
 row-up s w r at l f u BehaviourKind.RequestResponse h i t =
     or-case (eqb i r) (hasRow i (f (fieldD s at)))
-    (λ z. top-up s r i (requestResponse r (operationOf s (fieldA s at)) (pathOf s (fieldB s at)) (pathOf s (fieldC s at)) (f (fieldD s at))) l z)
-    (λ z. sub-up s r (fieldD s at) i (f (fieldD s at))
-    (requestResponse r (operationOf s (fieldA s at)) (pathOf s (fieldB s at)) (pathOf s (fieldC s at)) (f (fieldD s at))) (h .3 .child)
+    (λ z. top-up s r i _ l z)
+    (λ z. sub-up s r (fieldD s at) i (f (fieldD s at)) _ (h .3 .child)
     (u (fieldD s at) (h .3 .child .later) (h .3 .child .exists))
     (λ j v. or-right (eqb j r) (hasRow j (f (fieldD s at))) v) (or-left (eqb r r) (hasRow r (f (fieldD s at))) (eqb-refl r)) z) t
-row-up s w r at l f u BehaviourKind.Notification h i t = top-up s r i
-    (notification r (operationOf s (fieldA s at)) (expressionOf s (fieldB s at))) l t
-row-up s w r at l f u BehaviourKind.SolicitResponse h i t = top-up s r i
-    (solicitResponse r (operationOf s (fieldA s at)) (expressionOf s (fieldB s at)) (pathOf s (fieldC s at))) l t
+row-up s w r at l f u BehaviourKind.Notification h i t = top-up s r i _ l t
+row-up s w r at l f u BehaviourKind.SolicitResponse h i t = top-up s r i _ l t
 row-up s w r at l f u BehaviourKind.If h i t =
-    two-up s r (fieldB s at) (fieldC s at) i (f (fieldB s at)) (f (fieldC s at))
-    (ifThenElse r (expressionOf s (fieldA s at)) (f (fieldB s at)) (f (fieldC s at))) l (h .1 .child) (h .2 .child)
+    two-up s r (fieldB s at) (fieldC s at) i (f (fieldB s at)) (f (fieldC s at)) _ l (h .1 .child) (h .2 .child)
     (u (fieldB s at) (h .1 .child .later) (h .1 .child .exists)) (u (fieldC s at) (h .2 .child .later) (h .2 .child .exists))
     (λ j v. or-right (eqb j r) (hasRow j (f (fieldB s at)) || hasRow j (f (fieldC s at)))
     (or-left (hasRow j (f (fieldB s at))) (hasRow j (f (fieldC s at))) v))
@@ -325,12 +320,12 @@ row-up s w r at l f u BehaviourKind.If h i t =
     (or-right (hasRow j (f (fieldB s at))) (hasRow j (f (fieldC s at))) v))
     (or-left (eqb r r) (hasRow r (f (fieldB s at)) || hasRow r (f (fieldC s at))) (eqb-refl r)) t
 row-up s w r at l f u BehaviourKind.While h i t =
-    or-case (eqb i r) (hasRow i (f (fieldB s at))) (λ z. top-up s r i (whileDo r (expressionOf s (fieldA s at)) (f (fieldB s at))) l z)
-    (λ z. sub-up s r (fieldB s at) i (f (fieldB s at)) (whileDo r (expressionOf s (fieldA s at)) (f (fieldB s at))) (h .1 .child)
+    or-case (eqb i r) (hasRow i (f (fieldB s at))) (λ z. top-up s r i _ l z)
+    (λ z. sub-up s r (fieldB s at) i (f (fieldB s at)) _ (h .1 .child)
     (u (fieldB s at) (h .1 .child .later) (h .1 .child .exists))
     (λ j v. or-right (eqb j r) (hasRow j (f (fieldB s at))) v) (or-left (eqb r r) (hasRow r (f (fieldB s at))) (eqb-refl r)) z) t
 row-up s w r at l f u BehaviourKind.Sequence h i t =
-    two-up s r (fieldA s at) (fieldB s at) i (f (fieldA s at)) (f (fieldB s at)) (sequence r (f (fieldA s at)) (f (fieldB s at))) l (h .0 .child)
+    two-up s r (fieldA s at) (fieldB s at) i (f (fieldA s at)) (f (fieldB s at)) _ l (h .0 .child)
     (h .1 .child)
     (u (fieldA s at) (h .0 .child .later) (h .0 .child .exists)) (u (fieldB s at) (h .1 .child .later) (h .1 .child .exists))
     (λ j v. or-right (eqb j r) (hasRow j (f (fieldA s at)) || hasRow j (f (fieldB s at)))
@@ -339,7 +334,7 @@ row-up s w r at l f u BehaviourKind.Sequence h i t =
     (or-right (hasRow j (f (fieldA s at))) (hasRow j (f (fieldB s at))) v))
     (or-left (eqb r r) (hasRow r (f (fieldA s at)) || hasRow r (f (fieldB s at))) (eqb-refl r)) t
 row-up s w r at l f u BehaviourKind.Parallel h i t =
-    two-up s r (fieldA s at) (fieldB s at) i (f (fieldA s at)) (f (fieldB s at)) (parallel r (f (fieldA s at)) (f (fieldB s at))) l (h .0 .child)
+    two-up s r (fieldA s at) (fieldB s at) i (f (fieldA s at)) (f (fieldB s at)) _ l (h .0 .child)
     (h .1 .child)
     (u (fieldA s at) (h .0 .child .later) (h .0 .child .exists)) (u (fieldB s at) (h .1 .child .later) (h .1 .child .exists))
     (λ j v. or-right (eqb j r) (hasRow j (f (fieldA s at)) || hasRow j (f (fieldB s at)))
@@ -347,26 +342,26 @@ row-up s w r at l f u BehaviourKind.Parallel h i t =
     (λ j v. or-right (eqb j r) (hasRow j (f (fieldA s at)) || hasRow j (f (fieldB s at)))
     (or-right (hasRow j (f (fieldA s at))) (hasRow j (f (fieldB s at))) v))
     (or-left (eqb r r) (hasRow r (f (fieldA s at)) || hasRow r (f (fieldB s at))) (eqb-refl r)) t
-row-up s w r at l f u BehaviourKind.Assign h i t = top-up s r i (assign r (pathOf s (fieldA s at)) (expressionOf s (fieldB s at))) l t
+row-up s w r at l f u BehaviourKind.Assign h i t = top-up s r i _ l t
 row-up s w r at l f u BehaviourKind.Choice h i t =
-    or-case (eqb i r) (hasRow i M) (λ z. top-up s r i (choice r M) l z)
+    or-case (eqb i r) (hasRowIn i M) (λ z. top-up s r i _ l z)
     (λ z. below (branches-up s w r f u (fieldB s at) (fieldA s at) (h .0) (h .2) i z)) t
   where
-    M : Behaviour
+    M : Branches
     M = branchesFrom s f (fieldA s at) (fieldB s at)
 
-    below : (fieldA s at ≤ i) × (i < behaviourCount s) × BranchUser s r M i → (r ≤ i) × (i < behaviourCount s) × ((i ≡ r → ⊥) → User s (choice r M) i)
+    below : (fieldA s at ≤ i) × (i < behaviourCount s) × BranchUser s r M i → (r ≤ i) × (i < behaviourCount s) × ((i ≡ r → ⊥) → User s (λ j. hasRow j (choice r M)) i)
     below v =
         let g = v .0 in
         let o = h .0 in
         let e = h .2 (fieldA s at) (omega arith) (omega arith) .child .later in
         (omega arith, v .1, λ ne. record { user = v .2 .user; inside = v .2 .inside; uses = v .2 .uses; before = v .2 .before })
-row-up s w r at l f u BehaviourKind.Branch h i t = top-up s r i (nil r) l t
-row-up s w r at l f u BehaviourKind.Unknown h i t = top-up s r i (nil r) l t
+row-up s w r at l f u BehaviourKind.Branch h i t = top-up s r i _ l t
+row-up s w r at l f u BehaviourKind.Unknown h i t = top-up s r i _ l t
 
 up-to : (s : List ℕ) → WellFormed s → (d r : ℕ) → r < behaviourCount s → Up s r (behaviourTo s d r)
 unfolding behaviourTo hasRow
-up-to s w zero r l i t = top-up s r i (nil r) l t
+up-to s w zero r l i t = top-up s r i _ l t
 up-to s w (suc d) r l i t = row-up s w r (behaviourAt s r) l (behaviourTo s d) (λ j x y q z. up-to s w d j y q z) (kindAt s r)
     (behaviour-kept s w r l) i t
 
@@ -376,11 +371,11 @@ below-top : (s : List ℕ) (r a : ℕ) (A : Behaviour) → Child s r a → Up s 
 below-top s r a A k u t = let x = u r t .0 in let y = k .later in omega arith
 
 branches-once : (s : List ℕ) → WellFormed s → (r : ℕ) (f : ℕ → Behaviour) → Later s r (λ j. Up s j (f j)) → Later s r (λ j. EachRowOnce (f j))
-    → (n a : ℕ) → Branches s r a n
-    → EachRowOnce (branchesFrom s f a n)
-unfolding branchesFrom EachRowOnce
-branches-once s w r f u e zero a h = tt
-branches-once s w r f u e (suc zero) a h = (
+    → (n a : ℕ) → 1 ≤ n → BranchesKept s r a n
+    → EachBranchRowOnce (branchesFrom s f a n)
+unfolding branchesFrom EachBranchRowOnce
+branches-once s w r f u e zero a o h = absurd (omega arith)
+branches-once s w r f u e (suc zero) a o h = (
   below-top s a x (f x) (b .0 .child) ux,
   below-top s a y (f y) (b .1 .child) uy,
   apart-children s w a x y (f x) (f y) (k .child .exists) (b .0 .child) (b .1 .child) (b .2) ux uy,
@@ -405,7 +400,7 @@ branches-once s w r f u e (suc zero) a h = (
 
     uy : Up s y (f y)
     uy = u y (let l = k .child .later in let z = b .1 .child .later in omega arith) (b .1 .child .exists)
-branches-once s w r f u e (suc (suc n)) a h = (
+branches-once s w r f u e (suc (suc n)) a o h = (
   below-top s a x (f x) (b .0 .child) ux,
   below-top s a y (f y) (b .1 .child) uy,
   apart-children s w a x y (f x) (f y) (k .child .exists) (b .0 .child) (b .1 .child) (b .2) ux uy,
@@ -414,7 +409,7 @@ branches-once s w r f u e (suc (suc n)) a h = (
   (λ t. let z = um a t .0 in omega arith),
   (λ i p q. apart-branches s w r a x (f x) M (k .child .later) (k .child .exists) (b .0 .child) ux um i i (omega arith) p q),
   (λ i p q. apart-branches s w r a y (f y) M (k .child .later) (k .child .exists) (b .1 .child) uy um i i (omega arith) p q),
-  branches-once s w r f u e (suc n) (suc a) hs,
+  branches-once s w r f u e (suc n) (suc a) (omega arith) hs,
 )
   where
     x : ℕ
@@ -435,10 +430,10 @@ branches-once s w r f u e (suc (suc n)) a h = (
     uy : Up s y (f y)
     uy = u y (let l = k .child .later in let z = b .1 .child .later in omega arith) (b .1 .child .exists)
 
-    hs : Branches s r (suc a) (suc n)
+    hs : BranchesKept s r (suc a) (suc n)
     hs j p q = h j (omega arith) (omega arith)
 
-    M : Behaviour
+    M : Branches
     M = branchesFrom s f (suc a) (suc n)
 
     um : UpToChoice s r (suc a) M
@@ -482,7 +477,7 @@ row-once s w r at l f u e BehaviourKind.Assign h = tt
 row-once s w r at l f u e BehaviourKind.Choice h = (
   (λ t. let o = h .0 in let z = branches-up s w r f u (fieldB s at) (fieldA s at) (h .0) (h .2) r t .0 in let y = h .2 (fieldA s at)
       (omega arith) (omega arith) .child .later in omega arith),
-  branches-once s w r f u e (fieldB s at) (fieldA s at) (h .2),
+  branches-once s w r f u e (fieldB s at) (fieldA s at) (h .0) (h .2),
 )
 row-once s w r at l f u e BehaviourKind.Branch h = tt
 row-once s w r at l f u e BehaviourKind.Unknown h = tt

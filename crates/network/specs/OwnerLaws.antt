@@ -9,7 +9,7 @@ use native.Mathlib.Omega.{arith}
 use lib.Dec.{T, eqb, leb, ltb, eqb→eq, eqb-refl}
 use Rattle.forest.specs.Compare.{Compare, lt, eq, gt, compare, not-T-false}
 use Rattle.scalar.specs.Value.{pick}
-use Rattle.syntax.specs.Syntax.{Behaviour, nil, Optional, none, some}
+use Rattle.syntax.specs.Syntax.{Behaviour, Branches, Optional, none, some}
 use Rattle.network.specs.declared.BehaviourKind.{BehaviourKind}
 use Rattle.network.specs.Least.{sumOver}
 use Rattle.network.specs.Layout.{behaviourCount, serviceCount, behaviourAt}
@@ -18,13 +18,14 @@ use Rattle.network.specs.Rows.{inRun, fieldA, fieldB, fieldC, fieldD, ki
 use Rattle.network.specs.Uses.{fieldUses, one, usesBy, rowUses, serviceUses, usedByRows, used, usesRow}
 use Rattle.network.specs.Form.{WellFormed}
 use Rattle.network.specs.Decode.{branchesFrom, behaviourFrom, behaviourTo, behaviourOf, serviceOf}
-use Rattle.syntax.specs.Rows.{hasRow}
+use Rattle.syntax.specs.Rows.{hasRow, hasRowIn}
+use Rattle.syntax.specs.ViewLaws.{own-row}
 use Rattle.network.specs.Shapes.{Role, asStarter, asClient, behaviourIn}
 use Rattle.network.specs.LeastLaws.{rule-kept}
 use Rattle.network.specs.TestLaws.{le-of, lt-of, eq-of, and-of, ne-of, clash}
 use Rattle.network.specs.RowLaws.{unbroken, counts-kept}
-use Rattle.network.specs.UseLaws.{Uses, Child, SubKept, InputKept, BranchKept, RowKept, behaviour-kept, branch-kept}
-use Rattle.network.specs.BehaviourLaws.{Branches, Later}
+use Rattle.network.specs.UseLaws.{Uses, Child, SubKept, InputKept, BranchKept, RowKept, behaviour-kept, branch-kept, branch-kind}
+use Rattle.network.specs.BehaviourLaws.{BranchesKept, Later, row-to}
 use Rattle.network.specs.OnceLaws.{or-left, or-right, or-case}
 use Rattle.network.specs.NetworkLaws.{topRow, TopKept, Top, top-of}
 
@@ -124,30 +125,12 @@ later-by s r at t BehaviourKind.Unknown h e = absurd h
 abbrev Closed : List ℕ → ℕ → ℕ → Behaviour → Type 0
 Closed s r t X = T (hasRow r X) → T (hasRow t X)
 
-top-by : (s : List ℕ) (f : ℕ → Behaviour) (r at : ℕ) (k : BehaviourKind) → T (hasRow r (behaviourFrom s f r at k))
-unfolding behaviourFrom hasRow
-top-by s f r at BehaviourKind.Nil = eqb-refl r
-top-by s f r at BehaviourKind.OneWay = eqb-refl r
-top-by s f r at BehaviourKind.RequestResponse = or-left (eqb r r) (hasRow r (f (fieldD s at))) (eqb-refl r)
-top-by s f r at BehaviourKind.Notification = eqb-refl r
-top-by s f r at BehaviourKind.SolicitResponse = eqb-refl r
-top-by s f r at BehaviourKind.If = or-left (eqb r r) (hasRow r (f (fieldB s at)) || hasRow r (f (fieldC s at))) (eqb-refl r)
-top-by s f r at BehaviourKind.While = or-left (eqb r r) (hasRow r (f (fieldB s at))) (eqb-refl r)
-top-by s f r at BehaviourKind.Sequence = or-left (eqb r r) (hasRow r (f (fieldA s at)) || hasRow r (f (fieldB s at))) (eqb-refl r)
-top-by s f r at BehaviourKind.Parallel = or-left (eqb r r) (hasRow r (f (fieldA s at)) || hasRow r (f (fieldB s at))) (eqb-refl r)
-top-by s f r at BehaviourKind.Assign = eqb-refl r
-top-by s f r at BehaviourKind.Choice = or-left (eqb r r) (hasRow r (branchesFrom s f (fieldA s at) (fieldB s at))) (eqb-refl r)
-top-by s f r at BehaviourKind.Branch = eqb-refl r
-top-by s f r at BehaviourKind.Unknown = eqb-refl r
-
 top-to : (s : List ℕ) (d r : ℕ) → T (hasRow r (behaviourTo s d r))
-unfolding behaviourTo hasRow
-top-to s zero r = eqb-refl r
-top-to s (suc d) r = top-by s (behaviourTo s d) r (behaviourAt s r) (kindAt s r)
+top-to s d r = subst (λ (i : ℕ). T (hasRow i (behaviourTo s d r))) (row-to s d r) (own-row (behaviourTo s d r))
 
 -- Every row of a choice's run is a branch of it.
-run-in : (s : List ℕ) (f : ℕ → Behaviour) (t n a : ℕ) → a ≤ t → t < a + n → T (hasRow t (branchesFrom s f a n))
-unfolding branchesFrom hasRow
+run-in : (s : List ℕ) (f : ℕ → Behaviour) (t n a : ℕ) → a ≤ t → t < a + n → T (hasRowIn t (branchesFrom s f a n))
+unfolding branchesFrom hasRowIn
 run-in s f t zero a x y = absurd (omega arith)
 run-in s f t (suc zero) a x y = or-left (eqb t a) _ (subst (λ (z : ℕ). T (eqb t z)) (omega arith) (eqb-refl t))
 run-in s f t (suc (suc n)) a x y = go (compare t a) (λ z. run-in s f t (suc n) (suc a) z (omega arith))
@@ -158,32 +141,24 @@ run-in s f t (suc (suc n)) a x y = go (compare t a) (λ z. run-in s f t (suc n) 
     Y : Behaviour
     Y = f (fieldB s (behaviourAt s a))
 
-    M : Behaviour
+    M : Branches
     M = branchesFrom s f (suc a) (suc n)
 
-    go : Compare t a → (suc a ≤ t → T (hasRow t M)) → T (eqb t a || ((hasRow t X || hasRow t Y) || hasRow t M))
+    go : Compare t a → (suc a ≤ t → T (hasRowIn t M)) → T (eqb t a || ((hasRow t X || hasRow t Y) || hasRowIn t M))
     go (lt h) ih = absurd (omega arith)
-    go (eq h) ih = or-left (eqb t a) ((hasRow t X || hasRow t Y) || hasRow t M) (subst (λ (z : ℕ). T (eqb t z)) h (eqb-refl t))
-    go (gt h) ih = or-right (eqb t a) ((hasRow t X || hasRow t Y) || hasRow t M)
-        (or-right (hasRow t X || hasRow t Y) (hasRow t M) (ih (omega arith)))
+    go (eq h) ih = or-left (eqb t a) ((hasRow t X || hasRow t Y) || hasRowIn t M) (subst (λ (z : ℕ). T (eqb t z)) h (eqb-refl t))
+    go (gt h) ih = or-right (eqb t a) ((hasRow t X || hasRow t Y) || hasRowIn t M)
+        (or-right (hasRow t X || hasRow t Y) (hasRowIn t M) (ih (omega arith)))
 
 moved : (f : ℕ → Behaviour) (x t : ℕ) → x ≡ t → T (hasRow x (f x)) → T (hasRow t (f x))
 moved f x t e h = subst (λ (z : ℕ). T (hasRow z (f x))) e h
 
 no-branch : (k : BehaviourKind) → isInput k ≡ true → isBranch k ≡ false
-no-branch BehaviourKind.Nil e = refl
-no-branch BehaviourKind.OneWay e = refl
-no-branch BehaviourKind.RequestResponse e = refl
-no-branch BehaviourKind.Notification e = refl
-no-branch BehaviourKind.SolicitResponse e = refl
-no-branch BehaviourKind.If e = refl
-no-branch BehaviourKind.While e = refl
-no-branch BehaviourKind.Sequence e = refl
-no-branch BehaviourKind.Parallel e = refl
-no-branch BehaviourKind.Assign e = refl
-no-branch BehaviourKind.Choice e = refl
-no-branch BehaviourKind.Branch e = let z : _≡_ {A = ℕ} 0 1 = cc in absurd (omega arith)
-no-branch BehaviourKind.Unknown e = refl
+no-branch k e = go (isBranch k) refl
+  where
+    go : (t : Bool) → isBranch k ≡ t → t ≡ false
+    go true f = absurd (clash e (ap isInput (branch-kind k f)))
+    go false f = refl
 
 -- Two parts, from the rows x and y, which row a uses.
 pair-closed : (s : List ℕ) (a r t x y : ℕ) (f : ℕ → Behaviour) → T (hasRow x (f x)) → T (hasRow y (f y)) → (r ≡ a → (x ≡ t) ⊎ (y ≡ t))
@@ -200,8 +175,9 @@ pair-closed s a r t x y f tx ty u cx cy h =
     h
 
 branches-closed : (s : List ℕ) → WellFormed s → (p r t : ℕ) (f : ℕ → Behaviour) → Uses s r t → ((j : ℕ) → T (hasRow j (f j)))
-    → Later s p (λ j. isBranch (kindAt s j) ≡ false → Closed s r t (f j)) → (n a : ℕ) → 1 ≤ n → Branches s p a n → Closed s r t (branchesFrom s f a n)
-unfolding branchesFrom hasRow
+    → Later s p (λ j. isBranch (kindAt s j) ≡ false → Closed s r t (f j)) → (n a : ℕ) → 1 ≤ n → BranchesKept s p a n
+    → T (hasRowIn r (branchesFrom s f a n)) → T (hasRowIn t (branchesFrom s f a n))
+unfolding branchesFrom hasRowIn
 branches-closed s w p r t f u tops ih zero a o h z = absurd (omega arith)
 branches-closed s w p r t f u tops ih (suc zero) a o h z =
     let k = h a (omega arith) (omega arith) in
@@ -215,12 +191,12 @@ branches-closed s w p r t f u tops ih (suc zero) a o h z =
     (ih x (let m = b .0 .child .later in omega arith) (b .0 .child .exists) (no-branch (kindAt s x) (b .0 .kind)))
     (ih y (let m = b .1 .child .later in omega arith) (b .1 .child .exists) (b .1 .kind)) z)
 branches-closed s w p r t f u tops ih (suc (suc n)) a o h z =
-    or-right (eqb t a) ((hasRow t (f x) || hasRow t (f y)) || hasRow t M)
-    (or-case (eqb r a) ((hasRow r (f x) || hasRow r (f y)) || hasRow r M)
+    or-right (eqb t a) ((hasRow t (f x) || hasRow t (f y)) || hasRowIn t M)
+    (or-case (eqb r a) ((hasRow r (f x) || hasRow r (f y)) || hasRowIn r M)
     (λ e. this (or-left (eqb r a) (hasRow r (f x) || hasRow r (f y)) e))
-    (λ e. or-case (hasRow r (f x) || hasRow r (f y)) (hasRow r M)
+    (λ e. or-case (hasRow r (f x) || hasRow r (f y)) (hasRowIn r M)
     (λ v. this (or-right (eqb r a) (hasRow r (f x) || hasRow r (f y)) v))
-    (λ v. or-right (hasRow t (f x) || hasRow t (f y)) (hasRow t M)
+    (λ v. or-right (hasRow t (f x) || hasRow t (f y)) (hasRowIn t M)
     (branches-closed s w p r t f u tops ih (suc n) (suc a) (omega arith) (λ j c d. h j (omega arith) (omega arith)) v)) e)
     z)
   where
@@ -230,7 +206,7 @@ branches-closed s w p r t f u tops ih (suc (suc n)) a o h z =
     y : ℕ
     y = fieldB s (behaviourAt s a)
 
-    M : Behaviour
+    M : Branches
     M = branchesFrom s f (suc a) (suc n)
 
     k : BranchKept s p a
@@ -239,9 +215,9 @@ branches-closed s w p r t f u tops ih (suc (suc n)) a o h z =
     b : RowKept s a (behaviourAt s a) BehaviourKind.Branch
     b = branch-kept s w p a k
 
-    this : T (eqb r a || (hasRow r (f x) || hasRow r (f y))) → T ((hasRow t (f x) || hasRow t (f y)) || hasRow t M)
+    this : T (eqb r a || (hasRow r (f x) || hasRow r (f y))) → T ((hasRow t (f x) || hasRow t (f y)) || hasRowIn t M)
     this v =
-        or-left (hasRow t (f x) || hasRow t (f y)) (hasRow t M)
+        or-left (hasRow t (f x) || hasRow t (f y)) (hasRowIn t M)
         (pair-closed s a r t x y f (tops x) (tops y)
         (λ e. branch-used-by s p a t k (subst (λ (q : ℕ). Uses s q t) e u))
         (ih x (let l = k .child .later in let m = b .0 .child .later in omega arith) (b .0 .child .exists) (no-branch (kindAt s x) (b .0 .kind)))
@@ -283,8 +259,8 @@ row-closed s w a at r t f u tops ih BehaviourKind.Parallel h nb own z =
     (ih (fieldB s at) (h .1 .child .later) (h .1 .child .exists) (h .1 .kind)) z)
 row-closed s w a at r t f u tops ih BehaviourKind.Assign h nb own z = absurd (own (eqb→eq r a z))
 row-closed s w a at r t f u tops ih BehaviourKind.Choice h nb own z =
-    or-right (eqb t a) (hasRow t (branchesFrom s f (fieldA s at) (fieldB s at)))
-    (or-case (eqb r a) (hasRow r (branchesFrom s f (fieldA s at) (fieldB s at)))
+    or-right (eqb t a) (hasRowIn t (branchesFrom s f (fieldA s at) (fieldB s at)))
+    (or-case (eqb r a) (hasRowIn r (branchesFrom s f (fieldA s at) (fieldB s at)))
     (λ e. let o = own (eqb→eq r a e) in run-in s f t (fieldB s at) (fieldA s at) (o .0) (o .1))
     (λ e. branches-closed s w a r t f u tops ih (fieldB s at) (fieldA s at) (h .0) (h .2) e) z)
 row-closed s w a at r t f u tops ih BehaviourKind.Branch h nb own z = let q : _≡_ {A = ℕ} 0 1 = cc in absurd (omega arith)

@@ -12,9 +12,9 @@ use Rattle.scalar.specs.Basic.{lastBasic}
 use Rattle.scalar.specs.Value.{Value, value, isValue, basicOf, bytesOf}
 use Rattle.syntax.specs.Syntax.{Mark, mark, mandatory, basic, Types, MessageType, Unary, Binary, Expression, constant, valueAt, presence, unary}
 use Rattle.syntax.specs.Syntax.{binary, Direction, input, output, Operation, Behaviour, nil, oneWay, requestResponse, notification, solicitResponse}
-use Rattle.syntax.specs.Syntax.{ifThenElse, whileDo, sequence, parallel, assign, choice, branch, lastBranch, waiting, answering, Optional, none, some}
-use Rattle.syntax.specs.Syntax.{Service, Network}
-use Rattle.syntax.specs.Rows.{hasRow, entry}
+use Rattle.syntax.specs.Syntax.{ifThenElse, whileDo, sequence, parallel, assign, choice, waiting, answering, Branches, lastBranch, branch}
+use Rattle.syntax.specs.Syntax.{Optional, none, some, Service, Network}
+use Rattle.syntax.specs.Rows.{hasRow, hasRowIn, isThere, inputOf, choiceOf, entry}
 use Rattle.network.specs.Sizes.{typeLevels, typeNodes, expressionLevels}
 
 unfoldable pub AllPositive : List ℕ → Type 0
@@ -87,138 +87,117 @@ pub record OperationShape (o : Operation) : Type 0 where
   pub named : 0 < o .id
   pub located : LocationShape (o .direction) (o .location)
 
--- B: the operations, paths and expressions of every row of a behaviour.
-unfoldable pub BehaviourShape : Behaviour → Type 0
-BehaviourShape (nil r) = Unit {0}
-BehaviourShape (oneWay r o x) = OperationShape o × PathShape x
-BehaviourShape (requestResponse r o x y d) = OperationShape o × PathShape x × PathShape y × BehaviourShape d
-BehaviourShape (notification r o e) = OperationShape o × ExpressionShape e
-BehaviourShape (solicitResponse r o e x) = OperationShape o × ExpressionShape e × PathShape x
-BehaviourShape (ifThenElse r e a b) = ExpressionShape e × BehaviourShape a × BehaviourShape b
-BehaviourShape (whileDo r e b) = ExpressionShape e × BehaviourShape b
-BehaviourShape (sequence r a b) = BehaviourShape a × BehaviourShape b
-BehaviourShape (parallel r a b) = BehaviourShape a × BehaviourShape b
-BehaviourShape (assign r x e) = PathShape x × ExpressionShape e
-BehaviourShape (choice r m) = BehaviourShape m
-BehaviourShape (branch r a b m) = BehaviourShape a × BehaviourShape b × BehaviourShape m
-BehaviourShape (lastBranch r a b) = BehaviourShape a × BehaviourShape b
-BehaviourShape (waiting r o x) = OperationShape o × PathShape x
-BehaviourShape (answering r o y d) = OperationShape o × PathShape y × BehaviourShape d
+unfoldable mutual
+  -- B: the operations, paths and expressions of every row of a behaviour.
+  pub BehaviourShape : Behaviour → Type 0
+  BehaviourShape (nil r) = Unit {0}
+  BehaviourShape (oneWay r o x) = OperationShape o × PathShape x
+  BehaviourShape (requestResponse r o x y d) = OperationShape o × PathShape x × PathShape y × BehaviourShape d
+  BehaviourShape (notification r o e) = OperationShape o × ExpressionShape e
+  BehaviourShape (solicitResponse r o e x) = OperationShape o × ExpressionShape e × PathShape x
+  BehaviourShape (ifThenElse r e a b) = ExpressionShape e × BehaviourShape a × BehaviourShape b
+  BehaviourShape (whileDo r e b) = ExpressionShape e × BehaviourShape b
+  BehaviourShape (sequence r a b) = BehaviourShape a × BehaviourShape b
+  BehaviourShape (parallel r a b) = BehaviourShape a × BehaviourShape b
+  BehaviourShape (assign r x e) = PathShape x × ExpressionShape e
+  BehaviourShape (choice r m) = BranchesShape m
+  BehaviourShape (waiting r o x) = OperationShape o × PathShape x
+  BehaviourShape (answering r o y d) = OperationShape o × PathShape y × BehaviourShape d
 
+  pub BranchesShape : Branches → Type 0
+  BranchesShape (lastBranch r a b) = BehaviourShape a × BehaviourShape b
+  BranchesShape (branch r a b m) = BehaviourShape a × BehaviourShape b × BranchesShape m
+
+-- The row is none of the behaviour's; none of the branches'.
 abbrev pub Outside : ℕ → Behaviour → Type 0
 Outside r b = T (hasRow r b) → ⊥
+
+abbrev pub OutsideBranches : ℕ → Branches → Type 0
+OutsideBranches r m = T (hasRowIn r m) → ⊥
 
 -- No row stands in both.
 abbrev pub Apart : Behaviour → Behaviour → Type 0
 Apart a b = (i : ℕ) → T (hasRow i a) → T (hasRow i b) → ⊥
 
--- B: "Each row is used exactly once": no row stands in a behaviour at two places.
-unfoldable pub EachRowOnce : Behaviour → Type 0
-EachRowOnce (nil r) = Unit {0}
-EachRowOnce (oneWay r o x) = Unit {0}
-EachRowOnce (requestResponse r o x y d) = Outside r d × EachRowOnce d
-EachRowOnce (notification r o e) = Unit {0}
-EachRowOnce (solicitResponse r o e x) = Unit {0}
-EachRowOnce (ifThenElse r e a b) = Outside r a × Outside r b × Apart a b × EachRowOnce a × EachRowOnce b
-EachRowOnce (whileDo r e b) = Outside r b × EachRowOnce b
-EachRowOnce (sequence r a b) = Outside r a × Outside r b × Apart a b × EachRowOnce a × EachRowOnce b
-EachRowOnce (parallel r a b) = Outside r a × Outside r b × Apart a b × EachRowOnce a × EachRowOnce b
-EachRowOnce (assign r x e) = Unit {0}
-EachRowOnce (choice r m) = Outside r m × EachRowOnce m
-EachRowOnce (branch r a b m) =
-    Outside r a × Outside r b × Apart a b × EachRowOnce a × EachRowOnce b × Outside r m × Apart a m × Apart b m × EachRowOnce m
-EachRowOnce (lastBranch r a b) = Outside r a × Outside r b × Apart a b × EachRowOnce a × EachRowOnce b
-EachRowOnce (waiting r o x) = Unit {0}
-EachRowOnce (answering r o y d) = Outside r d × EachRowOnce d
+abbrev pub ApartBranches : Behaviour → Branches → Type 0
+ApartBranches a m = (i : ℕ) → T (hasRow i a) → T (hasRowIn i m) → ⊥
 
--- Where a behaviour stands: alone, or as the branches of a choice.
-pub data Standing : Type 0 where
-  alone inChoice : Standing
+unfoldable mutual
+  -- B: "Each row is used exactly once": no row stands in a behaviour at two places.
+  pub EachRowOnce : Behaviour → Type 0
+  EachRowOnce (nil r) = Unit {0}
+  EachRowOnce (oneWay r o x) = Unit {0}
+  EachRowOnce (requestResponse r o x y d) = Outside r d × EachRowOnce d
+  EachRowOnce (notification r o e) = Unit {0}
+  EachRowOnce (solicitResponse r o e x) = Unit {0}
+  EachRowOnce (ifThenElse r e a b) = Outside r a × Outside r b × Apart a b × EachRowOnce a × EachRowOnce b
+  EachRowOnce (whileDo r e b) = Outside r b × EachRowOnce b
+  EachRowOnce (sequence r a b) = Outside r a × Outside r b × Apart a b × EachRowOnce a × EachRowOnce b
+  EachRowOnce (parallel r a b) = Outside r a × Outside r b × Apart a b × EachRowOnce a × EachRowOnce b
+  EachRowOnce (assign r x e) = Unit {0}
+  EachRowOnce (choice r m) = OutsideBranches r m × EachBranchRowOnce m
+  EachRowOnce (waiting r o x) = Unit {0}
+  EachRowOnce (answering r o y d) = Outside r d × EachRowOnce d
 
-abbrev pub onlyAlone : Standing → Type 0 → Type 0
-onlyAlone alone X = X
-onlyAlone inChoice X = ⊥
-
-abbrev pub onlyInChoice : Standing → Type 0 → Type 0
-onlyInChoice alone X = ⊥
-onlyInChoice inChoice X = X
+  pub EachBranchRowOnce : Branches → Type 0
+  EachBranchRowOnce (lastBranch r a b) = Outside r a × Outside r b × Apart a b × EachRowOnce a × EachRowOnce b
+  EachBranchRowOnce (branch r a b m) =
+      Outside r a × Outside r b × Apart a b × EachRowOnce a × EachRowOnce b × OutsideBranches r m × ApartBranches a m × ApartBranches b m
+      × EachBranchRowOnce m
 
 -- Is it a one-way or a request-response? "branch (input row a, of kind 1 or 2, ..)".
 abbrev pub isInputBehaviour : Behaviour → Bool
-isInputBehaviour (nil r) = false
-isInputBehaviour (oneWay r o x) = true
-isInputBehaviour (requestResponse r o x y d) = true
-isInputBehaviour (notification r o e) = false
-isInputBehaviour (solicitResponse r o e x) = false
-isInputBehaviour (ifThenElse r e a b) = false
-isInputBehaviour (whileDo r e b) = false
-isInputBehaviour (sequence r a b) = false
-isInputBehaviour (parallel r a b) = false
-isInputBehaviour (assign r x e) = false
-isInputBehaviour (choice r m) = false
-isInputBehaviour (branch r a b m) = false
-isInputBehaviour (lastBranch r a b) = false
-isInputBehaviour (waiting r o x) = false
-isInputBehaviour (answering r o y d) = false
+isInputBehaviour b = isThere (inputOf b)
 
 abbrev pub isChoiceBehaviour : Behaviour → Bool
-isChoiceBehaviour (nil r) = false
-isChoiceBehaviour (oneWay r o x) = false
-isChoiceBehaviour (requestResponse r o x y d) = false
-isChoiceBehaviour (notification r o e) = false
-isChoiceBehaviour (solicitResponse r o e x) = false
-isChoiceBehaviour (ifThenElse r e a b) = false
-isChoiceBehaviour (whileDo r e b) = false
-isChoiceBehaviour (sequence r a b) = false
-isChoiceBehaviour (parallel r a b) = false
-isChoiceBehaviour (assign r x e) = false
-isChoiceBehaviour (choice r m) = true
-isChoiceBehaviour (branch r a b m) = false
-isChoiceBehaviour (lastBranch r a b) = false
-isChoiceBehaviour (waiting r o x) = false
-isChoiceBehaviour (answering r o y d) = false
+isChoiceBehaviour b = isThere (choiceOf b)
 
--- A behaviour as a file has it: branches stand in choices and nowhere else, a choice holds nothing but branches, a branch
--- begins with an input, and nothing waits or answers yet.
-unfoldable pub AsInFile : Standing → Behaviour → Type 0
-AsInFile p (nil r) = onlyAlone p (Unit {0})
-AsInFile p (oneWay r o x) = onlyAlone p (Unit {0})
-AsInFile p (requestResponse r o x y d) = onlyAlone p (AsInFile alone d)
-AsInFile p (notification r o e) = onlyAlone p (Unit {0})
-AsInFile p (solicitResponse r o e x) = onlyAlone p (Unit {0})
-AsInFile p (ifThenElse r e a b) = onlyAlone p (AsInFile alone a × AsInFile alone b)
-AsInFile p (whileDo r e b) = onlyAlone p (AsInFile alone b)
-AsInFile p (sequence r a b) = onlyAlone p (AsInFile alone a × AsInFile alone b)
-AsInFile p (parallel r a b) = onlyAlone p (AsInFile alone a × AsInFile alone b)
-AsInFile p (assign r x e) = onlyAlone p (Unit {0})
-AsInFile p (choice r m) = onlyAlone p (AsInFile inChoice m)
-AsInFile p (branch r a b m) = onlyInChoice p (T (isInputBehaviour a) × AsInFile alone a × AsInFile alone b × AsInFile inChoice m)
-AsInFile p (lastBranch r a b) = onlyInChoice p (T (isInputBehaviour a) × AsInFile alone a × AsInFile alone b)
-AsInFile p (waiting r o x) = ⊥
-AsInFile p (answering r o y d) = ⊥
+unfoldable mutual
+  -- A behaviour as a file has it: a branch begins with an input, and nothing waits or answers yet.
+  pub AsInFile : Behaviour → Type 0
+  AsInFile (nil r) = Unit {0}
+  AsInFile (oneWay r o x) = Unit {0}
+  AsInFile (requestResponse r o x y d) = AsInFile d
+  AsInFile (notification r o e) = Unit {0}
+  AsInFile (solicitResponse r o e x) = Unit {0}
+  AsInFile (ifThenElse r e a b) = AsInFile a × AsInFile b
+  AsInFile (whileDo r e b) = AsInFile b
+  AsInFile (sequence r a b) = AsInFile a × AsInFile b
+  AsInFile (parallel r a b) = AsInFile a × AsInFile b
+  AsInFile (assign r x e) = Unit {0}
+  AsInFile (choice r m) = BranchesInFile m
+  AsInFile (waiting r o x) = ⊥
+  AsInFile (answering r o y d) = ⊥
 
--- Every row that has an operation has the one that f gives for it.
-unfoldable pub OperationsBy : (ℕ → Operation) → Behaviour → Type 0
-OperationsBy f (nil r) = Unit {0}
-OperationsBy f (oneWay r o x) = o ≡ f r
-OperationsBy f (requestResponse r o x y d) = (o ≡ f r) × OperationsBy f d
-OperationsBy f (notification r o e) = o ≡ f r
-OperationsBy f (solicitResponse r o e x) = o ≡ f r
-OperationsBy f (ifThenElse r e a b) = OperationsBy f a × OperationsBy f b
-OperationsBy f (whileDo r e b) = OperationsBy f b
-OperationsBy f (sequence r a b) = OperationsBy f a × OperationsBy f b
-OperationsBy f (parallel r a b) = OperationsBy f a × OperationsBy f b
-OperationsBy f (assign r x e) = Unit {0}
-OperationsBy f (choice r m) = OperationsBy f m
-OperationsBy f (branch r a b m) = OperationsBy f a × OperationsBy f b × OperationsBy f m
-OperationsBy f (lastBranch r a b) = OperationsBy f a × OperationsBy f b
-OperationsBy f (waiting r o x) = o ≡ f r
-OperationsBy f (answering r o y d) = (o ≡ f r) × OperationsBy f d
+  pub BranchesInFile : Branches → Type 0
+  BranchesInFile (lastBranch r a b) = T (isInputBehaviour a) × AsInFile a × AsInFile b
+  BranchesInFile (branch r a b m) = T (isInputBehaviour a) × AsInFile a × AsInFile b × BranchesInFile m
+
+unfoldable mutual
+  -- Every row that has an operation has the one that f gives for it.
+  pub OperationsBy : (ℕ → Operation) → Behaviour → Type 0
+  OperationsBy f (nil r) = Unit {0}
+  OperationsBy f (oneWay r o x) = o ≡ f r
+  OperationsBy f (requestResponse r o x y d) = (o ≡ f r) × OperationsBy f d
+  OperationsBy f (notification r o e) = o ≡ f r
+  OperationsBy f (solicitResponse r o e x) = o ≡ f r
+  OperationsBy f (ifThenElse r e a b) = OperationsBy f a × OperationsBy f b
+  OperationsBy f (whileDo r e b) = OperationsBy f b
+  OperationsBy f (sequence r a b) = OperationsBy f a × OperationsBy f b
+  OperationsBy f (parallel r a b) = OperationsBy f a × OperationsBy f b
+  OperationsBy f (assign r x e) = Unit {0}
+  OperationsBy f (choice r m) = BranchOperationsBy f m
+  OperationsBy f (waiting r o x) = o ≡ f r
+  OperationsBy f (answering r o y d) = (o ≡ f r) × OperationsBy f d
+
+  pub BranchOperationsBy : (ℕ → Operation) → Branches → Type 0
+  BranchOperationsBy f (lastBranch r a b) = OperationsBy f a × OperationsBy f b
+  BranchOperationsBy f (branch r a b m) = OperationsBy f a × OperationsBy f b × BranchOperationsBy f m
 
 -- A starter or client of a file whose B rows name the operations that f gives.
 pub record FileBehaviour (f : ℕ → Operation) (b : Behaviour) : Type 0 where
   pub once : EachRowOnce b
-  pub inFile : AsInFile alone b
+  pub inFile : AsInFile b
   pub parts : BehaviourShape b
   pub operations : OperationsBy f b
 

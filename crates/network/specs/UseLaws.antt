@@ -151,7 +151,7 @@ known-behaviour (suc (suc (suc (suc (suc (suc (suc (suc (suc (suc zero))))))))))
 known-behaviour (suc (suc (suc (suc (suc (suc (suc (suc (suc (suc (suc zero))))))))))) l e = let z : _≡_ {A = ℕ} 0 1 = cc in omega arith
 known-behaviour (suc (suc (suc (suc (suc (suc (suc (suc (suc (suc (suc (suc n)))))))))))) l e = omega arith
 
-branch-kind : (k : BehaviourKind) → isBranch k ≡ true → k ≡ BehaviourKind.Branch
+pub branch-kind : (k : BehaviourKind) → isBranch k ≡ true → k ≡ BehaviourKind.Branch
 branch-kind BehaviourKind.Nil e = let z : _≡_ {A = ℕ} 0 1 = cc in absurd (omega arith)
 branch-kind BehaviourKind.OneWay e = let z : _≡_ {A = ℕ} 0 1 = cc in absurd (omega arith)
 branch-kind BehaviourKind.RequestResponse e = let z : _≡_ {A = ℕ} 0 1 = cc in absurd (omega arith)

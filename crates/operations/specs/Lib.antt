@@ -1,2 +1,4 @@
 pub mod Directions
 pub mod PermitsLaws
+pub mod Meeting
+pub mod MeetingLaws

@@ -1,9 +1,20 @@
-// Refusal 6: "The operation has another service, direction or kind", for an operation given by its O row. Exact on any bytes.
+// Operations, given by their O rows. Refusal 6: "The operation has another service, direction or kind". 01, Typing: "An output to a location
+// in the file meets an input there of the same id and kind". Exact on any bytes.
 ghost use mathlib.Core.Path.{_≡_};
-ghost use Rattle.network.specs.Decode.{operationOf};
+ghost use Prim.Native.Nat.{_+_, _≤_};
+ghost use Rattle.network.specs.Decode.{operationOf, serviceOf, rowsFrom, networkOf};
+ghost use Rattle.syntax.specs.Meets.{locationOf, someAt, inFile, meets, firstOf, metInput};
+ghost use Rattle.syntax.specs.Rows.{entry};
 ghost use Rattle.typing.specs.Rules.{sameBool, permits};
 ghost use Rattle.operations.specs.Directions.{directionOf};
+ghost use Rattle.operations.specs.Meeting.{operationMet};
 use layout::both;
+
+// The O row of the input met, or none.
+pub enum Met {
+    Input(u16),
+    Nothing,
+}
 
 fn same(a: bool, b: bool) -> bool
     ensures { λ x. ⌜ x ≡ sameBool a b ⌝ }
@@ -22,4 +33,74 @@ pub fn permits(file: &[u8], q: u16, input: bool, twoway: bool, o: u16) -> bool
     let way = same(rows::operation_direction(file, o) == 0, input);
     let kind = same(rows::operation_two_way(file, o) == 1, twoway);
     both(service, both(way, kind))
+}
+
+// Is one of the n services from row q on at the location?
+fn located_from(file: &[u8], location: u16, q: u16, n: u16) -> bool
+    requires { ⌜ q + n ≤ 65535 ⌝ }
+    ensures { λ x. ⌜ x ≡ someAt (rowsFrom (serviceOf (now (file .entry))) q n) location ⌝ }
+{
+    if n == 0 {
+        return false;
+    }
+    if rows::service_location(file, q) == location {
+        return true;
+    }
+    located_from(file, location, q + 1, n - 1)
+}
+
+// Is it "a location in the file"?
+pub fn in_file(file: &[u8], location: u16) -> bool
+    ensures { λ x. ⌜ x ≡ inFile (networkOf (now (file .entry))) location ⌝ }
+{
+    located_from(file, location, 0, layout::service_count(file))
+}
+
+// The location of service q; 0 where there is none.
+fn location_of(file: &[u8], q: u16) -> u16
+    ensures { λ x. ⌜ x ≡ locationOf (entry q (networkOf (now (file .entry)) .services)) ⌝ }
+{
+    if layout::service_count(file) <= q {
+        return 0;
+    }
+    rows::service_location(file, q)
+}
+
+// Is O row i "an input there of the same id and kind" for the output of O row o?
+fn meets(file: &[u8], o: u16, i: u16) -> bool
+    ensures { λ x. ⌜ x ≡ meets (networkOf (now (file .entry))) (operationOf (now (file .entry)) o) (operationOf (now (file .entry)) i) ⌝ }
+{
+    let place = location_of(file, wire::byte_to_u16(rows::operation_service(file, i)));
+    let input = both(
+        rows::operation_direction(file, i) == 0,
+        place == rows::operation_location(file, o),
+    );
+    let name = rows::operation_id(file, i) == rows::operation_id(file, o);
+    let kind = same(
+        rows::operation_two_way(file, i) == 1,
+        rows::operation_two_way(file, o) == 1,
+    );
+    both(input, both(name, kind))
+}
+
+// The first of the n operations from row i on that the output of O row o meets.
+fn met_from(file: &[u8], o: u16, i: u16, n: u16) -> Met
+    requires { ⌜ i + n ≤ 65535 ⌝ }
+    ensures { λ x. ⌜ operationMet (now (file .entry)) x ≡
+        firstOf (meets (networkOf (now (file .entry))) (operationOf (now (file .entry)) o)) (rowsFrom (operationOf (now (file .entry))) i n) ⌝ }
+{
+    if n == 0 {
+        return Met::Nothing;
+    }
+    if meets(file, o, i) {
+        return Met::Input(i);
+    }
+    met_from(file, o, i + 1, n - 1)
+}
+
+// The input that the output of O row o meets.
+pub fn met_input(file: &[u8], o: u16) -> Met
+    ensures { λ x. ⌜ operationMet (now (file .entry)) x ≡ metInput (networkOf (now (file .entry))) (operationOf (now (file .entry)) o) ⌝ }
+{
+    met_from(file, o, 0, layout::operation_count(file))
 }

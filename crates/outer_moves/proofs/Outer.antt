@@ -32,10 +32,10 @@ use Rattle.moves.specs.Moves.{Result, refused, notAllowed, require, onOperation
 use Rattle.moves.specs.Step.{Step, finish}
 use Rattle.queues.specs.declared.ReplyTo as declared
 use Rattle.queues.specs.Queue.{replyOf}
-use Rattle.targets.specs.declared.Met.{Met}
+use Rattle.operations.specs.declared.Met.{Met}
 use Rattle.targets.specs.declared.Target.{Target}
-use Rattle.targets.specs.Meeting.{operationMet}
-use Rattle.targets.specs.MeetingLaws.{named-exists}
+use Rattle.operations.specs.Meeting.{operationMet}
+use Rattle.targets.specs.NamedLaws.{named-exists}
 use Rattle.targets.specs.Answers.{StarterExists, Targets}
 use Rattle.moving.specs.Made.{StateOf, Made}
 use Rattle.moving.specs.MadeLaws.{made-refused, target-is}

@@ -9,11 +9,11 @@ ghost use Rattle.queues.specs.Queue.{replyOf};
 ghost use Rattle.moves.specs.Moves.{outerMessage};
 ghost use Rattle.moving.specs.Made.{Made};
 ghost use Rattle.outer_moves.specs.Outside.{Arrives};
+use operations::Met;
 use queues::ReplyTo;
 use refusal::Outcome;
 use refusal::Refusal;
 use refusal::Verdict;
-use targets::Met;
 
 // Where the reply goes: to the outsider under its number, "ignored if one-way".
 fn reply_to(file: &[u8], i: u16, number: u32) -> ReplyTo

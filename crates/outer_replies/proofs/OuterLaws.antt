@@ -17,7 +17,7 @@ use Rattle.syntax.specs.Rows.{atRow}
 use Rattle.network.specs.Form.{WellFormed}
 use Rattle.network.specs.Rows.{operationLocation, replyType}
 use Rattle.network.specs.Decode.{pathOf, operationOf, networkOf}
-use Rattle.network.specs.Meets.{inFile}
+use Rattle.syntax.specs.Meets.{inFile}
 use Rattle.network.specs.TestLaws.{not-true, not-false}
 use Rattle.types.specs.Tells.{FitsRow}
 use Rattle.state.specs.Session.{State}

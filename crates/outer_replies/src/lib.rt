@@ -21,7 +21,7 @@ pub fn outer_reply(file: &[u8], state: &mut [u8], q: u16, n: u16, r: u16, bytes:
     let Waiting::Row(o, path) = waiting_rows::waiting_at(file, state, slot, b, q, r) else {
         return refusal::refused(Refusal::MoveNotAllowed);
     };
-    if targets::in_file(file, rows::operation_location(file, o)) {
+    if operations::in_file(file, rows::operation_location(file, o)) {
         return refusal::refused(Refusal::MoveNotAllowed);
     }
     if !tree::is_message(bytes) {

@@ -2,6 +2,7 @@
 ghost use Prim.Native.Nat.{_+_, _≤_, _<_};
 ghost use mathlib.Core.Path.{_≡_};
 ghost use lib.ListN.{length};
+ghost use Rattle.state.specs.Places.{queueSize, rowsSize};
 use console::bytes;
 use console::number;
 use console::write;
@@ -37,18 +38,18 @@ fn print_label(ok: &mut bool, q: u64, n: u64, what: &[u8]) {
 
 // The four entries of the queue at `queue`: operation's row and message.
 fn print_queue(ok: &mut bool, state: &[u8], q: u64, n: u64, queue: usize)
-    requires { ⌜ queue + 1376 ≤ length (now state) ⌝ }
+    requires { ⌜ queue + queueSize ≤ length (now state) ⌝ }
 {
     let mut i: usize = 0;
     while i < 4 {
-        let at = queue + 344 * i;
+        let at = queue + state::ENTRY * i;
         let operation = wire::wide(state[at]);
         let len = wire::index(wire::u16_at(state, at + 2));
         if 0 < operation {
             print_label(ok, q, n, b" queued ");
             number(ok, (operation - 1) as u64);
             write(ok, b" ");
-            if len <= 336 {
+            if len <= state::MESSAGE_ROOM {
                 bytes(ok, &state[at + 8..at + 8 + len]);
             }
             write(ok, b"\n");
@@ -74,11 +75,11 @@ fn print_progress(ok: &mut bool, progress: u8, part: u8) {
 
 // The rows that are marked, of the 256 at `rows`.
 fn print_rows(ok: &mut bool, state: &[u8], q: u64, n: u64, rows: usize)
-    requires { ⌜ rows + 1536 ≤ length (now state) ⌝ }
+    requires { ⌜ rows + rowsSize ≤ length (now state) ⌝ }
 {
     let mut r: usize = 0;
     while r < 256 {
-        let at = rows + 6 * r;
+        let at = rows + state::ROW * r;
         let progress = state[at];
         if 0 < progress {
             print_label(ok, q, n, b" row ");
@@ -93,20 +94,20 @@ fn print_rows(ok: &mut bool, state: &[u8], q: u64, n: u64, rows: usize)
 fn print_slot(ok: &mut bool, state: &[u8], slot: usize)
     requires { ⌜ (slot < 16) × (length (now state) ≡ 65536) ⌝ }
 {
-    let at = 4096 * slot;
+    let at = state::SLOT * slot;
     if state[at] == 0 {
         return;
     }
     let q = (slot / 4) as u64;
     let n = (slot % 4) as u64;
-    let len = wire::index(wire::u16_at(state, at + 2));
+    let len = wire::index(wire::u16_at(state, at + state::LENGTH));
     print_label(ok, q, n, b" tree ");
-    if len <= 1024 {
-        bytes(ok, &state[at + 16..at + 16 + len]);
+    if len <= state::TREE_ROOM {
+        bytes(ok, &state[at + state::TREE..at + state::TREE + len]);
     }
     write(ok, b"\n");
-    print_queue(ok, state, q, n, at + 1040);
-    print_rows(ok, state, q, n, at + 2416);
+    print_queue(ok, state, q, n, at + state::QUEUE);
+    print_rows(ok, state, q, n, at + state::ROWS);
 }
 
 pub(crate) fn print_state(ok: &mut bool, state: &[u8])

@@ -1,17 +1,19 @@
 -- Laws of a row's progress: one for each way out of the functions.
-use Prim.Native.Nat.{ℕ, suc, _+_, _*_, _/_, _%_, _<_, _≤_}
-use mathlib.Core.Path.{_≡_, refl, sym, _∙_, ap}
+use Prim.Native.Nat.{ℕ, suc, _+_, _/_, _%_, _<_, _≤_}
+use mathlib.Core.Path.{_≡_, refl, sym, _∙_}
 use mathlib.Core.List.{List, [], _∷_, append-assoc}
 use native.Mathlib.Omega.{arith}
 use lib.ListN.{set, length, take, drop}
-use lib.Seq.{sets, sets-eq}
-use borrow.Author.Tests.{eq-eqb, ne-eqb, lt-ltb, le-ltb}
+use lib.Seq.{sets-eq}
+use borrow.Author.Tests.{ne-eqb, lt-ltb, le-ltb}
 use Rattle.wire.specs.Wire.{byteAt, u16At, u32At, withPart}
+use Rattle.state.specs.Places.{rowStart}
 use Rattle.state.specs.Session.{Progress}
 use Rattle.state.specs.Bytes.{zeros, readReply, readProgress, readSession, progressBytes}
 use Rattle.progress.specs.declared.Progress as coded
 use Rattle.progress.specs.declared.Progress.the-variants.{Undone, Done, Waits, Taken, FromOutsider, FromRow, FromNobody}
 use Rattle.progress.specs.Meaning.{meaning}
+use Rattle.progress.specs.Stored.{rowStored}
 
 -- ---- reading
 
@@ -49,10 +51,10 @@ module _ (s : List ℕ) (at k : ℕ) (e : k ≡ byteAt s at) where
 
 pub ruleset read-laws = (read-1, read-2, read-3, read-4, read-5, read-6, read-other)
 
-pub row-below : (s : List ℕ) (slot r i : ℕ) (x : coded.Progress) → r < 256 → i ≡ r → meaning x ≡ readProgress s (slot + 2416 + 6 * i)
+pub row-below : (s : List ℕ) (slot r i at : ℕ) (x : coded.Progress) → r < 256 → i ≡ r → at ≡ rowStart slot i → meaning x ≡ readProgress s at
     → meaning x ≡ readSession s slot .progress r
 unfolding readSession
-row-below s slot r i x l e h = rw (lt-ltb r 256 l) (rw e at h)
+row-below s slot r i at x l e f h = rw (lt-ltb r 256 l) (rw (f, e) at h)
 
 pub row-past : (s : List ℕ) (slot r : ℕ) → 256 ≤ r → meaning Undone ≡ readSession s slot .progress r
 unfolding readSession
@@ -107,7 +109,8 @@ module _ (s o : List ℕ) (at : ℕ) (p : coded.Progress) where
 
 pub ruleset put-laws = (put-undone, put-done, put-waits, put-taken, put-outsider, put-from, put-nobody)
 
-pub row-put : (s o : List ℕ) (slot r i : ℕ) (l : List ℕ) → i ≡ r → o ≡ withPart s (slot + 2416 + 6 * i) l → o ≡ withPart s (slot + 2416 + 6 * r) l
-row-put s o slot r i l e h = rw e at h
+pub row-put : (s o : List ℕ) (slot r i at : ℕ) (x : Progress) → i ≡ r → at ≡ rowStart slot i → o ≡ withPart s at (progressBytes x) → o ≡ rowStored s slot r x
+unfolding rowStored
+row-put s o slot r i at x e f h = rw (f, e) at h
 
 pub ruleset row-put-laws = (row-put)

@@ -1,11 +1,13 @@
 // The progress of a row in a state's bytes, read and written. Reading is total: it gives what the bytes say, whatever they are.
 ghost use mathlib.Core.Path.{_≡_};
 ghost use mathlib.Core.List.{[], _∷_};
-ghost use Prim.Native.Nat.{_+_, _*_, _≤_, _<_};
+ghost use Prim.Native.Nat.{_+_, _≤_, _<_};
 ghost use lib.ListN.{length};
 ghost use Rattle.wire.specs.Wire.{withPart};
+ghost use Rattle.state.specs.Places.{slotSize, rowSize};
 ghost use Rattle.state.specs.Bytes.{readProgress, readSession, progressBytes};
 ghost use Rattle.progress.specs.Meaning.{meaning};
+ghost use Rattle.progress.specs.Stored.{rowStored};
 
 // Undone, done or waiting; the part that is taken; or received, with where the reply goes: to an outsider by its reply number, to a
 // waiting row by its service, session and B row, or to nobody (which no state of a file's shape has).
@@ -46,14 +48,14 @@ pub fn row_progress(state: &[u8], slot: usize, r: u16) -> Progress
     ensures { λ x. ⌜ meaning x ≡ readSession (now (state .entry)) slot .progress r ⌝ }
 {
     if r < 256 {
-        return progress_at(state, slot + 2416 + 6 * wire::index(r));
+        return progress_at(state, state::row_start(slot, wire::index(r)));
     }
     Progress::Undone
 }
 
 // Stores six bytes.
 fn put_six(state: &mut [u8], at: usize, a: u8, b: u8, c: u8, d: u8, e: u8, f: u8)
-    requires { ⌜ at + 6 ≤ length (now state) ⌝ }
+    requires { ⌜ at + rowSize ≤ length (now state) ⌝ }
     ensures { λ _. ⌜ now (state .exit) ≡ withPart (now (state .entry)) at (a ∷ b ∷ c ∷ d ∷ e ∷ f ∷ []) ⌝ }
 {
     state[at] = a;
@@ -66,7 +68,7 @@ fn put_six(state: &mut [u8], at: usize, a: u8, b: u8, c: u8, d: u8, e: u8, f: u8
 
 // Writes a progress to the six bytes from `at` on.
 pub fn put_progress(state: &mut [u8], at: usize, p: Progress)
-    requires { ⌜ at + 6 ≤ length (now state) ⌝ }
+    requires { ⌜ at + rowSize ≤ length (now state) ⌝ }
     ensures { λ _. ⌜ now (state .exit) ≡ withPart (now (state .entry)) at (progressBytes (meaning p)) ⌝ }
 {
     match p {
@@ -107,8 +109,8 @@ pub fn put_progress(state: &mut [u8], at: usize, p: Progress)
 
 // Writes the progress of B row r to the slot that starts at `slot`.
 pub fn put_row(state: &mut [u8], slot: usize, r: u16, p: Progress)
-    requires { ⌜ (slot + 4096 ≤ length (now state)) × (r < 256) ⌝ }
-    ensures { λ _. ⌜ now (state .exit) ≡ withPart (now (state .entry)) (slot + 2416 + 6 * r) (progressBytes (meaning p)) ⌝ }
+    requires { ⌜ (slot + slotSize ≤ length (now state)) × (r < 256) ⌝ }
+    ensures { λ _. ⌜ now (state .exit) ≡ rowStored (now (state .entry)) slot r (meaning p) ⌝ }
 {
-    put_progress(state, slot + 2416 + 6 * wire::index(r), p);
+    put_progress(state, state::row_start(slot, wire::index(r)), p);
 }

@@ -1,26 +1,26 @@
 -- Bytes that are written one after another, at each of the ways out of the code.
-use mathlib.Core.Path.{_≡_, refl, sym, ap, subst, _∙_}
+use mathlib.Core.Path.{_≡_, refl, sym, ap, _∙_}
 use mathlib.Core.List.{List, [], _∷_, _++_, append-assoc}
-use mathlib.Core.Bool.{Bool, true, false}
+use mathlib.Core.Bool.{Bool}
 use mathlib.Core.Logic.{inr}
-use Prim.Native.Nat.{ℕ, zero, suc, _+_, _-_, _*_, _/_, _%_, _≤_, _<_}
+use Prim.Native.Nat.{ℕ, _+_, _-_, _*_, _/_, _%_, _≤_, _<_}
 use native.Mathlib.Numerals.{add-one}
 use native.Mathlib.Nat.{add-zero, zero-add, div-div-eq-div-mul}
 use native.Mathlib.Omega.{arith}
-use lib.Dec.{ltb}
-use lib.ListN.{getD, set, length, take, drop, take-append-drop, length-drop, length-append, length-set}
+use lib.ListN.{getD, set, length, take, drop, take-append-drop, length-append, length-set}
 use lib.Seq.{set-split, drop-drop, take-suc, take-all, getD-take, getD-drop, length-take-le}
 use borrow.Author.Tests.{lt-ltb, le-ltb}
 use Rattle.scalar.specs.Value.{pick}
 use Rattle.wire.specs.Wire.{byteAt, part, withPart}
 use Rattle.wire.specs.WireLaws.{length-part, length-withPart, agree-byte, withPart-outside}
-use Rattle.state.specs.Session.{ReplyTo, nobody, outsider, waitingRow}
+use Rattle.state.specs.Places.{slotSize, messageRoom, entrySize, entryStart}
+use Rattle.state.specs.Session.{ReplyTo}
 use Rattle.state.specs.Bytes.{zeros, padded, u16Bytes, u32Bytes, replyKind, replyBytes, readSession}
 use Rattle.state.specs.PartLaws.{length-zeros, byte-zeros, replace-rest}
 use Rattle.state.specs.SizeLaws.{reply-size}
 use Rattle.queues.specs.declared.ReplyTo as declared
 use Rattle.queues.specs.declared.ReplyTo.the-variants.{Nobody, Outsider, WaitingRow}
-use Rattle.queues.specs.Queue.{replyOf, entryAt, removed, entryHead, entryOf, pushed}
+use Rattle.queues.specs.Queue.{replyOf, removed, entryHead, entryOf, pushed}
 use Rattle.queues.specs.Written.{written}
 
 -- ---- one after another
@@ -197,48 +197,47 @@ head-size : (w : ℕ) (to : ReplyTo) (n : ℕ) → length (entryHead w to n) ≡
 unfolding entryHead
 head-size w to n = omega (arith, reply-size to)
 
-pub message-written : (s : List ℕ) (at : ℕ) (message : List ℕ) (start len : ℕ) {s₁ s₂ : List ℕ} → at + 336 ≤ length s → start + len ≤ length message
-    → s₁ ≡ written s at (part message start len) → s₂ ≡ written s₁ (at + len) (zeros (336 - len)) → s₂ ≡ written s at (padded 336 (part message start len))
+pub message-written : (s : List ℕ) (at : ℕ) (message : List ℕ) (start len : ℕ) {s₁ s₂ : List ℕ} → at + messageRoom ≤ length s → start + len ≤ length message
+    → s₁ ≡ written s at (part message start len) → s₂ ≡ written s₁ (at + len) (zeros (messageRoom - len)) → s₂ ≡ written s at (padded messageRoom (part message start len))
 message-written s at message start len h i a b =
     let m = part message start len in
     let l : length m ≡ len = length-part message start len i in
-    chain s at m (zeros (336 - len)) len (at + len) (omega (arith, h)) l refl a b ∙ ap (λ (j : ℕ). written s at (m ++ zeros (336 - j))) (sym l)
+    chain s at m (zeros (messageRoom - len)) len (at + len) (omega (arith, h)) l refl a b ∙ ap (λ (j : ℕ). written s at (m ++ zeros (messageRoom - j))) (sym l)
 
 -- ---- taking one out, and one more
 
-pub removed-is : (s : List ℕ) (slot k : ℕ) {s₁ s₂ : List ℕ} → slot + 4096 ≤ length s → k < 4
-    → s₁ ≡ written s (slot + 1040 + 344 * k) (part s (slot + 1040 + 344 * k + 344) (344 * (3 - k)))
-    → s₂ ≡ written s₁ (slot + 1040 + 344 * k + 344 * (3 - k)) (zeros 344) → s₂ ≡ removed s slot k
+pub removed-is : (s : List ℕ) (slot k : ℕ) {at : ℕ} {s₁ s₂ : List ℕ} → slot + slotSize ≤ length s → k < 4 → at ≡ entryStart slot k
+    → s₁ ≡ written s at (part s (at + entrySize) (entrySize * (3 - k))) → s₂ ≡ written s₁ (at + entrySize * (3 - k)) (zeros entrySize) → s₂ ≡ removed s slot k
 unfolding removed written
-removed-is s slot k h i a b =
-    let at = entryAt slot k in
-    let n = 344 * (3 - k) in
-    let l : length (part s (at + 344) n) ≡ n = length-part s (at + 344) n (omega (arith, h, i)) in
-    chain s at (part s (at + 344) n) (zeros 344) n (at + n) (omega (arith, h, i)) l refl a b
+removed-is s slot k {at} h i f a b =
+    let n = entrySize * (3 - k) in
+    let l : length (part s (at + entrySize) n) ≡ n = length-part s (at + entrySize) n (omega (arith, h, i, f)) in
+    chain s at (part s (at + entrySize) n) (zeros entrySize) n (at + n) (omega (arith, h, i, f)) l refl a b
+    ∙ ap (λ (j : ℕ). withPart s j (part s (j + entrySize) n ++ zeros entrySize)) f
 
 module _ (s : List ℕ) (slot w : ℕ) (to : declared.ReplyTo) (message : List ℕ) (start len : ℕ) {k : ℕ} where
   pub push-full : (k ≡ length (readSession s slot .queue)) × (k ≤ 4) → 4 ≤ k → s ≡ pushed s slot w (replyOf to) (part message start len)
   unfolding pushed
   push-full h i =
       let n = length (readSession s slot .queue) in
-      sym (ap (λ (t : Bool). pick t (withPart s (entryAt slot n) (entryOf w (replyOf to) (part message start len))) s) (le-ltb n 4 (omega (arith, h .0, i))))
+      sym (ap (λ (t : Bool). pick t (withPart s (entryStart slot n) (entryOf w (replyOf to) (part message start len))) s) (le-ltb n 4 (omega (arith, h .0, i))))
 
-  pub push-one : {s₁ s₂ : List ℕ} → slot + 4096 ≤ length s → start + len ≤ length message → (k ≡ length (readSession s slot .queue)) × (k ≤ 4) → k < 4
-      → s₁ ≡ written s (slot + 1040 + 344 * k) (entryHead w (replyOf to) len)
-      → s₂ ≡ written s₁ (slot + 1040 + 344 * k + 8) (padded 336 (part message start len)) → s₂ ≡ pushed s slot w (replyOf to) (part message start len)
-  push-one {s₁} {s₂} d e h i a b =
+  pub push-one : {at : ℕ} {s₁ s₂ : List ℕ} → slot + slotSize ≤ length s → start + len ≤ length message → (k ≡ length (readSession s slot .queue)) × (k ≤ 4)
+      → k < 4 → at ≡ entryStart slot k → s₁ ≡ written s at (entryHead w (replyOf to) len)
+      → s₂ ≡ written s₁ (at + 8) (padded messageRoom (part message start len)) → s₂ ≡ pushed s slot w (replyOf to) (part message start len)
+  push-one {at} {s₁} {s₂} d e h i f a b =
       let m = part message start len in
       let l : length m ≡ len = length-part message start len e in
       let head = entryHead w (replyOf to) len in
-      let c : s₂ ≡ written s (entryAt slot k) (head ++ padded 336 m) =
-      chain s (entryAt slot k) head (padded 336 m) 8 (entryAt slot k + 8) (omega (arith, d, i)) (head-size w (replyOf to) len) refl a b in
-      c ∙ (ap (λ (j : ℕ). written s (entryAt slot k) (entryHead w (replyOf to) j ++ padded 336 m)) (sym l)
-      ∙ (ap (λ (j : ℕ). written s (entryAt slot j) (entryOf w (replyOf to) m)) (h .0) ∙ opened (omega (arith, h .0, i))))
+      let c : s₂ ≡ written s at (head ++ padded messageRoom m) =
+      chain s at head (padded messageRoom m) 8 (at + 8) (omega (arith, d, i, f)) (head-size w (replyOf to) len) refl a b in
+      c ∙ (ap (λ (j : ℕ). written s at (entryHead w (replyOf to) j ++ padded messageRoom m)) (sym l)
+      ∙ (ap (λ (j : ℕ). written s j (entryOf w (replyOf to) m)) f ∙ (ap (λ (j : ℕ). written s (entryStart slot j) (entryOf w (replyOf to) m)) (h .0) ∙ opened (omega (arith, h .0, i)))))
     where
       opened : length (readSession s slot .queue) < 4
-          → written s (entryAt slot (length (readSession s slot .queue))) (entryOf w (replyOf to) (part message start len))
+          → written s (entryStart slot (length (readSession s slot .queue))) (entryOf w (replyOf to) (part message start len))
           ≡ pushed s slot w (replyOf to) (part message start len)
       opened h =
           unfold pushed written in
-          sym (ap (λ (t : Bool). pick t (withPart s (entryAt slot (length (readSession s slot .queue))) (entryOf w (replyOf to) (part message start len))) s)
+          sym (ap (λ (t : Bool). pick t (withPart s (entryStart slot (length (readSession s slot .queue))) (entryOf w (replyOf to) (part message start len))) s)
           (lt-ltb (length (readSession s slot .queue)) 4 h))

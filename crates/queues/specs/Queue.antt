@@ -8,6 +8,7 @@ use lib.Dec.{eqb, ltb}
 use lib.ListN.{length}
 use Rattle.scalar.specs.Value.{pick}
 use Rattle.wire.specs.Wire.{u16At, part, withPart}
+use Rattle.state.specs.Places.{messageRoom, entrySize, entryStart}
 use Rattle.state.specs.Session.{ReplyTo, nobody, outsider, waitingRow, Queued}
 use Rattle.state.specs.Bytes.{zeros, padded, u16Bytes, replyKind, replyBytes, readQueue, readSession}
 use Rattle.moves.specs.Moves.{Taken, nothing, message, keeping}
@@ -23,13 +24,9 @@ replyOf Nobody = nobody
 replyOf (Outsider k) = outsider k
 replyOf (WaitingRow q n r) = waitingRow q n r
 
--- Where the entry k of the queue starts (docs/STATE.md).
-abbrev pub entryAt : ℕ → ℕ → ℕ
-entryAt slot k = slot + 1040 + 344 * k
-
 -- The place and the length of the message's bytes in the entry k.
 unfoldable pub messageSpan : List ℕ → ℕ → ℕ → Span
-messageSpan s slot k = record { start = entryAt slot k + 8; len = u16At s (entryAt slot k + 2) }
+messageSpan s slot k = record { start = entryStart slot k + 8; len = u16At s (entryStart slot k + 2) }
 
 -- r is how many of the n entries from `at` on are used.
 pub record Counted (s : List ℕ) (n at r : ℕ) : Type 0 where
@@ -63,7 +60,7 @@ without (suc k) (m ∷ l) = m ∷ without k l
 
 -- The state's bytes without the entry k: those after it move up, and the last one is zeros.
 unfoldable pub removed : List ℕ → ℕ → ℕ → List ℕ
-removed s slot k = withPart s (entryAt slot k) (part s (entryAt slot k + 344) (344 * (3 - k)) ++ zeros 344)
+removed s slot k = withPart s (entryStart slot k) (part s (entryStart slot k + entrySize) (entrySize * (3 - k)) ++ zeros entrySize)
 
 -- An entry, as `entryBytes`, from the bytes l of its message: the operation's O row plus 1, the reply's kind, the message's length and where
 -- the reply goes; then the message and zeros.
@@ -71,9 +68,9 @@ unfoldable pub entryHead : ℕ → ReplyTo → ℕ → List ℕ
 entryHead w to n = ((w + 1) ∷ replyKind to ∷ u16Bytes n) ++ replyBytes to
 
 abbrev pub entryOf : ℕ → ReplyTo → List ℕ → List ℕ
-entryOf w to l = entryHead w to (length l) ++ padded 336 l
+entryOf w to l = entryHead w to (length l) ++ padded messageRoom l
 
 -- The state's bytes with one more message at the first unused entry; the same where four are queued.
 unfoldable pub pushed : List ℕ → ℕ → ℕ → ReplyTo → List ℕ → List ℕ
 pushed s slot w to l =
-    pick (ltb (length (readSession s slot .queue)) 4) (withPart s (entryAt slot (length (readSession s slot .queue))) (entryOf w to l)) s
+    pick (ltb (length (readSession s slot .queue)) 4) (withPart s (entryStart slot (length (readSession s slot .queue))) (entryOf w to l)) s

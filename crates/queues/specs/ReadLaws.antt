@@ -1,23 +1,22 @@
 -- The oldest message of an operation: what is found in the bytes is what a receive takes. Each law has the premises that a caller's code leaves.
-use mathlib.Core.Path.{_≡_, refl, sym, ap, subst, _∙_}
+use mathlib.Core.Path.{_≡_, refl, sym, ap, _∙_}
 use mathlib.Core.List.{List, [], _∷_}
 use mathlib.Core.Bool.{Bool, true, false}
-use Prim.Native.Nat.{ℕ, zero, suc, _+_, _-_, _*_, _≤_, _<_}
-use native.Mathlib.Nat.{zero-add, add-zero}
+use Prim.Native.Nat.{ℕ, zero, suc, _+_, _*_, _≤_, _<_}
+use native.Mathlib.Nat.{add-zero}
 use native.Mathlib.Omega.{arith}
 use lib.Dec.{eqb}
 use lib.ListN.{length}
-use borrow.Author.Tests.{eq-eqb, ne-eqb}
-use Rattle.forest.specs.Forest.{Tree}
 use Rattle.scalar.specs.Value.{pick}
 use Rattle.wire.specs.Wire.{byteAt, part}
 use Rattle.tree.specs.Decode.{decodeMessage}
+use Rattle.state.specs.Places.{entrySize, queuePlace, entryStart}
 use Rattle.state.specs.Session.{Queued}
 use Rattle.state.specs.Bytes.{treeOr, readEntry, readQueue, readSession}
-use Rattle.moves.specs.Moves.{Taken, nothing, message, keeping, oldest}
+use Rattle.moves.specs.Moves.{nothing, message, keeping, oldest}
 use Rattle.queues.specs.declared.OldestEntry.{OldestEntry}
 use Rattle.queues.specs.declared.OldestEntry.the-variants.{Nothing, Entry}
-use Rattle.queues.specs.Queue.{entryAt, messageSpan, oldestFrom, oldestIn, takenAt, takenOf, without}
+use Rattle.queues.specs.Queue.{messageSpan, oldestFrom, oldestIn, takenAt, takenOf, without}
 
 -- ---- the oldest by its index is the oldest that is taken
 
@@ -71,36 +70,36 @@ oldest-within k w (m ∷ l) i e = by (eqb (m .operation) w) (oldest-within (suc 
 queue-bound : (s : List ℕ) (n at : ℕ) → length (readQueue s n at) ≤ n
 unfolding readQueue
 queue-bound s zero at = omega arith
-queue-bound s (suc n) at = by (eqb (byteAt s at) 0) (queue-bound s n (at + 344))
+queue-bound s (suc n) at = by (eqb (byteAt s at) 0) (queue-bound s n (at + entrySize))
   where
-    by : (t : Bool) → length (readQueue s n (at + 344)) ≤ n → length (pick t [] (readEntry s at ∷ readQueue s n (at + 344))) ≤ suc n
+    by : (t : Bool) → length (readQueue s n (at + entrySize)) ≤ n → length (pick t [] (readEntry s at ∷ readQueue s n (at + entrySize))) ≤ suc n
     by true a = omega arith
     by false a = omega (arith, a)
 
 -- "a queue of up to four messages": so much is read from any bytes.
 pub queue-four : (s : List ℕ) (slot : ℕ) → length (readSession s slot .queue) ≤ 4
 unfolding readSession
-queue-four s slot = queue-bound s 4 (slot + 1040)
+queue-four s slot = queue-bound s 4 (slot + queuePlace)
 
 -- ---- the message at an index is what its entry is read as
 
 taken-entry : (s : List ℕ) (n at k : ℕ) → k < length (readQueue s n at)
-    → takenAt k (readQueue s n at) ≡ message (readEntry s (at + 344 * k)) (without k (readQueue s n at))
+    → takenAt k (readQueue s n at) ≡ message (readEntry s (at + entrySize * k)) (without k (readQueue s n at))
 unfolding readQueue takenAt without
 taken-entry s zero at k h = absurd (omega arith)
-taken-entry s (suc n) at k h = by (eqb (byteAt s at) 0) k (taken-entry s n (at + 344)) h
+taken-entry s (suc n) at k h = by (eqb (byteAt s at) 0) k (taken-entry s n (at + entrySize)) h
   where
-    by : (t : Bool) (k : ℕ) → ((k : ℕ) → k < length (readQueue s n (at + 344))
-        → takenAt k (readQueue s n (at + 344)) ≡ message (readEntry s (at + 344 + 344 * k)) (without k (readQueue s n (at + 344))))
-        → k < length (pick t [] (readEntry s at ∷ readQueue s n (at + 344)))
-        → takenAt k (pick t [] (readEntry s at ∷ readQueue s n (at + 344)))
-        ≡ message (readEntry s (at + 344 * k)) (without k (pick t [] (readEntry s at ∷ readQueue s n (at + 344))))
+    by : (t : Bool) (k : ℕ) → ((k : ℕ) → k < length (readQueue s n (at + entrySize))
+        → takenAt k (readQueue s n (at + entrySize)) ≡ message (readEntry s (at + entrySize + entrySize * k)) (without k (readQueue s n (at + entrySize))))
+        → k < length (pick t [] (readEntry s at ∷ readQueue s n (at + entrySize)))
+        → takenAt k (pick t [] (readEntry s at ∷ readQueue s n (at + entrySize)))
+        ≡ message (readEntry s (at + entrySize * k)) (without k (pick t [] (readEntry s at ∷ readQueue s n (at + entrySize))))
     by true k a h = absurd (omega arith)
-    by false zero a h = ap (λ (i : ℕ). message (readEntry s i) (readQueue s n (at + 344))) (sym (add-zero at))
+    by false zero a h = ap (λ (i : ℕ). message (readEntry s i) (readQueue s n (at + entrySize))) (sym (add-zero at))
     by false (suc k) a h =
-        let e : at + 344 + 344 * k ≡ at + 344 * suc k = omega arith in
+        let e : at + entrySize + entrySize * k ≡ at + entrySize * suc k = omega arith in
         ap (keeping (readEntry s at)) (a k (omega (arith, h)))
-        ∙ ap (λ (i : ℕ). message (readEntry s i) (readEntry s at ∷ without k (readQueue s n (at + 344)))) e
+        ∙ ap (λ (i : ℕ). message (readEntry s i) (readEntry s at ∷ without k (readQueue s n (at + entrySize)))) e
 
 module _ (s : List ℕ) (slot w : ℕ) {r : OldestEntry} (is : r ≡ oldestIn w (readSession s slot .queue)) where
   -- No message of that operation is queued.
@@ -115,14 +114,14 @@ module _ (s : List ℕ) (slot w : ℕ) {r : OldestEntry} (is : r ≡ oldestIn w 
 
   -- The entry k is taken, and the others keep their order.
   pub oldest-message : (k : ℕ) → r ≡ Entry k
-      → oldest w (readSession s slot .queue) ≡ message (readEntry s (entryAt slot k)) (without k (readSession s slot .queue))
+      → oldest w (readSession s slot .queue) ≡ message (readEntry s (entryStart slot k)) (without k (readSession s slot .queue))
   unfolding readSession
   oldest-message k e =
       sym (oldest-taken w (readSession s slot .queue)) ∙ (ap (λ (x : OldestEntry). takenOf x (readSession s slot .queue)) (sym is ∙ e)
-      ∙ taken-entry s 4 (slot + 1040) k (oldest-below k e))
+      ∙ taken-entry s 4 (slot + queuePlace) k (oldest-below k e))
 
 -- The message of an entry is what stands at its place.
 pub span-message : (s : List ℕ) (slot k : ℕ)
-    → readEntry s (entryAt slot k) .message ≡ treeOr (decodeMessage (part s (messageSpan s slot k .start) (messageSpan s slot k .len)))
+    → readEntry s (entryStart slot k) .message ≡ treeOr (decodeMessage (part s (messageSpan s slot k .start) (messageSpan s slot k .len)))
 unfolding readEntry messageSpan
 span-message s slot k = refl

@@ -5,8 +5,9 @@ ghost use mathlib.Core.List.{[], _∷_};
 ghost use Prim.Native.Nat.{_+_, _*_, _/_, _%_, _≤_, _<_};
 ghost use lib.ListN.{length};
 ghost use Rattle.wire.specs.Wire.{part};
+ghost use Rattle.state.specs.Places.{slotSize, messageRoom, entrySize, entryStart};
 ghost use Rattle.state.specs.Bytes.{zeros, padded, u16Bytes, replyKind, replyBytes, readReply, readEntry, readQueue, readSession};
-ghost use Rattle.queues.specs.Queue.{replyOf, entryAt, messageSpan, Counted, oldestFrom, oldestIn, removed, entryHead, pushed};
+ghost use Rattle.queues.specs.Queue.{replyOf, messageSpan, Counted, oldestFrom, oldestIn, removed, entryHead, pushed};
 ghost use Rattle.queues.specs.Written.{written};
 
 // Where the reply to a message goes: nowhere, to an outsider under its reply number, or to a waiting row by service, session and B row.
@@ -48,10 +49,10 @@ pub fn reply_at(state: &[u8], kind: u8, at: usize) -> ReplyTo
 
 // Where the reply to the message of the entry k goes.
 pub fn entry_reply(state: &[u8], slot: usize, k: usize) -> ReplyTo
-    requires { ⌜ (slot + 4096 ≤ length (now state)) × (k < 4) ⌝ }
-    ensures { λ r. ⌜ replyOf r ≡ readEntry (now (state .entry)) (entryAt slot k) .replyTo ⌝ }
+    requires { ⌜ (slot + slotSize ≤ length (now state)) × (k < 4) ⌝ }
+    ensures { λ r. ⌜ replyOf r ≡ readEntry (now (state .entry)) (entryStart slot k) .replyTo ⌝ }
 {
-    let at = slot + 1040 + 344 * k;
+    let at = state::entry_start(slot, k);
     reply_at(state, wire::byte_at(state, at + 1), at + 4)
 }
 
@@ -68,18 +69,18 @@ fn operation_at(state: &[u8], at: usize) -> u16
 
 // The operation (O row) of the entry k.
 pub fn entry_operation(state: &[u8], slot: usize, k: usize) -> u16
-    requires { ⌜ (slot + 4096 ≤ length (now state)) × (k < 4) ⌝ }
-    ensures { λ r. ⌜ r ≡ readEntry (now (state .entry)) (entryAt slot k) .operation ⌝ }
+    requires { ⌜ (slot + slotSize ≤ length (now state)) × (k < 4) ⌝ }
+    ensures { λ r. ⌜ r ≡ readEntry (now (state .entry)) (entryStart slot k) .operation ⌝ }
 {
-    operation_at(state, slot + 1040 + 344 * k)
+    operation_at(state, state::entry_start(slot, k))
 }
 
 // Where the message of the entry k stands, and how many bytes it takes.
 pub fn entry_message(state: &[u8], slot: usize, k: usize) -> Span
-    requires { ⌜ (slot + 4096 ≤ length (now state)) × (k < 4) ⌝ }
+    requires { ⌜ (slot + slotSize ≤ length (now state)) × (k < 4) ⌝ }
     ensures { λ r. ⌜ r ≡ messageSpan (now (state .entry)) slot k ⌝ }
 {
-    let at = slot + 1040 + 344 * k;
+    let at = state::entry_start(slot, k);
     let len = wire::index(wire::u16_at(state, at + 2));
     Span {
         start: at + 8,
@@ -89,7 +90,7 @@ pub fn entry_message(state: &[u8], slot: usize, k: usize) -> Span
 
 // How many of the n entries from `at` on are used, up to the first that is not.
 fn count_from(state: &[u8], at: usize, n: usize) -> usize
-    requires { ⌜ at + 344 * n ≤ length (now state) ⌝ }
+    requires { ⌜ at + entrySize * n ≤ length (now state) ⌝ }
     ensures { λ r. ⌜ Counted (now (state .entry)) n at r ⌝ }
 {
     if n == 0 {
@@ -98,20 +99,20 @@ fn count_from(state: &[u8], at: usize, n: usize) -> usize
     if wire::byte_at(state, at) == 0 {
         return 0;
     }
-    count_from(state, at + 344, n - 1) + 1
+    count_from(state, at + state::ENTRY, n - 1) + 1
 }
 
 // How many messages the queue holds.
 pub fn count(state: &[u8], slot: usize) -> usize
-    requires { ⌜ slot + 4096 ≤ length (now state) ⌝ }
+    requires { ⌜ slot + slotSize ≤ length (now state) ⌝ }
     ensures { λ r. ⌜ (r ≡ length (readSession (now (state .entry)) slot .queue)) × (r ≤ 4) ⌝ }
 {
-    count_from(state, slot + 1040, 4)
+    count_from(state, slot + state::QUEUE, 4)
 }
 
 // The oldest message of the operation w among the n entries from `at` on, the first of which is the entry k.
 fn oldest_from(state: &[u8], at: usize, k: usize, n: usize, w: u16) -> OldestEntry
-    requires { ⌜ (at + 344 * n ≤ length (now state)) × (k + n ≤ 4) ⌝ }
+    requires { ⌜ (at + entrySize * n ≤ length (now state)) × (k + n ≤ 4) ⌝ }
     ensures { λ r. ⌜ r ≡ oldestFrom k w (readQueue (now (state .entry)) n at) ⌝ }
 {
     if n == 0 {
@@ -123,15 +124,15 @@ fn oldest_from(state: &[u8], at: usize, k: usize, n: usize, w: u16) -> OldestEnt
     if operation_at(state, at) == w {
         return OldestEntry::Entry(k);
     }
-    oldest_from(state, at + 344, k + 1, n - 1, w)
+    oldest_from(state, at + state::ENTRY, k + 1, n - 1, w)
 }
 
 // The oldest message of the operation w.
 pub fn oldest(state: &[u8], slot: usize, w: u16) -> OldestEntry
-    requires { ⌜ slot + 4096 ≤ length (now state) ⌝ }
+    requires { ⌜ slot + slotSize ≤ length (now state) ⌝ }
     ensures { λ r. ⌜ r ≡ oldestIn w (readSession (now (state .entry)) slot .queue) ⌝ }
 {
-    oldest_from(state, slot + 1040, 0, 4, w)
+    oldest_from(state, slot + state::QUEUE, 0, 4, w)
 }
 
 fn put(state: &mut [u8], at: usize, x: u8)
@@ -188,13 +189,13 @@ fn move_up(state: &mut [u8], at: usize, by: usize, n: usize)
 
 // Takes the entry k out of the queue: the entries after it move up, and the last one is unused.
 pub fn remove(state: &mut [u8], slot: usize, k: usize)
-    requires { ⌜ (slot + 4096 ≤ length (now state)) × (k < 4) ⌝ }
+    requires { ⌜ (slot + slotSize ≤ length (now state)) × (k < 4) ⌝ }
     ensures { λ _. ⌜ now (state .exit) ≡ removed (now (state .entry)) slot k ⌝ }
 {
-    let at = slot + 1040 + 344 * k;
-    let n = 344 * (3 - k);
-    move_up(state, at, 344, n);
-    clear(state, at + n, 344);
+    let at = state::entry_start(slot, k);
+    let n = state::ENTRY * (3 - k);
+    move_up(state, at, state::ENTRY, n);
+    clear(state, at + n, state::ENTRY);
 }
 
 fn reply_kind(to: ReplyTo) -> u8
@@ -239,13 +240,13 @@ fn put_head(state: &mut [u8], at: usize, w: u16, to: ReplyTo, len: u16)
     put_reply(state, at + 4, to);
 }
 
-// Writes an entry's message, the `len` bytes of `message` from `start` on, and zeros: 336 bytes.
+// Writes an entry's message, the `len` bytes of `message` from `start` on, and zeros.
 fn put_message(state: &mut [u8], at: usize, message: &[u8], start: usize, len: usize)
-    requires { ⌜ (at + 336 ≤ length (now state)) × (start + len ≤ length (now message)) × (len ≤ 336) ⌝ }
-    ensures { λ _. ⌜ now (state .exit) ≡ written (now (state .entry)) at (padded 336 (part (now (message .entry)) start len)) ⌝ }
+    requires { ⌜ (at + messageRoom ≤ length (now state)) × (start + len ≤ length (now message)) × (len ≤ messageRoom) ⌝ }
+    ensures { λ _. ⌜ now (state .exit) ≡ written (now (state .entry)) at (padded messageRoom (part (now (message .entry)) start len)) ⌝ }
 {
     copy(state, at, message, start, len);
-    clear(state, at + len, 336 - len);
+    clear(state, at + len, state::MESSAGE_ROOM - len);
 }
 
 // Queues one more message, the `len` bytes of `message` from `start` on, at the first unused entry; a full queue stays.
@@ -258,14 +259,14 @@ pub fn push(
     start: usize,
     len: usize,
 )
-    requires { ⌜ (slot + 4096 ≤ length (now state)) × (w < 255) × (start + len ≤ length (now message)) × (len ≤ 336) ⌝ }
+    requires { ⌜ (slot + slotSize ≤ length (now state)) × (w < 255) × (start + len ≤ length (now message)) × (len ≤ messageRoom) ⌝ }
     ensures { λ _. ⌜ now (state .exit) ≡ pushed (now (state .entry)) slot w (replyOf to) (part (now (message .entry)) start len) ⌝ }
 {
     let k = count(state, slot);
     if 4 <= k {
         return;
     }
-    let at = slot + 1040 + 344 * k;
+    let at = state::entry_start(slot, k);
     put_head(state, at, w, to, len as u16);
     put_message(state, at + 8, message, start, len);
 }

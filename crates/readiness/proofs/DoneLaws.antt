@@ -16,7 +16,7 @@ use Rattle.network.specs.Decode.{branchesFrom, behaviourFrom, behaviourTo, beha
 use Rattle.network.specs.TestLaws.{one-less}
 use Rattle.rows.specs.Readers.{behaviourRowAs, behaviourRowOf}
 use Rattle.state.specs.Session.{Progress, undone, done, waits, received, taken, Progresses}
-use Rattle.moves.specs.Readiness.{ifTaken, thenOrElse, isDone}
+use Rattle.moves.specs.Readiness.{ifTaken, thenOrElse, isDone, branchDone}
 use Rattle.readiness.specs.declared.Deciders.{Deciders}
 use Rattle.readiness.specs.Parts.{branchAt, branchDeciders, decidersIn, decidersOf}
 
@@ -87,17 +87,17 @@ unfolding branchDeciders
 no-deciders s first k = refl
 
 branch-decides : (s : List ℕ) (p : Progresses) (f : ℕ → Behaviour) (first n k : ℕ)
-    → isDone p k (branchesFrom s f first n) ≡ decided (λ a. isDone p 0 (f a)) (branchDeciders s first n k)
-unfolding branchesFrom isDone
-branch-decides s p f first zero k = ap (decided (λ a. isDone p 0 (f a))) (no-deciders s first k)
+    → branchDone p k (branchesFrom s f first n) ≡ decided (λ a. isDone p (f a)) (branchDeciders s first n k)
+unfolding branchesFrom isDone branchDone
+branch-decides s p f first zero k = ap (decided (λ a. isDone p (f a))) (no-deciders s first k)
 branch-decides s p f first (suc zero) k =
-    sym (ap (decided (λ a. isDone p 0 (f a))) (the-deciders s first 1 k first (λ e. omega arith) (first-of-one first k)))
+    sym (ap (decided (λ a. isDone p (f a))) (the-deciders s first 1 k first (λ e. omega arith) (first-of-one first k)))
 branch-decides s p f first (suc (suc n)) zero =
-    sym (ap (decided (λ a. isDone p 0 (f a))) (the-deciders s first (suc (suc n)) 0 first (λ e. omega arith) (first-of-many first n)))
+    sym (ap (decided (λ a. isDone p (f a))) (the-deciders s first (suc (suc n)) 0 first (λ e. omega arith) (first-of-many first n)))
 branch-decides s p f first (suc (suc n)) (suc k) =
     let r = suc first + clipped (suc n) k in
     branch-decides s p f (suc first) (suc n) k
-    ∙ ap (decided (λ a. isDone p 0 (f a))) (the-deciders s (suc first) (suc n) k r (λ e. omega arith) refl
+    ∙ ap (decided (λ a. isDone p (f a))) (the-deciders s (suc first) (suc n) k r (λ e. omega arith) refl
     ∙ sym (the-deciders s first (suc (suc n)) (suc k) r (λ e. omega arith) (next-of-many first n k)))
 
 -- ---- a row
@@ -114,8 +114,8 @@ part-decides : (f : ℕ → Bool) (a b j : ℕ) → thenOrElse j (f a) (f b) ≡
 part-decides f a b zero = refl
 part-decides f a b (suc j) = refl
 
-kind-decides : (s : List ℕ) (p : Progresses) (d r at : ℕ) (k : BehaviourKind) → isDone p 0 (behaviourFrom s (behaviourTo s d) r at k)
-    ≡ decided (λ a. isDone p 0 (behaviourTo s d a)) (decidersIn s (p r) (behaviourRowAs k (fieldA s at) (fieldB s at) (fieldC s at) (fieldD s at)))
+kind-decides : (s : List ℕ) (p : Progresses) (d r at : ℕ) (k : BehaviourKind) → isDone p (behaviourFrom s (behaviourTo s d) r at k)
+    ≡ decided (λ a. isDone p (behaviourTo s d a)) (decidersIn s (p r) (behaviourRowAs k (fieldA s at) (fieldB s at) (fieldC s at) (fieldD s at)))
 unfolding behaviourFrom behaviourRowAs isDone decidersIn
 kind-decides s p d r at BehaviourKind.Nil = refl
 kind-decides s p d r at BehaviourKind.OneWay = refl
@@ -123,55 +123,55 @@ kind-decides s p d r at BehaviourKind.RequestResponse = refl
 kind-decides s p d r at BehaviourKind.Notification = refl
 kind-decides s p d r at BehaviourKind.SolicitResponse = refl
 kind-decides s p d r at BehaviourKind.If =
-    taken-decides (λ a. isDone p 0 (behaviourTo s d a)) (p r)
-    (λ j. thenOrElse j (isDone p 0 (behaviourTo s d (fieldB s at))) (isDone p 0 (behaviourTo s d (fieldC s at))))
+    taken-decides (λ a. isDone p (behaviourTo s d a)) (p r)
+    (λ j. thenOrElse j (isDone p (behaviourTo s d (fieldB s at))) (isDone p (behaviourTo s d (fieldC s at))))
     (λ j. thenOrElse j (Deciders.One (fieldB s at)) (Deciders.One (fieldC s at)))
-    (part-decides (λ a. isDone p 0 (behaviourTo s d a)) (fieldB s at) (fieldC s at))
+    (part-decides (λ a. isDone p (behaviourTo s d a)) (fieldB s at) (fieldC s at))
 kind-decides s p d r at BehaviourKind.While = refl
 kind-decides s p d r at BehaviourKind.Sequence = refl
 kind-decides s p d r at BehaviourKind.Parallel = refl
 kind-decides s p d r at BehaviourKind.Assign = refl
 kind-decides s p d r at BehaviourKind.Choice =
-    taken-decides (λ a. isDone p 0 (behaviourTo s d a)) (p r) (λ j. isDone p j (branchesFrom s (behaviourTo s d) (fieldA s at) (fieldB s at)))
+    taken-decides (λ a. isDone p (behaviourTo s d a)) (p r) (λ j. branchDone p j (branchesFrom s (behaviourTo s d) (fieldA s at) (fieldB s at)))
     (λ j. branchDeciders s (fieldA s at) (fieldB s at) j) (branch-decides s p (behaviourTo s d) (fieldA s at) (fieldB s at))
 kind-decides s p d r at BehaviourKind.Branch = refl
 kind-decides s p d r at BehaviourKind.Unknown = refl
 
 row-decides : (s : List ℕ) (p : Progresses) (d r : ℕ)
-    → isDone p 0 (behaviourTo s (suc d) r) ≡ decided (λ a. isDone p 0 (behaviourTo s d a)) (decidersOf s p r)
+    → isDone p (behaviourTo s (suc d) r) ≡ decided (λ a. isDone p (behaviourTo s d a)) (decidersOf s p r)
 unfolding behaviourTo decidersOf behaviourRowOf
 row-decides s p d r = kind-decides s p d r (behaviourAt s r) (kindAt s r)
 
-pub done-none : (s : List ℕ) (p : Progresses) (left r : ℕ) → left ≡ 0 → true ≡ isDone p 0 (behaviourTo s left r)
+pub done-none : (s : List ℕ) (p : Progresses) (left r : ℕ) → left ≡ 0 → true ≡ isDone p (behaviourTo s left r)
 unfolding behaviourTo isDone
 done-none s p left r e = rw e refl
 
 module _ (s : List ℕ) (p : Progresses) (left r : ℕ) (h : left ≡ 0 → ⊥) {d : Deciders} (e : d ≡ decidersOf s p r) where
-  by-deciders : {y : Deciders} → d ≡ y → isDone p 0 (behaviourTo s left r) ≡ decided (λ a. isDone p 0 (behaviourTo s (left - 1) a)) y
+  by-deciders : {y : Deciders} → d ≡ y → isDone p (behaviourTo s left r) ≡ decided (λ a. isDone p (behaviourTo s (left - 1) a)) y
   by-deciders f =
-      ap (λ (l : ℕ). isDone p 0 (behaviourTo s l r)) (one-less left h)
-      ∙ (row-decides s p (left - 1) r ∙ ap (decided (λ a. isDone p 0 (behaviourTo s (left - 1) a))) (sym e ∙ f))
+      ap (λ (l : ℕ). isDone p (behaviourTo s l r)) (one-less left h)
+      ∙ (row-decides s p (left - 1) r ∙ ap (decided (λ a. isDone p (behaviourTo s (left - 1) a))) (sym e ∙ f))
 
-  pub done-settled : {x : Bool} → d ≡ Deciders.Settled x → x ≡ isDone p 0 (behaviourTo s left r)
+  pub done-settled : {x : Bool} → d ≡ Deciders.Settled x → x ≡ isDone p (behaviourTo s left r)
   done-settled f = sym (by-deciders f)
 
-  pub done-one : {a : ℕ} {x : Bool} → d ≡ Deciders.One a → x ≡ isDone p 0 (behaviourTo s (left - 1) a) → x ≡ isDone p 0 (behaviourTo s left r)
+  pub done-one : {a : ℕ} {x : Bool} → d ≡ Deciders.One a → x ≡ isDone p (behaviourTo s (left - 1) a) → x ≡ isDone p (behaviourTo s left r)
   done-one f g = g ∙ sym (by-deciders f)
 
-  pub done-both : {a b : ℕ} {x y : Bool} → d ≡ Deciders.Both a b → x ≡ isDone p 0 (behaviourTo s (left - 1) a) → x ≡ true
-      → y ≡ isDone p 0 (behaviourTo s (left - 1) b) → y ≡ isDone p 0 (behaviourTo s left r)
+  pub done-both : {a b : ℕ} {x y : Bool} → d ≡ Deciders.Both a b → x ≡ isDone p (behaviourTo s (left - 1) a) → x ≡ true
+      → y ≡ isDone p (behaviourTo s (left - 1) b) → y ≡ isDone p (behaviourTo s left r)
   done-both {a} {b} f g t i =
-      i ∙ sym (by-deciders f ∙ ap (λ (z : Bool). z && isDone p 0 (behaviourTo s (left - 1) b)) (sym g ∙ t))
+      i ∙ sym (by-deciders f ∙ ap (λ (z : Bool). z && isDone p (behaviourTo s (left - 1) b)) (sym g ∙ t))
 
-  pub done-not : {a b : ℕ} {x : Bool} → d ≡ Deciders.Both a b → x ≡ isDone p 0 (behaviourTo s (left - 1) a) → x ≡ false
-      → false ≡ isDone p 0 (behaviourTo s left r)
-  done-not {a} {b} f g t = sym (by-deciders f ∙ ap (λ (z : Bool). z && isDone p 0 (behaviourTo s (left - 1) b)) (sym g ∙ t))
+  pub done-not : {a b : ℕ} {x : Bool} → d ≡ Deciders.Both a b → x ≡ isDone p (behaviourTo s (left - 1) a) → x ≡ false
+      → false ≡ isDone p (behaviourTo s left r)
+  done-not {a} {b} f g t = sym (by-deciders f ∙ ap (λ (z : Bool). z && isDone p (behaviourTo s (left - 1) b)) (sym g ∙ t))
 
 pub ruleset done-row-laws = (done-none, done-settled, done-one, done-both, done-not)
 
-pub done-whole : (s : List ℕ) (p : Progresses) (n r : ℕ) {x : Bool} → n ≡ behaviourCount s → x ≡ isDone p 0 (behaviourTo s n r)
-    → x ≡ isDone p 0 (behaviourOf s r)
+pub done-whole : (s : List ℕ) (p : Progresses) (n r : ℕ) {x : Bool} → n ≡ behaviourCount s → x ≡ isDone p (behaviourTo s n r)
+    → x ≡ isDone p (behaviourOf s r)
 unfolding behaviourOf
-done-whole s p n r e f = f ∙ ap (λ (l : ℕ). isDone p 0 (behaviourTo s l r)) e
+done-whole s p n r e f = f ∙ ap (λ (l : ℕ). isDone p (behaviourTo s l r)) e
 
 pub ruleset is-done-laws = (done-whole)

@@ -6,11 +6,12 @@ use mathlib.Core.Bool.{Bool, true, false}
 use native.Mathlib.Omega.{arith}
 use lib.Dec.{eqb, ltb}
 use borrow.Author.Tests.{eq-eqb, ne-eqb, lt-ltb, le-ltb}
-use Rattle.wire.specs.Wire.{u16At}
 use Rattle.scalar.specs.Value.{pick}
 use Rattle.network.specs.Layout.{behaviourAt}
+use Rattle.network.specs.Rows.{fieldA, fieldB}
 use Rattle.rows.specs.declared.BehaviourRow.{BehaviourRow}
-use Rattle.rows.specs.Readers.{behaviourRowOf}
+use Rattle.rows.specs.declared.BranchRow.{BranchRow}
+use Rattle.rows.specs.Readers.{behaviourRowOf, BranchAt}
 use Rattle.state.specs.Session.{Progress, undone, done, waits, received, taken, Progresses}
 use Rattle.progress.specs.declared.Progress as coded
 use Rattle.progress.specs.declared.Progress.the-variants.{Undone, Done, Waits, Taken, FromOutsider, FromRow, FromNobody}
@@ -20,8 +21,7 @@ use Rattle.network.specs.Decode.{behaviourOf}
 use Rattle.readiness.specs.declared.Part.{Part}
 use Rattle.readiness.specs.declared.Deciders.{Deciders}
 use Rattle.readiness.specs.declared.Ways.{Ways}
-use Rattle.readiness.specs.declared.Body.{Body}
-use Rattle.readiness.specs.Parts.{branchAt, branchDeciders, decidersIn, decidersOf, inOrder, branchWays, waysIn, waysOf, bodyIn, bodyOf}
+use Rattle.readiness.specs.Parts.{branchAt, branchDeciders, decidersIn, decidersOf, inOrder, branchWays, waysIn, waysOf}
 
 -- ---- the progress of a row
 
@@ -185,10 +185,10 @@ pub no-branch : (s : List ℕ) (first n k : ℕ) → n ≡ 0 → Deciders.Settle
 unfolding branchDeciders
 no-branch s first n k e = rw (eq-eqb n 0 e) refl
 
-pub the-branch : (s : List ℕ) (first n k at a b : ℕ) → (n ≡ 0 → ⊥) → (at ≡ branchAt s first n k) × (at < 2000000) → a ≡ u16At s (at + 2) → b ≡ u16At s (at + 4)
-    → Deciders.Both a b ≡ branchDeciders s first n k
+pub the-branch : (s : List ℕ) (first n k at : ℕ) (b : BranchRow) → (n ≡ 0 → ⊥) → (at ≡ branchAt s first n k) × (at < 2000000) → BranchAt s at b
+    → Deciders.Both (b .input) (b .follow) ≡ branchDeciders s first n k
 unfolding branchDeciders
-the-branch s first n k at a b h e f g = rw (ne-eqb n 0 h, f, g, e .0) refl
+the-branch s first n k at b h e f = rw (ne-eqb n 0 h, f .input, f .follow, e .0) refl
 
 pub ruleset branch-laws = (no-branch, the-branch)
 
@@ -252,11 +252,11 @@ pub ruleset deciders-laws =
 
 -- ---- the rows through which a row is passed
 
-pub first-done : (s : List ℕ) (p : Progresses) (a b : ℕ) {t : Bool} → t ≡ isDone p 0 (behaviourOf s a) → t ≡ true → Ways.Two a b ≡ inOrder s p a b
+pub first-done : (s : List ℕ) (p : Progresses) (a b : ℕ) {t : Bool} → t ≡ isDone p (behaviourOf s a) → t ≡ true → Ways.Two a b ≡ inOrder s p a b
 unfolding inOrder
 first-done s p a b e h = rw (sym e ∙ h) refl
 
-pub first-undone : (s : List ℕ) (p : Progresses) (a b : ℕ) {t : Bool} → t ≡ isDone p 0 (behaviourOf s a) → t ≡ false → Ways.One a ≡ inOrder s p a b
+pub first-undone : (s : List ℕ) (p : Progresses) (a b : ℕ) {t : Bool} → t ≡ isDone p (behaviourOf s a) → t ≡ false → Ways.One a ≡ inOrder s p a b
 unfolding inOrder
 first-undone s p a b e h = rw (sym e ∙ h) refl
 
@@ -266,12 +266,12 @@ pub no-branch-ways : (s : List ℕ) (p : Progresses) (first n k : ℕ) → n ≡
 unfolding branchWays
 no-branch-ways s p first n k e = rw (eq-eqb n 0 e) refl
 
-pub the-branch-ways : (s : List ℕ) (p : Progresses) (first n k at a b : ℕ) {w : Ways} → (n ≡ 0 → ⊥) → (at ≡ branchAt s first n k) × (at < 2000000)
-    → a ≡ u16At s (at + 2) → b ≡ u16At s (at + 4) → w ≡ inOrder s p a b → w ≡ branchWays s p first n k
+pub the-branch-ways : (s : List ℕ) (p : Progresses) (first n k at : ℕ) (b : BranchRow) {w : Ways} → (n ≡ 0 → ⊥)
+    → (at ≡ branchAt s first n k) × (at < 2000000) → BranchAt s at b → w ≡ inOrder s p (b .input) (b .follow) → w ≡ branchWays s p first n k
 unfolding branchWays
-the-branch-ways s p first n k at a b h e f g w =
-    rw (ne-eqb n 0 h) (w ∙ ap (λ (y : ℕ). inOrder s p y b) (f ∙ ap (λ (y : ℕ). u16At s (y + 2)) (e .0))
-    ∙ ap (inOrder s p (u16At s (branchAt s first n k + 2))) (g ∙ ap (λ (y : ℕ). u16At s (y + 4)) (e .0)))
+the-branch-ways s p first n k at b h e f w =
+    rw (ne-eqb n 0 h) (w ∙ ap (λ (y : ℕ). inOrder s p y (b .follow)) (f .input ∙ ap (fieldA s) (e .0))
+    ∙ ap (inOrder s p (fieldA s (branchAt s first n k))) (f .follow ∙ ap (fieldB s) (e .0)))
 
 pub ruleset branch-ways-laws = (no-branch-ways, the-branch-ways)
 
@@ -312,29 +312,31 @@ pub ruleset while-way-laws = (while-way-none, while-way-taken)
 
 pub ruleset choice-way-laws = (choice-way-none, choice-way-taken)
 
+-- What a received row gives, and any other.
+module _ {A : Type 0} (a b : A) {t : Bool} where
+  pub received-gives : (q : Progress) → t ≡ ifReceived q false true → t ≡ true → ifReceived q a b ≡ b
+  received-gives undone e h = absurd (let z : _≡_ {A = ℕ} 0 1 = cc in omega arith)
+  received-gives done e h = absurd (let z : _≡_ {A = ℕ} 0 1 = cc in omega arith)
+  received-gives waits e h = absurd (let z : _≡_ {A = ℕ} 0 1 = cc in omega arith)
+  received-gives (received to) e h = refl
+  received-gives (taken k) e h = absurd (let z : _≡_ {A = ℕ} 0 1 = cc in omega arith)
+
+  pub unreceived-gives : (q : Progress) → t ≡ ifReceived q false true → t ≡ false → ifReceived q a b ≡ a
+  unreceived-gives undone e h = refl
+  unreceived-gives done e h = refl
+  unreceived-gives waits e h = refl
+  unreceived-gives (received to) e h = absurd (let z : _≡_ {A = ℕ} 0 1 = cc in omega arith)
+  unreceived-gives (taken k) e h = refl
+
 pub was-received : (s : List ℕ) (p : Progresses) (r o x c d : ℕ) {t : Bool} → t ≡ ifReceived (p r) false true → t ≡ true
     → Ways.One d ≡ waysIn s p r (BehaviourRow.RequestResponse o x c d)
 unfolding waysIn
-was-received s p r o x c d e h = by (p r) (sym e ∙ h)
-  where
-    by : (q : Progress) → ifReceived q false true ≡ true → Ways.One d ≡ ifReceived q Ways.Nowhere (Ways.One d)
-    by undone g = absurd (let z : _≡_ {A = ℕ} 0 1 = cc in omega arith)
-    by done g = absurd (let z : _≡_ {A = ℕ} 0 1 = cc in omega arith)
-    by waits g = absurd (let z : _≡_ {A = ℕ} 0 1 = cc in omega arith)
-    by (received to) g = refl
-    by (taken k) g = absurd (let z : _≡_ {A = ℕ} 0 1 = cc in omega arith)
+was-received s p r o x c d e h = sym (received-gives Ways.Nowhere (Ways.One d) (p r) e h)
 
 pub not-received : (s : List ℕ) (p : Progresses) (r o x c d : ℕ) {t : Bool} → t ≡ ifReceived (p r) false true → t ≡ false
     → Ways.Nowhere ≡ waysIn s p r (BehaviourRow.RequestResponse o x c d)
 unfolding waysIn
-not-received s p r o x c d e h = by (p r) (sym e ∙ h)
-  where
-    by : (q : Progress) → ifReceived q false true ≡ false → Ways.Nowhere ≡ ifReceived q Ways.Nowhere (Ways.One d)
-    by undone g = refl
-    by done g = refl
-    by waits g = refl
-    by (received to) g = absurd (let z : _≡_ {A = ℕ} 0 1 = cc in omega arith)
-    by (taken k) g = refl
+not-received s p r o x c d e h = sym (unreceived-gives Ways.Nowhere (Ways.One d) (p r) e h)
 
 pub ruleset response-laws = (was-received, not-received)
 
@@ -407,84 +409,3 @@ pub ruleset ways-laws = (
   ways-while,
   ways-choice,
 )
-
--- ---- the body of a received input
-
-module _ (s : List ℕ) (p : Progresses) (r : ℕ) (x : BehaviourRow) (e : x ≡ behaviourRowOf s r) where
-  body-by : {y : BehaviourRow} {b : Body} → x ≡ y → b ≡ bodyIn p r y → b ≡ bodyOf s p r
-  unfolding bodyOf
-  body-by h g = g ∙ ap (bodyIn p r) (sym h ∙ e)
-
-  pub body-nil : x ≡ BehaviourRow.Nil → Body.Nothing ≡ bodyOf s p r
-  unfolding bodyIn
-  body-nil h = body-by h refl
-
-  pub body-one-way : {a b : ℕ} → x ≡ BehaviourRow.OneWay a b → Body.Nothing ≡ bodyOf s p r
-  unfolding bodyIn
-  body-one-way h = body-by h refl
-
-  pub body-notification : {a b : ℕ} → x ≡ BehaviourRow.Notification a b → Body.Nothing ≡ bodyOf s p r
-  unfolding bodyIn
-  body-notification h = body-by h refl
-
-  pub body-solicit : {a b c : ℕ} → x ≡ BehaviourRow.SolicitResponse a b c → Body.Nothing ≡ bodyOf s p r
-  unfolding bodyIn
-  body-solicit h = body-by h refl
-
-  pub body-if : {a b c : ℕ} → x ≡ BehaviourRow.If a b c → Body.Nothing ≡ bodyOf s p r
-  unfolding bodyIn
-  body-if h = body-by h refl
-
-  pub body-while : {a b : ℕ} → x ≡ BehaviourRow.While a b → Body.Nothing ≡ bodyOf s p r
-  unfolding bodyIn
-  body-while h = body-by h refl
-
-  pub body-sequence : {a b : ℕ} → x ≡ BehaviourRow.Sequence a b → Body.Nothing ≡ bodyOf s p r
-  unfolding bodyIn
-  body-sequence h = body-by h refl
-
-  pub body-parallel : {a b : ℕ} → x ≡ BehaviourRow.Parallel a b → Body.Nothing ≡ bodyOf s p r
-  unfolding bodyIn
-  body-parallel h = body-by h refl
-
-  pub body-assign : {a b : ℕ} → x ≡ BehaviourRow.Assign a b → Body.Nothing ≡ bodyOf s p r
-  unfolding bodyIn
-  body-assign h = body-by h refl
-
-  pub body-choice : {a b : ℕ} → x ≡ BehaviourRow.Choice a b → Body.Nothing ≡ bodyOf s p r
-  unfolding bodyIn
-  body-choice h = body-by h refl
-
-  pub body-branch : {a b : ℕ} → x ≡ BehaviourRow.Branch a b → Body.Nothing ≡ bodyOf s p r
-  unfolding bodyIn
-  body-branch h = body-by h refl
-
-  pub body-unknown : x ≡ BehaviourRow.Unknown → Body.Nothing ≡ bodyOf s p r
-  unfolding bodyIn
-  body-unknown h = body-by h refl
-
-  pub body-received : {a b c d : ℕ} {t : Bool} → x ≡ BehaviourRow.RequestResponse a b c d → t ≡ ifReceived (p r) false true → t ≡ true → Body.Row d ≡ bodyOf s p r
-  unfolding bodyIn
-  body-received {d} h f g = body-by h (by (p r) (sym f ∙ g))
-    where
-      by : (q : Progress) → ifReceived q false true ≡ true → Body.Row d ≡ ifReceived q Body.Nothing (Body.Row d)
-      by undone g = absurd (let z : _≡_ {A = ℕ} 0 1 = cc in omega arith)
-      by done g = absurd (let z : _≡_ {A = ℕ} 0 1 = cc in omega arith)
-      by waits g = absurd (let z : _≡_ {A = ℕ} 0 1 = cc in omega arith)
-      by (received to) g = refl
-      by (taken k) g = absurd (let z : _≡_ {A = ℕ} 0 1 = cc in omega arith)
-
-  pub body-unreceived : {a b c d : ℕ} {t : Bool} → x ≡ BehaviourRow.RequestResponse a b c d → t ≡ ifReceived (p r) false true → t ≡ false
-      → Body.Nothing ≡ bodyOf s p r
-  unfolding bodyIn
-  body-unreceived {d} h f g = body-by h (by (p r) (sym f ∙ g))
-    where
-      by : (q : Progress) → ifReceived q false true ≡ false → Body.Nothing ≡ ifReceived q Body.Nothing (Body.Row d)
-      by undone g = refl
-      by done g = refl
-      by waits g = refl
-      by (received to) g = absurd (let z : _≡_ {A = ℕ} 0 1 = cc in omega arith)
-      by (taken k) g = refl
-
-pub ruleset body-laws =
-    (body-nil, body-one-way, body-notification, body-solicit, body-if, body-while, body-sequence, body-parallel, body-assign, body-choice, body-branch, body-unknown, body-received, body-unreceived)

@@ -1,4 +1,3 @@
 pub mod Parts
 pub mod Reaching
 pub mod ReachedLaws
-pub mod NumberLaws

@@ -14,7 +14,6 @@ use Rattle.state.specs.Session.{Progress, Progresses}
 use Rattle.moves.specs.Readiness.{ifDone, ifReceived, ifTaken, thenOrElse, isDone}
 use Rattle.readiness.specs.declared.Deciders.{Deciders}
 use Rattle.readiness.specs.declared.Ways.{Ways}
-use Rattle.readiness.specs.declared.Body.{Body}
 
 -- The place of the branch k of the n from row `first` on; past the last one, the last.
 unfoldable pub branchAt : List ℕ → ℕ → ℕ → ℕ → ℕ
@@ -46,7 +45,7 @@ decidersOf s p r = decidersIn s (p r) (behaviourRowOf s r)
 
 -- "nothing before it in a sequence is undone": the second part counts once the first is done.
 unfoldable pub inOrder : List ℕ → Progresses → ℕ → ℕ → Ways
-inOrder s p a b = pick (isDone p 0 (behaviourOf s a)) (Ways.Two a b) (Ways.One a)
+inOrder s p a b = pick (isDone p (behaviourOf s a)) (Ways.Two a b) (Ways.One a)
 
 unfoldable pub branchWays : List ℕ → Progresses → ℕ → ℕ → ℕ → Ways
 branchWays s p first n k = pick (eqb n 0) Ways.Nowhere (inOrder s p (fieldA s (branchAt s first n k)) (fieldB s (branchAt s first n k)))
@@ -70,22 +69,3 @@ waysIn s p r BehaviourRow.Unknown = Ways.Nowhere
 
 unfoldable pub waysOf : List ℕ → Progresses → ℕ → Ways
 waysOf s p r = waysIn s p r (behaviourRowOf s r)
-
--- The body of row r, if that is a received request-response.
-unfoldable pub bodyIn : Progresses → ℕ → BehaviourRow → Body
-bodyIn p r BehaviourRow.Nil = Body.Nothing
-bodyIn p r (BehaviourRow.OneWay o x) = Body.Nothing
-bodyIn p r (BehaviourRow.RequestResponse o x c d) = ifReceived (p r) Body.Nothing (Body.Row d)
-bodyIn p r (BehaviourRow.Notification o e) = Body.Nothing
-bodyIn p r (BehaviourRow.SolicitResponse o e x) = Body.Nothing
-bodyIn p r (BehaviourRow.If e a b) = Body.Nothing
-bodyIn p r (BehaviourRow.While e b) = Body.Nothing
-bodyIn p r (BehaviourRow.Sequence a b) = Body.Nothing
-bodyIn p r (BehaviourRow.Parallel a b) = Body.Nothing
-bodyIn p r (BehaviourRow.Assign x e) = Body.Nothing
-bodyIn p r (BehaviourRow.Choice first n) = Body.Nothing
-bodyIn p r (BehaviourRow.Branch a b) = Body.Nothing
-bodyIn p r BehaviourRow.Unknown = Body.Nothing
-
-unfoldable pub bodyOf : List ℕ → Progresses → ℕ → Body
-bodyOf s p r = bodyIn p r (behaviourRowOf s r)

@@ -6,16 +6,17 @@ use Prim.Native.Nat.{ℕ, zero, suc, _<_}
 use native.Mathlib.Omega.{arith}
 use lib.Dec.{T, eqb, eqb-refl}
 use Rattle.syntax.specs.Syntax.{Behaviour, nil, oneWay, requestResponse, notification, solicitResponse, ifThenElse, whileDo}
-use Rattle.syntax.specs.Syntax.{sequence, parallel, assign, choice, branch, lastBranch, waiting, answering}
-use Rattle.syntax.specs.Rows.{rowOf, hasRow}
+use Rattle.syntax.specs.Syntax.{sequence, parallel, assign, choice, waiting, answering, Branches, lastBranch, branch}
+use Rattle.syntax.specs.Rows.{rowOf, hasRow, hasRowIn}
+use Rattle.syntax.specs.ViewLaws.{own-row}
 use Rattle.network.specs.Form.{WellFormed}
 use Rattle.network.specs.Layout.{behaviourCount}
 use Rattle.network.specs.Decode.{behaviourOf}
-use Rattle.network.specs.OnceLaws.{or-left, or-right, rows-of}
+use Rattle.network.specs.OnceLaws.{or-left, or-right, or-case, rows-of}
 use Rattle.network.specs.BehaviourLaws.{row-of}
 use Rattle.state.specs.Session.{Progress, undone, done, waits, received, taken, Progresses}
 use Rattle.moves.specs.Readiness.{Reached, unreached, reached, offered, here, orElse, onlyIf}
-use Rattle.moves.specs.Readiness.{offeredIf, firstOr, ifReceived, ifTaken, thenOrElse, isDone, offer, reach, served}
+use Rattle.moves.specs.Readiness.{offeredIf, firstOr, ifReceived, ifTaken, thenOrElse, isDone, offer, reach, reachBranch, served}
 use Rattle.readiness.specs.declared.Reached as rows
 use Rattle.readiness.specs.Reaching.{reachedAs, Reaches}
 
@@ -30,23 +31,8 @@ RowsIn P (offered c k b) = P c × P (rowOf b)
 abbrev Each : (ℕ → Type 0) → Behaviour → Type 0
 Each P B = (j : ℕ) → T (hasRow j B) → P j
 
-own-row : (B : Behaviour) → T (hasRow (rowOf B) B)
-unfolding hasRow rowOf
-own-row (nil r) = eqb-refl r
-own-row (oneWay r o x) = eqb-refl r
-own-row (requestResponse r o x c d) = or-left (eqb r r) (hasRow r d) (eqb-refl r)
-own-row (notification r o e) = eqb-refl r
-own-row (solicitResponse r o e x) = eqb-refl r
-own-row (ifThenElse r e a b) = or-left (eqb r r) (hasRow r a || hasRow r b) (eqb-refl r)
-own-row (whileDo r e b) = or-left (eqb r r) (hasRow r b) (eqb-refl r)
-own-row (sequence r a b) = or-left (eqb r r) (hasRow r a || hasRow r b) (eqb-refl r)
-own-row (parallel r a b) = or-left (eqb r r) (hasRow r a || hasRow r b) (eqb-refl r)
-own-row (assign r x e) = eqb-refl r
-own-row (choice r m) = or-left (eqb r r) (hasRow r m) (eqb-refl r)
-own-row (branch r a b m) = or-left (eqb r r) ((hasRow r a || hasRow r b) || hasRow r m) (eqb-refl r)
-own-row (lastBranch r a b) = or-left (eqb r r) (hasRow r a || hasRow r b) (eqb-refl r)
-own-row (waiting r o x) = eqb-refl r
-own-row (answering r o c d) = or-left (eqb r r) (hasRow r d) (eqb-refl r)
+abbrev EachIn : (ℕ → Type 0) → Branches → Type 0
+EachIn P m = (j : ℕ) → T (hasRowIn j m) → P j
 
 module _ (P : ℕ → Type 0) where
   only : (r : ℕ) (d : Behaviour) → ((j : ℕ) → T (eqb j r || hasRow j d) → P j) → Each P d
@@ -58,19 +44,18 @@ module _ (P : ℕ → Type 0) where
   second : (r : ℕ) (a b : Behaviour) → ((j : ℕ) → T (eqb j r || (hasRow j a || hasRow j b)) → P j) → Each P b
   second r a b h j t = h j (or-right (eqb j r) (hasRow j a || hasRow j b) (or-right (hasRow j a) (hasRow j b) t))
 
-  input-of : (r : ℕ) (a b m : Behaviour) → ((j : ℕ) → T (eqb j r || ((hasRow j a || hasRow j b) || hasRow j m)) → P j) → Each P a
-  input-of r a b m h j t =
-      h j (or-right (eqb j r) ((hasRow j a || hasRow j b) || hasRow j m)
-      (or-left (hasRow j a || hasRow j b) (hasRow j m) (or-left (hasRow j a) (hasRow j b) t)))
+  in-choice : (r : ℕ) (m : Branches) → ((j : ℕ) → T (eqb j r || hasRowIn j m) → P j) → EachIn P m
+  in-choice r m h j t = h j (or-right (eqb j r) (hasRowIn j m) t)
 
-  then-of : (r : ℕ) (a b m : Behaviour) → ((j : ℕ) → T (eqb j r || ((hasRow j a || hasRow j b) || hasRow j m)) → P j) → Each P b
-  then-of r a b m h j t =
-      h j (or-right (eqb j r) ((hasRow j a || hasRow j b) || hasRow j m)
-      (or-left (hasRow j a || hasRow j b) (hasRow j m) (or-right (hasRow j a) (hasRow j b) t)))
+  branch-of : (r : ℕ) (a b : Behaviour) (m : Branches) → ((j : ℕ) → T (eqb j r || ((hasRow j a || hasRow j b) || hasRowIn j m)) → P j)
+      → (j : ℕ) → T (eqb j r || (hasRow j a || hasRow j b)) → P j
+  branch-of r a b m h j t =
+      h j (or-case (eqb j r) (hasRow j a || hasRow j b) (λ z. or-left (eqb j r) ((hasRow j a || hasRow j b) || hasRowIn j m) z)
+      (λ z. or-right (eqb j r) ((hasRow j a || hasRow j b) || hasRowIn j m) (or-left (hasRow j a || hasRow j b) (hasRowIn j m) z)) t)
 
-  others-of : (r : ℕ) (a b m : Behaviour) → ((j : ℕ) → T (eqb j r || ((hasRow j a || hasRow j b) || hasRow j m)) → P j) → Each P m
+  others-of : (r : ℕ) (a b : Behaviour) (m : Branches) → ((j : ℕ) → T (eqb j r || ((hasRow j a || hasRow j b) || hasRowIn j m)) → P j) → EachIn P m
   others-of r a b m h j t =
-      h j (or-right (eqb j r) ((hasRow j a || hasRow j b) || hasRow j m) (or-right (hasRow j a || hasRow j b) (hasRow j m) t))
+      h j (or-right (eqb j r) ((hasRow j a || hasRow j b) || hasRowIn j m) (or-right (hasRow j a || hasRow j b) (hasRowIn j m) t))
 
   here-rows : (t : Bool) (b : Behaviour) (x : Reached) → Each P b → RowsIn P x → RowsIn P (here t b x)
   here-rows true b x h k = h (rowOf b) (own-row b)
@@ -111,83 +96,62 @@ module _ (P : ℕ → Type 0) where
   branch-rows zero x f h i = h
   branch-rows (suc k) x f h i = i k
 
-  offer-rows : (c k i : ℕ) (B : Behaviour) → P c → Each P B → RowsIn P (offer c k i B)
-  unfolding offer hasRow
-  offer-rows c k i (nil r) h e = tt
-  offer-rows c k i (oneWay r o x) h e = tt
-  offer-rows c k i (requestResponse r o x y d) h e = tt
-  offer-rows c k i (notification r o x) h e = tt
-  offer-rows c k i (solicitResponse r o x y) h e = tt
-  offer-rows c k i (ifThenElse r x a b) h e = tt
-  offer-rows c k i (whileDo r x b) h e = tt
-  offer-rows c k i (sequence r a b) h e = tt
-  offer-rows c k i (parallel r a b) h e = tt
-  offer-rows c k i (assign r x y) h e = tt
-  offer-rows c k i (choice r m) h e = tt
-  offer-rows c k i (branch r a b m) h e =
-      offered-rows (eqb i (rowOf a)) c k a _ h (input-of r a b m e) (offer-rows c (suc k) i m h (others-of r a b m e))
+  offer-rows : (c k i : ℕ) (m : Branches) → P c → EachIn P m → RowsIn P (offer c k i m)
+  unfolding offer hasRowIn
   offer-rows c k i (lastBranch r a b) h e = offered-rows (eqb i (rowOf a)) c k a unreached h (first r a b e) tt
-  offer-rows c k i (waiting r o x) h e = tt
-  offer-rows c k i (answering r o y d) h e = tt
+  offer-rows c k i (branch r a b m) h e =
+      offered-rows (eqb i (rowOf a)) c k a _ h (first r a b (branch-of r a b m e)) (offer-rows c (suc k) i m h (others-of r a b m e))
 
-  sequence-rows : (p : Progresses) (i r : ℕ) (a b : Behaviour) → RowsIn P (reach p 0 i a) → RowsIn P (reach p 0 i b)
-      → RowsIn P (orElse (reach p 0 i a) (onlyIf (isDone p 0 a) (reach p 0 i b)))
-  sequence-rows p i r a b h k = either-rows (reach p 0 i a) _ h (only-rows (isDone p 0 a) (reach p 0 i b) k)
+  sequence-rows : (p : Progresses) (i r : ℕ) (a b : Behaviour) → RowsIn P (reach p i a) → RowsIn P (reach p i b)
+      → RowsIn P (orElse (reach p i a) (onlyIf (isDone p a) (reach p i b)))
+  sequence-rows p i r a b h k = either-rows (reach p i a) _ h (only-rows (isDone p a) (reach p i b) k)
 
   mutual
     unfolding reach served hasRow
 
-    reach-rows : (p : Progresses) (k i : ℕ) (B : Behaviour) → Each P B → RowsIn P (reach p k i B)
-    reach-rows p k i (nil r) h = here-rows (eqb i r) (nil r) unreached h tt
-    reach-rows p k i (oneWay r o x) h = here-rows (eqb i r) (oneWay r o x) unreached h tt
-    reach-rows p k i (requestResponse r o x c d) h =
-        here-rows (eqb i r) (requestResponse r o x c d) _ h (received-rows (p r) unreached (reach p 0 i d) tt (reach-rows p 0 i d (only r d h)))
-    reach-rows p k i (notification r o e) h = here-rows (eqb i r) (notification r o e) unreached h tt
-    reach-rows p k i (solicitResponse r o e x) h = here-rows (eqb i r) (solicitResponse r o e x) unreached h tt
-    reach-rows p k i (ifThenElse r e a b) h =
+    reach-rows : (p : Progresses) (i : ℕ) (B : Behaviour) → Each P B → RowsIn P (reach p i B)
+    reach-rows p i (nil r) h = here-rows (eqb i r) (nil r) unreached h tt
+    reach-rows p i (oneWay r o x) h = here-rows (eqb i r) (oneWay r o x) unreached h tt
+    reach-rows p i (requestResponse r o x c d) h =
+        here-rows (eqb i r) (requestResponse r o x c d) _ h (received-rows (p r) unreached (reach p i d) tt (reach-rows p i d (only r d h)))
+    reach-rows p i (notification r o e) h = here-rows (eqb i r) (notification r o e) unreached h tt
+    reach-rows p i (solicitResponse r o e x) h = here-rows (eqb i r) (solicitResponse r o e x) unreached h tt
+    reach-rows p i (ifThenElse r e a b) h =
         here-rows (eqb i r) (ifThenElse r e a b) _ h
-        (taken-rows (p r) unreached (λ j. thenOrElse j (reach p 0 i a) (reach p 0 i b)) tt
-        (λ j. part-rows j (reach p 0 i a) (reach p 0 i b) (reach-rows p 0 i a (first r a b h)) (reach-rows p 0 i b (second r a b h))))
-    reach-rows p k i (whileDo r e b) h =
-        here-rows (eqb i r) (whileDo r e b) _ h (taken-rows (p r) unreached (λ j. reach p 0 i b) tt (λ j. reach-rows p 0 i b (only r b h)))
-    reach-rows p k i (sequence r a b) h =
+        (taken-rows (p r) unreached (λ j. thenOrElse j (reach p i a) (reach p i b)) tt
+        (λ j. part-rows j (reach p i a) (reach p i b) (reach-rows p i a (first r a b h)) (reach-rows p i b (second r a b h))))
+    reach-rows p i (whileDo r e b) h =
+        here-rows (eqb i r) (whileDo r e b) _ h (taken-rows (p r) unreached (λ j. reach p i b) tt (λ j. reach-rows p i b (only r b h)))
+    reach-rows p i (sequence r a b) h =
         here-rows (eqb i r) (sequence r a b) _ h
-        (sequence-rows p i r a b (reach-rows p 0 i a (first r a b h)) (reach-rows p 0 i b (second r a b h)))
-    reach-rows p k i (parallel r a b) h =
+        (sequence-rows p i r a b (reach-rows p i a (first r a b h)) (reach-rows p i b (second r a b h)))
+    reach-rows p i (parallel r a b) h =
         here-rows (eqb i r) (parallel r a b) _ h
-        (either-rows (reach p 0 i a) (reach p 0 i b) (reach-rows p 0 i a (first r a b h)) (reach-rows p 0 i b (second r a b h)))
-    reach-rows p k i (assign r x e) h = here-rows (eqb i r) (assign r x e) unreached h tt
-    reach-rows p k i (choice r m) h =
+        (either-rows (reach p i a) (reach p i b) (reach-rows p i a (first r a b h)) (reach-rows p i b (second r a b h)))
+    reach-rows p i (assign r x e) h = here-rows (eqb i r) (assign r x e) unreached h tt
+    reach-rows p i (choice r m) h =
         here-rows (eqb i r) (choice r m) _ h
-        (taken-rows (p r) (orElse (offer r 0 i m) (served p i m)) (λ j. reach p j i m)
-        (either-rows (offer r 0 i m) (served p i m) (offer-rows r 0 i m (h r (or-left (eqb r r) (hasRow r m) (eqb-refl r))) (only r m h))
-        (served-rows p i m (only r m h)))
-        (λ j. reach-rows p j i m (only r m h)))
-    reach-rows p k i (branch r a b m) h =
-        branch-rows k (orElse (reach p 0 i a) (onlyIf (isDone p 0 a) (reach p 0 i b))) (λ j. reach p j i m)
-        (sequence-rows p i r a b (reach-rows p 0 i a (input-of r a b m h)) (reach-rows p 0 i b (then-of r a b m h)))
-        (λ j. reach-rows p j i m (others-of r a b m h))
-    reach-rows p k i (lastBranch r a b) h =
-        sequence-rows p i r a b (reach-rows p 0 i a (first r a b h)) (reach-rows p 0 i b (second r a b h))
-    reach-rows p k i (waiting r o x) h = tt
-    reach-rows p k i (answering r o c d) h = tt
+        (taken-rows (p r) (orElse (offer r 0 i m) (served p i m)) (λ j. reachBranch p j i m)
+        (either-rows (offer r 0 i m) (served p i m) (offer-rows r 0 i m (h r (or-left (eqb r r) (hasRowIn r m) (eqb-refl r))) (in-choice r m h))
+        (served-rows p i m (in-choice r m h)))
+        (λ j. branch-reach p j i m (in-choice r m h)))
+    reach-rows p i (waiting r o x) h = tt
+    reach-rows p i (answering r o c d) h = tt
 
-    served-rows : (p : Progresses) (i : ℕ) (B : Behaviour) → Each P B → RowsIn P (served p i B)
-    served-rows p i (nil r) h = tt
-    served-rows p i (oneWay r o x) h = tt
-    served-rows p i (requestResponse r o x c d) h = received-rows (p r) unreached (reach p 0 i d) tt (reach-rows p 0 i d (only r d h))
-    served-rows p i (notification r o e) h = tt
-    served-rows p i (solicitResponse r o e x) h = tt
-    served-rows p i (ifThenElse r e a b) h = tt
-    served-rows p i (whileDo r e b) h = tt
-    served-rows p i (sequence r a b) h = tt
-    served-rows p i (parallel r a b) h = tt
-    served-rows p i (assign r x e) h = tt
-    served-rows p i (choice r m) h = tt
-    served-rows p i (branch r a b m) h = either-rows (served p i a) (served p i m) (served-rows p i a (input-of r a b m h)) (served-rows p i m (others-of r a b m h))
-    served-rows p i (lastBranch r a b) h = served-rows p i a (first r a b h)
-    served-rows p i (waiting r o x) h = tt
-    served-rows p i (answering r o c d) h = tt
+    branch-reach : (p : Progresses) (k i : ℕ) (m : Branches) → EachIn P m → RowsIn P (reachBranch p k i m)
+    branch-reach p k i (lastBranch r a b) h =
+        sequence-rows p i r a b (reach-rows p i a (first r a b h)) (reach-rows p i b (second r a b h))
+    branch-reach p k i (branch r a b m) h =
+        branch-rows k (orElse (reach p i a) (onlyIf (isDone p a) (reach p i b))) (λ j. reachBranch p j i m)
+        (sequence-rows p i r a b (reach-rows p i a (first r a b (branch-of r a b m h))) (reach-rows p i b (second r a b (branch-of r a b m h))))
+        (λ j. branch-reach p j i m (others-of r a b m h))
+
+    served-rows : (p : Progresses) (i : ℕ) (m : Branches) → EachIn P m → RowsIn P (served p i m)
+    served-rows p i (lastBranch r a b) h = received-rows (p (rowOf a)) unreached (reach p i a) tt (reach-rows p i a (first r a b h))
+    served-rows p i (branch r a b m) h =
+        either-rows (ifReceived (p (rowOf a)) unreached (reach p i a)) (served p i m)
+        (received-rows (p (rowOf a)) unreached (reach p i a) tt (reach-rows p i a (first r a b (branch-of r a b m h))))
+        (served-rows p i m (others-of r a b m h))
 
 -- ---- in a file
 
@@ -196,11 +160,11 @@ abbrev InFile : List ℕ → ℕ → Type 0
 InFile file j = j < behaviourCount file
 
 module _ (file : List ℕ) (w : WellFormed file) (p : Progresses) where
-  reach-in : (b r : ℕ) → b < behaviourCount file → RowsIn (InFile file) (reach p 0 r (behaviourOf file b))
-  reach-in b r l = reach-rows (InFile file) p 0 r (behaviourOf file b) (λ j t. rows-of file w b j l t .1)
+  reach-in : (b r : ℕ) → b < behaviourCount file → RowsIn (InFile file) (reach p r (behaviourOf file b))
+  reach-in b r l = reach-rows (InFile file) p r (behaviourOf file b) (λ j t. rows-of file w b j l t .1)
 
   -- By the definition,
-  pub reached-row : (b r i : ℕ) → b < behaviourCount file → reached (behaviourOf file i) ≡ reach p 0 r (behaviourOf file b) → i < behaviourCount file
+  pub reached-row : (b r i : ℕ) → b < behaviourCount file → reached (behaviourOf file i) ≡ reach p r (behaviourOf file b) → i < behaviourCount file
   reached-row b r i l e =
       let k : rowOf (behaviourOf file i) < behaviourCount file = subst (RowsIn (InFile file)) (sym e) (reach-in b r l) in
       omega (arith, k, row-of file i)

@@ -8,8 +8,8 @@ ghost use Rattle.rows.specs.declared.BehaviourRow.{BehaviourRow};
 ghost use Rattle.state.specs.Bytes.{readSession};
 ghost use Rattle.moves.specs.Readiness.{ifDone, ifReceived, ifTaken, isDone};
 ghost use Rattle.readiness.specs.declared.Part.{Part};
-ghost use Rattle.readiness.specs.Parts.{branchAt, branchDeciders, decidersIn, decidersOf, inOrder, branchWays, waysIn, waysOf, bodyOf};
-ghost use Rattle.readiness.specs.Reaching.{Offers, ReachesBody, ReachesServed, ReachesInputs, ReachesRow, Reaches};
+ghost use Rattle.readiness.specs.Parts.{branchAt, branchDeciders, decidersIn, decidersOf, inOrder, branchWays, waysIn, waysOf};
+ghost use Rattle.readiness.specs.Reaching.{Offers, ReachesReceived, ReachesServed, ReachesInputs, ReachesRow, Reaches};
 use progress::Progress;
 use rows::BehaviourRow;
 
@@ -32,12 +32,6 @@ pub enum Ways {
     One(u16),
     Two(u16, u16),
     Inputs(u16, u16),
-}
-
-// The body of an input: none, or that of a received request-response.
-pub enum Body {
-    Nothing,
-    Row(u16),
 }
 
 // How a row is reached: not at all; as itself; or as an input of a choice in which no branch is taken (the choice's row, the branch's
@@ -113,8 +107,8 @@ fn branch_deciders(file: &[u8], first: u16, n: u16, k: u8) -> Deciders
     if n == 0 {
         return Deciders::Settled(true);
     }
-    let at = branch_at(file, first, n, k);
-    Deciders::Both(wire::u16_at(file, at + 2), wire::u16_at(file, at + 4))
+    let b = rows::branch_at(file, branch_at(file, first, n, k));
+    Deciders::Both(b.input, b.follow)
 }
 
 fn choice_deciders(file: &[u8], state: &[u8], slot: usize, r: u16, first: u16, n: u16) -> Deciders
@@ -166,7 +160,7 @@ fn deciders_of(file: &[u8], state: &[u8], slot: usize, r: u16) -> Deciders
 // Is B row r done, with so many rows left for its sub-behaviours?
 fn done_row(file: &[u8], state: &[u8], slot: usize, r: u16, left: u16) -> bool
     requires { ⌜ slot < 65536 ⌝ }
-    ensures { λ x. ⌜ x ≡ isDone (readSession (now (state .entry)) slot .progress) 0 (behaviourTo (now (file .entry)) left r) ⌝ }
+    ensures { λ x. ⌜ x ≡ isDone (readSession (now (state .entry)) slot .progress) (behaviourTo (now (file .entry)) left r) ⌝ }
 {
     if left == 0 {
         return true;
@@ -186,7 +180,7 @@ fn done_row(file: &[u8], state: &[u8], slot: usize, r: u16, left: u16) -> bool
 // Is B row r done? In a file in which each row is used once every row below r is looked at once at most.
 pub fn is_done(file: &[u8], state: &[u8], slot: usize, r: u16) -> bool
     requires { ⌜ slot < 65536 ⌝ }
-    ensures { λ x. ⌜ x ≡ isDone (readSession (now (state .entry)) slot .progress) 0 (behaviourOf (now (file .entry)) r) ⌝ }
+    ensures { λ x. ⌜ x ≡ isDone (readSession (now (state .entry)) slot .progress) (behaviourOf (now (file .entry)) r) ⌝ }
 {
     done_row(file, state, slot, r, layout::behaviour_count(file))
 }
@@ -209,14 +203,8 @@ fn branch_ways(file: &[u8], state: &[u8], slot: usize, first: u16, n: u16, k: u8
     if n == 0 {
         return Ways::Nowhere;
     }
-    let at = branch_at(file, first, n, k);
-    in_order(
-        file,
-        state,
-        slot,
-        wire::u16_at(file, at + 2),
-        wire::u16_at(file, at + 4),
-    )
+    let b = rows::branch_at(file, branch_at(file, first, n, k));
+    in_order(file, state, slot, b.input, b.follow)
 }
 
 fn choice_ways(file: &[u8], state: &[u8], slot: usize, r: u16, first: u16, n: u16) -> Ways
@@ -311,55 +299,26 @@ fn offer(file: &[u8], c: u16, k: u8, i: u16, at: usize, n: u8) -> Reached
     if n == 0 {
         return Reached::Unreached;
     }
-    let a = wire::u16_at(file, at + 2);
+    let b = rows::branch_at(file, at);
+    let a = b.input;
     if i == a {
         return Reached::Offered(c, k, a);
     }
     offer(file, c, k + 1, i, at + 10, n - 1)
 }
 
-// The body that input a has, if it is received.
-fn body_of(file: &[u8], state: &[u8], slot: usize, a: u16) -> Body
+// The row i from input a down, if a is received.
+fn reach_received(file: &[u8], state: &[u8], slot: usize, i: u16, a: u16, left: u16) -> Reached
     requires { ⌜ slot < 65536 ⌝ }
-    ensures { λ x. ⌜ x ≡ bodyOf (now (file .entry)) (readSession (now (state .entry)) slot .progress) a ⌝ }
+    ensures { λ x. ⌜ ReachesReceived (now (file .entry)) (readSession (now (state .entry)) slot .progress) i a left x ⌝ }
 {
-    match rows::behaviour_row(file, a) {
-        BehaviourRow::RequestResponse(_, _, _, d) => {
-            if marked_received(state, slot, a) {
-                return Body::Row(d);
-            }
-            Body::Nothing
-        }
-        BehaviourRow::Nil => Body::Nothing,
-        BehaviourRow::OneWay(_, _) => Body::Nothing,
-        BehaviourRow::Notification(_, _) => Body::Nothing,
-        BehaviourRow::SolicitResponse(_, _, _) => Body::Nothing,
-        BehaviourRow::If(_, _, _) => Body::Nothing,
-        BehaviourRow::While(_, _) => Body::Nothing,
-        BehaviourRow::Sequence(_, _) => Body::Nothing,
-        BehaviourRow::Parallel(_, _) => Body::Nothing,
-        BehaviourRow::Assign(_, _) => Body::Nothing,
-        BehaviourRow::Choice(_, _) => Body::Nothing,
-        BehaviourRow::Branch(_, _) => Body::Nothing,
-        BehaviourRow::Unknown => Body::Nothing,
+    if marked_received(state, slot, a) {
+        return reach_row(file, state, slot, i, a, left);
     }
+    Reached::Unreached
 }
 
-// The row i in the body of input a, if a is received.
-fn reach_body(file: &[u8], state: &[u8], slot: usize, i: u16, a: u16, left: u16) -> Reached
-    requires { ⌜ slot < 65536 ⌝ }
-    ensures { λ x. ⌜ ReachesBody (now (file .entry)) (readSession (now (state .entry)) slot .progress) i a left x ⌝ }
-{
-    if left == 0 {
-        return Reached::Unreached;
-    }
-    match body_of(file, state, slot, a) {
-        Body::Nothing => Reached::Unreached,
-        Body::Row(d) => reach_row(file, state, slot, i, d, left - 1),
-    }
-}
-
-// The row i in the body of a received input among the n branches whose rows stand from `at` on.
+// The row i from a received input down, among the n branches whose rows stand from `at` on.
 fn reach_served(
     file: &[u8],
     state: &[u8],
@@ -375,14 +334,15 @@ fn reach_served(
     if n == 0 {
         return Reached::Unreached;
     }
-    match reach_body(file, state, slot, i, wire::u16_at(file, at + 2), left) {
+    let b = rows::branch_at(file, at);
+    match reach_received(file, state, slot, i, b.input, left) {
         Reached::Unreached => reach_served(file, state, slot, i, at + 10, n - 1, left),
         Reached::Reached(x) => Reached::Reached(x),
         Reached::Offered(c, k, x) => Reached::Offered(c, k, x),
     }
 }
 
-// The row i among the inputs, or in the body of a received one, of the n branches from row `first` on, of the choice r.
+// The row i among the inputs, or from a received one down, of the n branches from row `first` on, of the choice r.
 fn reach_inputs(
     file: &[u8],
     state: &[u8],

@@ -1,4 +1,3 @@
-mod Rows
 mod Oldest
 mod Storing
 mod Receiving

@@ -1,7 +1,7 @@
 -- The message that a receive takes, at each of the ways out of the code.
 use mathlib.Core.Path.{_≡_, ap, subst, _∙_}
 use mathlib.Core.List.{List}
-use Prim.Native.Nat.{ℕ, _+_, _-_, _*_, _<_, _≤_}
+use Prim.Native.Nat.{ℕ, _+_, _-_, _<_, _≤_}
 use native.Mathlib.Omega.{arith}
 use lib.ListN.{take, drop}
 use Rattle.forest.specs.Path.{Path, replaceAt}
@@ -12,13 +12,14 @@ use Rattle.network.specs.Form.{WellFormed}
 use Rattle.network.specs.Layout.{pathCount}
 use Rattle.network.specs.Decode as network
 use Rattle.rows.specs.Readers.{pathIds}
+use Rattle.state.specs.Places.{entryStart}
 use Rattle.state.specs.Session.{Session}
 use Rattle.state.specs.Bytes.{readEntry, readSession}
 use Rattle.moves.specs.Moves.{message, voidValue}
 use Rattle.queues.specs.declared.OldestEntry.{OldestEntry}
 use Rattle.queues.specs.declared.OldestEntry.the-variants.{Nothing, Entry}
 use Rattle.queues.specs.declared.Span.{Span}
-use Rattle.queues.specs.Queue.{entryAt, messageSpan, oldestIn, without}
+use Rattle.queues.specs.Queue.{messageSpan, oldestIn, without}
 use Rattle.queues.specs.ReadLaws.{oldest-entry}
 use Rattle.queues.specs.ChangeLaws.{EntryStands, live-entry, live-nothing, live-below, live-oldest}
 use Rattle.slots.specs.SlotLaws.{living-holds}
@@ -46,7 +47,7 @@ module _ (file s : List ℕ) (slot o p : ℕ) {r : OldestEntry} (is : r ≡ olde
     stands h = live-entry (h .made) (living-holds h) k (live-below (h .made) (living-holds h) o is k e)
 
     module _ {m : Span} (d : m ≡ messageSpan s slot k) where
-      pub take-start : m .start ≡ slot + 1048 + 344 * k
+      pub take-start : m .start ≡ entryStart slot k + 8
       unfolding messageSpan
       take-start = let z = ap (λ (t : Span). t .start) d in omega (arith, z)
 
@@ -62,7 +63,7 @@ module _ (file s : List ℕ) (slot o p : ℕ) {r : OldestEntry} (is : r ≡ olde
       module _ {ids : List ℕ} (f : ids ≡ pathIds file p) {out : List ℕ} {c : Change}
           (rep : Replaces s slot ids (take (m .start + m .len - m .start) (drop (m .start) s)) out c) where
         lent : {S : Session} → Living s slot S
-            → Encodes messageDeep messageMany (take (m .start + m .len - m .start) (drop (m .start) s)) (readEntry s (entryAt slot k) .message)
+            → Encodes messageDeep messageMany (take (m .start + m .len - m .start) (drop (m .start) s)) (readEntry s (entryStart slot k) .message)
         lent h =
             let z : m .start + m .len - m .start ≡ m .len = omega arith in
             record {
@@ -71,18 +72,18 @@ module _ (file s : List ℕ) (slot o p : ℕ) {r : OldestEntry} (is : r ≡ olde
             }
 
         changed : WellFormed file → p < pathCount file → (S : Session) → Living s slot S
-            → ChangedTo out c (replaceAt voidValue (network.pathOf file p) (readEntry s (entryAt slot k) .message) (S .tree))
+            → ChangedTo out c (replaceAt voidValue (network.pathOf file p) (readEntry s (entryStart slot k) .message) (S .tree))
         changed w l S h =
-            subst (λ (x : Path). ChangedTo out c (replaceAt voidValue x (readEntry s (entryAt slot k) .message) (S .tree))) (ap pathOf f ∙ path-is file p)
-            (rep .tells S (readEntry s (entryAt slot k) .message) h (ap isPath f ∙ ids-path file w p l) (lent h))
+            subst (λ (x : Path). ChangedTo out c (replaceAt voidValue x (readEntry s (entryStart slot k) .message) (S .tree))) (ap pathOf f ∙ path-is file p)
+            (rep .tells S (readEntry s (entryStart slot k) .message) h (ap isPath f ∙ ids-path file w p l) (lent h))
 
         pub take-large : c ≡ Change.TooLarge → Takes file s slot o p out Taking.TooLarge
         take-large i = record {
           tells = λ w l S h j. (
-            readEntry s (entryAt slot k),
+            readEntry s (entryStart slot k),
             without k (S .queue),
             live-oldest (h .made) (living-holds h) o is k e,
-            subst (λ (y : Change). ChangedTo out y (replaceAt voidValue (network.pathOf file p) (readEntry s (entryAt slot k) .message) (S .tree))) i
+            subst (λ (y : Change). ChangedTo out y (replaceAt voidValue (network.pathOf file p) (readEntry s (entryStart slot k) .message) (S .tree))) i
                 (changed w l S h),
           );
           bounds = λ j n z. absurd (let y : _≡_ {A = ℕ} 0 1 = cc in omega arith);
@@ -90,9 +91,9 @@ module _ (file s : List ℕ) (slot o p : ℕ) {r : OldestEntry} (is : r ≡ olde
 
         module _ (n : ℕ) (i : c ≡ Change.Kept n) where
           kept : WellFormed file → p < pathCount file → (S : Session) → Living s slot S
-              → KeptTree out n (replaceAt voidValue (network.pathOf file p) (readEntry s (entryAt slot k) .message) (S .tree))
+              → KeptTree out n (replaceAt voidValue (network.pathOf file p) (readEntry s (entryStart slot k) .message) (S .tree))
           kept w l S h =
-              subst (λ (y : Change). ChangedTo out y (replaceAt voidValue (network.pathOf file p) (readEntry s (entryAt slot k) .message) (S .tree))) i
+              subst (λ (y : Change). ChangedTo out y (replaceAt voidValue (network.pathOf file p) (readEntry s (entryStart slot k) .message) (S .tree))) i
               (changed w l S h)
 
           pub take-past : 1024 < n → Takes file s slot o p out Taking.TooLarge

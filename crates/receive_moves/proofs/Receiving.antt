@@ -2,7 +2,7 @@
 use mathlib.Core.Path.{_≡_, refl, sym, ap, subst, _∙_}
 use mathlib.Core.Bool.{Bool, true, false, not}
 use mathlib.Core.List.{List, []}
-use Prim.Native.Nat.{ℕ, _+_, _*_, _<_}
+use Prim.Native.Nat.{ℕ, _<_}
 use native.Mathlib.Omega.{arith}
 use Rattle.forest.specs.Path.{replaceAt}
 use Rattle.refusal.specs.declared.Refusal.{Refusal}
@@ -17,29 +17,31 @@ use Rattle.network.specs.Layout.{pathCount, behaviourCount}
 use Rattle.network.specs.RowLaws.{counts-kept}
 use Rattle.network.specs.Decode.{pathOf, operationOf, behaviourOf, networkOf}
 use Rattle.network.specs.TestLaws.{not-true, not-false}
-use Rattle.rows.specs.declared.BehaviourRow.{BehaviourRow}
-use Rattle.rows.specs.Readers.{behaviourRowOf}
-use Rattle.row_parts.specs.Behaviours.{behaviourBy, KeptBy}
-use Rattle.row_parts.specs.KindLaws.{row-is}
-use Rattle.state.specs.Session.{Progress, undone, done, waits, received, taken, Progresses, advance, Queued, Session, live, State, setSlot}
+use Rattle.syntax.specs.Rows.{inputOf}
+use Rattle.rows.specs.declared.InputRow.{InputRow}
+use Rattle.rows.specs.Readers.{inputRowOf}
+use Rattle.rows.specs.RowSyntax.{inputWith}
+use Rattle.row_parts.specs.Behaviours.{InputKeptBy}
+use Rattle.row_parts.specs.KindLaws.{input-is}
+use Rattle.state.specs.Places.{slotStart, entryStart}
+use Rattle.state.specs.Session.{Progress, undone, done, waits, received, taken, Progresses, advance, Queued, Session, withTree, withQueue, withProgress, live, State, setSlot}
 use Rattle.state.specs.Bytes.{readEntry, readSession, slotBytes}
 use Rattle.state.specs.Shape.{isUndone, WellMade}
 use Rattle.moves.specs.Readiness.{reach}
 use Rattle.moves.specs.Moves.{Result, refused, moved, notAllowed, require, ifUndone, Taken, nothing, message, oldest, voidValue, takes}
-use Rattle.moves.specs.Moves.{receiveAt, receiveReached, receiveMove}
+use Rattle.moves.specs.Moves.{receivedBy, receiveBy, receiveAt, receiveReached, receiveMove}
 use Rattle.moves.specs.Step.{finish}
 use Rattle.operations.specs.Directions.{directionOf}
-use Rattle.queues.specs.Queue.{entryAt, without}
+use Rattle.queues.specs.Queue.{without}
 use Rattle.readiness.specs.declared.Reached.{Reached}
 use Rattle.readiness.specs.Reaching.{reachedAs, Reaches}
 use Rattle.readiness.specs.ReachedLaws.{reaches-row, offered-row}
 use Rattle.moving.specs.declared.Running.{Running}
 use Rattle.moving.specs.Made.{StateOf, Made, InSession, Runs, RunsAt}
 use Rattle.moving.specs.MadeLaws.{made-refused, made-slot, in-session}
-use Rattle.receive_moves.specs.declared.Input.{Input}
 use Rattle.receive_moves.specs.declared.Settling.{Settling}
 use Rattle.receive_moves.specs.declared.Taking.{Taking}
-use Rattle.receive_moves.specs.Receiving.{inputOf, afterwards, settled, SettlesRow, storedBytes, TakenAs, Takes, Leaves}
+use Rattle.receive_moves.specs.Receiving.{settled, SettlesRow, storedBytes, TakenAs, Takes, Leaves}
 use Rattle.receive_moves.specs.Receiving.{inputReceives, ReceivesInput, ReceivesAt}
 use Rattle.receive_moves.proofs.Storing.{receivedIn, Small, stored-made, stored-live}
 
@@ -50,7 +52,7 @@ leaves-refused {s} why e h = record { tells = λ out. ap (λ (y : Outcome). reco
 
 -- A move within one slot leaves what its definition says.
 leaves-slot : (file : List ℕ) {s s′ : List ℕ} {o : Outcome} {r : Result} (q n at : ℕ) (S : Session) → WellFormed file → (G : State)
-    → StateOf file s G → q < 4 → n < 4 → at ≡ 4096 * (4 * q + n) → WellMade S → o ≡ doneWith 0 → s′ ≡ withPart s at (slotBytes (live S))
+    → StateOf file s G → q < 4 → n < 4 → at ≡ slotStart q n → WellMade S → o ≡ doneWith 0 → s′ ≡ withPart s at (slotBytes (live S))
     → r ≡ moved (setSlot G q n (live S)) [] → Leaves s s′ o r
 leaves-slot file {s} {s′} {o} {r} q n at S w G st i j p m e b h = record {
   tells = λ out.
@@ -95,9 +97,9 @@ module _ (file s : List ℕ) (q slot i : ℕ) (x : Settling) (o p : ℕ) (two : 
   module _ (h : not u ≡ false) {a : Bool} (perm : a ≡ permits q (directionOf true) two (operationOf file o)) where
     allowed-is : (G : State) (n : ℕ) (S : Session) → readSession s slot ≡ S
         → inputReceives G q n S (settled x (S .progress)) i (operationOf file o) (pathOf file p) two
-        ≡ require a MoveNotAllowed (takes G q n S (pathOf file p) (settled x (S .progress)) i (afterwards two) (oldest o (S .queue)))
+        ≡ require a MoveNotAllowed (takes G q n S (pathOf file p) (settled x (S .progress)) i (receivedBy two) (oldest o (S .queue)))
     allowed-is G n S e =
-        let R : ℕ → Result = λ j. takes G q n S (pathOf file p) (settled x (S .progress)) i (afterwards two) (oldest j (S .queue)) in
+        let R : ℕ → Result = λ j. takes G q n S (pathOf file p) (settled x (S .progress)) i (receivedBy two) (oldest j (S .queue)) in
         undone-runs (S .progress i) _ (undone-here S e true (not-false u h))
         ∙ (ap (λ (j : ℕ). require (permits q input two (operationOf file o)) MoveNotAllowed (R j)) (operation-row file o)
         ∙ ap (λ (t : Bool). require t MoveNotAllowed (R o)) (sym perm))
@@ -108,18 +110,18 @@ module _ (file s : List ℕ) (q slot i : ℕ) (x : Settling) (o p : ℕ) (two : 
           leaves-refused MoveNotAllowed e
           (allowed-is G n (f .session) (f .reads)
           ∙ ap (λ (t : Bool). require t MoveNotAllowed
-          (takes G q n (f .session) (pathOf file p) (settled x (f .session .progress)) i (afterwards two) (oldest o (f .session .queue)))) (not-true a g));
+          (takes G q n (f .session) (pathOf file p) (settled x (f .session .progress)) i (receivedBy two) (oldest o (f .session .queue)))) (not-true a g));
     }
 
     module _ (g : not a ≡ false) {scratch : List ℕ} {v : Taking} (took : Takes file s slot o p scratch v) where
       taking : (G : State) (n : ℕ) (S : Session) → readSession s slot ≡ S → (y : Taken) → oldest o (S .queue) ≡ y
           → inputReceives G q n S (settled x (S .progress)) i (operationOf file o) (pathOf file p) two
-          ≡ takes G q n S (pathOf file p) (settled x (S .progress)) i (afterwards two) y
+          ≡ takes G q n S (pathOf file p) (settled x (S .progress)) i (receivedBy two) y
       taking G n S e y z =
           allowed-is G n S e
-          ∙ (ap (λ (t : Bool). require t MoveNotAllowed (takes G q n S (pathOf file p) (settled x (S .progress)) i (afterwards two) (oldest o (S .queue))))
+          ∙ (ap (λ (t : Bool). require t MoveNotAllowed (takes G q n S (pathOf file p) (settled x (S .progress)) i (receivedBy two) (oldest o (S .queue))))
           (not-false a g)
-          ∙ ap (takes G q n S (pathOf file p) (settled x (S .progress)) i (afterwards two)) z)
+          ∙ ap (takes G q n S (pathOf file p) (settled x (S .progress)) i (receivedBy two)) z)
 
       took-as : {t : Taking} → v ≡ t → WellFormed file → p < pathCount file → {G : State} {n b : ℕ} (f : InSession file s G q n slot b)
           → TakenAs file s slot o p scratch (f .session) t
@@ -140,20 +142,18 @@ module _ (file s : List ℕ) (q slot i : ℕ) (x : Settling) (o p : ℕ) (two : 
       }
         where
           after : State → Session → Queued → List Queued → Session
-          after G S m l = record {
-            tree = replaceAt voidValue (pathOf file p) (m .message) (S .tree);
-            queue = l;
-            progress = advance (settled x (S .progress)) i (afterwards two (m .replyTo));
-          }
+          after G S m l =
+              withQueue (withProgress (withTree S (replaceAt voidValue (pathOf file p) (m .message) (S .tree)))
+              (advance (settled x (S .progress)) i (receivedBy two (m .replyTo)))) l
 
       pub input-taken : {k m : ℕ} {y : Progress} {s′ : List ℕ} {r : Outcome} → v ≡ Taking.Message k m → i < 256
-          → y ≡ afterwards two (readEntry s (entryAt slot k) .replyTo) → s′ ≡ storedBytes s slot scratch m k x i y → r ≡ doneWith 0
+          → y ≡ receivedBy two (readEntry s (entryStart slot k) .replyTo) → s′ ≡ storedBytes s slot scratch m k x i y → r ≡ doneWith 0
           → ReceivesInput file q slot i x o p two s s′ r
       input-taken {k} {m} {y} {s′} {r} z low a′ b′ e = record {
         tells = λ w G st n b f l j.
             let t = took-as z w l f in
             let S = f .session in
-            let E = readEntry s (entryAt slot k) in
+            let E = readEntry s (entryStart slot k) in
             let F = replaceAt voidValue (pathOf file p) (E .message) (S .tree) in
             let c = settles-small file w x j in
             let S′ = receivedIn S F k x i y in
@@ -161,84 +161,47 @@ module _ (file s : List ℕ) (q slot i : ℕ) (x : Settling) (o p : ℕ) (two : 
             leaves-slot file q n slot S′ w G st (f .service) (f .number) (f .place) made e
             (b′ ∙ stored-live (f .living) scratch m k x i y F (t .2) (t .1) c low)
             (taking G n S (f .reads) (message E (without k (S .queue))) (t .0)
-            ∙ (ap (λ (u : Bool). require u Stuck (moved (setSlot G q n (live (receivedIn S F k x i (afterwards two (E .replyTo))))) [])) (t .2 .fits)
+            ∙ (ap (λ (u : Bool). require u Stuck (moved (setSlot G q n (live (receivedIn S F k x i (receivedBy two (E .replyTo))))) [])) (t .2 .fits)
             ∙ ap (λ (u : Progress). moved (setSlot G q n (live (receivedIn S F k x i u))) []) (sym a′)));
       }
 
 -- ---- a row
 
--- What is no input receives nothing.
-none-received : (file : List ℕ) (q i : ℕ) (G : State) (n : ℕ) (S : Session) (p : Progresses) (y : BehaviourRow) → Input.Nothing ≡ inputOf y
-    → receiveAt G q n S p (behaviourBy file i y) ≡ notAllowed
-unfolding receiveAt
-none-received file q i G n S p BehaviourRow.Nil h = refl
-none-received file q i G n S p (BehaviourRow.Notification a b) h = refl
-none-received file q i G n S p (BehaviourRow.SolicitResponse a b c) h = refl
-none-received file q i G n S p (BehaviourRow.If a b c) h = refl
-none-received file q i G n S p (BehaviourRow.While a b) h = refl
-none-received file q i G n S p (BehaviourRow.Sequence a b) h = refl
-none-received file q i G n S p (BehaviourRow.Parallel a b) h = refl
-none-received file q i G n S p (BehaviourRow.Assign a b) h = refl
-none-received file q i G n S p (BehaviourRow.Choice a b) h = refl
-none-received file q i G n S p (BehaviourRow.Branch a b) h = refl
-none-received file q i G n S p BehaviourRow.Unknown h = refl
-none-received file q i G n S p (BehaviourRow.OneWay a b) h = absurd (let z : _≡_ {A = ℕ} 0 1 = cc in omega arith)
-none-received file q i G n S p (BehaviourRow.RequestResponse a b c d) h = absurd (let z : _≡_ {A = ℕ} 0 1 = cc in omega arith)
-
--- An input of row i, as a behaviour.
-input-received : (file : List ℕ) (q i o p : ℕ) (two : Bool) (y : BehaviourRow) → Input.Of o p two ≡ inputOf y → KeptBy file (behaviourCount file) y
-    → (p < pathCount file) × ((G : State) (n : ℕ) (S : Session) (z : Progresses)
-    → receiveAt G q n S z (behaviourBy file i y) ≡ inputReceives G q n S z i (operationOf file o) (pathOf file p) two)
-unfolding receiveAt
-input-received file q i o p two BehaviourRow.Nil h k = absurd (let z : _≡_ {A = ℕ} 0 1 = cc in omega arith)
-input-received file q i o p two (BehaviourRow.Notification a b) h k = absurd (let z : _≡_ {A = ℕ} 0 1 = cc in omega arith)
-input-received file q i o p two (BehaviourRow.SolicitResponse a b c) h k = absurd (let z : _≡_ {A = ℕ} 0 1 = cc in omega arith)
-input-received file q i o p two (BehaviourRow.If a b c) h k = absurd (let z : _≡_ {A = ℕ} 0 1 = cc in omega arith)
-input-received file q i o p two (BehaviourRow.While a b) h k = absurd (let z : _≡_ {A = ℕ} 0 1 = cc in omega arith)
-input-received file q i o p two (BehaviourRow.Sequence a b) h k = absurd (let z : _≡_ {A = ℕ} 0 1 = cc in omega arith)
-input-received file q i o p two (BehaviourRow.Parallel a b) h k = absurd (let z : _≡_ {A = ℕ} 0 1 = cc in omega arith)
-input-received file q i o p two (BehaviourRow.Assign a b) h k = absurd (let z : _≡_ {A = ℕ} 0 1 = cc in omega arith)
-input-received file q i o p two (BehaviourRow.Choice a b) h k = absurd (let z : _≡_ {A = ℕ} 0 1 = cc in omega arith)
-input-received file q i o p two (BehaviourRow.Branch a b) h k = absurd (let z : _≡_ {A = ℕ} 0 1 = cc in omega arith)
-input-received file q i o p two BehaviourRow.Unknown h k = absurd (let z : _≡_ {A = ℕ} 0 1 = cc in omega arith)
-input-received file q i o p two (BehaviourRow.OneWay a b) h k =
-    let x : o ≡ a = cc in
-    let y : p ≡ b = cc in
-    let t : two ≡ false = cc in
-    (omega (arith, y, k .1), λ G n S z. rw (x, y, t) refl)
-input-received file q i o p two (BehaviourRow.RequestResponse a b c d) h k =
-    let x : o ≡ a = cc in
-    let y : p ≡ b = cc in
-    let t : two ≡ true = cc in
-    (omega (arith, y, k .1), λ G n S z. rw (x, y, t) refl)
-
 module _ (file s : List ℕ) (q slot i : ℕ) (x : Settling) where
   pub row-past : {r : Outcome} → 255 < i → r ≡ refusedBy MoveNotAllowed → ReceivesAt file q slot i x s s r
   row-past h e = record { tells = λ w G st n b f l j. absurd (omega (arith, h, l, counts-kept file w .behaviours)) }
 
-  module _ {v : Input} (is : v ≡ inputOf (behaviourRowOf file i)) where
-    row-of : WellFormed file → i < behaviourCount file
-        → (behaviourOf file i ≡ behaviourBy file i (behaviourRowOf file i)) × KeptBy file (behaviourCount file) (behaviourRowOf file i)
-    row-of w l = row-is file w i (behaviourCount file) (record { exists = l; enough = omega arith }) refl refl
+  module _ {v : InputRow} (is : v ≡ inputRowOf file i) where
+    input-view : {y : InputRow} → v ≡ y → WellFormed file → i < behaviourCount file
+        → (inputOf (behaviourOf file i) ≡ inputWith file (behaviourOf file) i y) × InputKeptBy file (behaviourCount file) y
+    input-view z w l = input-is file w i (behaviourCount file) (record { exists = l; enough = omega arith }) is z
 
-    pub row-other : {r : Outcome} → v ≡ Input.Nothing → r ≡ refusedBy MoveNotAllowed → ReceivesAt file q slot i x s s r
+    pub row-other : {r : Outcome} → v ≡ InputRow.Nothing → r ≡ refusedBy MoveNotAllowed → ReceivesAt file q slot i x s s r
+    unfolding receiveAt
     row-other z e = record {
       tells = λ w G st n b f l j.
-          leaves-refused MoveNotAllowed e
-          (ap (receiveAt G q n (f .session) (settled x (f .session .progress))) (row-of w l .0)
-          ∙ none-received file q i G n (f .session) (settled x (f .session .progress)) (behaviourRowOf file i) (sym z ∙ is));
+          leaves-refused MoveNotAllowed e (ap (receiveBy G q n (f .session) (settled x (f .session .progress))) (input-view z w l .0));
     }
 
-    pub row-input : {o p : ℕ} {two : Bool} {s′ : List ℕ} {r : Outcome} → v ≡ Input.Of o p two → ReceivesInput file q slot i x o p two s s′ r
+    pub row-one-way : {o p : ℕ} {s′ : List ℕ} {r : Outcome} → v ≡ InputRow.OneWay o p → ReceivesInput file q slot i x o p false s s′ r
         → ReceivesAt file q slot i x s s′ r
-    row-input {o} {p} {two} {s′} {r} z h = record {
+    unfolding receiveAt
+    row-one-way {s′} {r} z h = record {
       tells = λ w G st n b f l j.
-          let g = input-received file q i o p two (behaviourRowOf file i) (sym z ∙ is) (row-of w l .1) in
-          subst (Leaves s s′ r)
-          (sym (ap (receiveAt G q n (f .session) (settled x (f .session .progress))) (row-of w l .0)
-          ∙ g .1 G n (f .session) (settled x (f .session .progress))))
-          (h .tells w G st n b f (g .0) j);
+          let k = input-view z w l in
+          subst (Leaves s s′ r) (ap (receiveBy G q n (f .session) (settled x (f .session .progress))) (sym (k .0))) (h .tells w G st n b f (k .1 .1) j);
     }
+
+    pub row-request : {o p c d : ℕ} {s′ : List ℕ} {r : Outcome} → v ≡ InputRow.RequestResponse o p c d → ReceivesInput file q slot i x o p true s s′ r
+        → ReceivesAt file q slot i x s s′ r
+    unfolding receiveAt
+    row-request {s′} {r} z h = record {
+      tells = λ w G st n b f l j.
+          let k = input-view z w l in
+          subst (Leaves s s′ r) (ap (receiveBy G q n (f .session) (settled x (f .session .progress))) (sym (k .0))) (h .tells w G st n b f (k .1 .1) j);
+    }
+
+pub ruleset row-laws = (row-past, row-other, row-one-way, row-request)
 
 -- ---- the move
 
@@ -246,7 +209,7 @@ module _ (file s : List ℕ) (q n r : ℕ) {x : Running} (runs : RunsAt file s q
   pub receive-nothing : {o : Outcome} → x ≡ Running.Nothing → o ≡ refusedBy MoveNotAllowed → Made file (λ N G. receiveMove N G q n r) s s o
   receive-nothing e f =
       made-refused file (λ N G. receiveMove N G q n r) f
-      (λ w G st. subst (Runs file s G q n) e (runs .tells w G st) (λ B S. receiveReached G q n S (reach (S .progress) 0 r B)))
+      (λ w G st. subst (Runs file s G q n) e (runs .tells w G st) (λ B S. receiveReached G q n S (reach (S .progress) r B)))
 
   module _ (at b : ℕ) (e : x ≡ Running.Session at b) {y : Reached} (reaches : Reaches file (readSession s at .progress) r b y) where
     inside : WellFormed file → (G : State) → StateOf file s G → InSession file s G q n at b
@@ -256,8 +219,8 @@ module _ (file s : List ℕ) (q n r : ℕ) {x : Running} (runs : RunsAt file s q
         → receiveMove (networkOf file) G q n r ≡ receiveReached G q n (inside w G st .session) (reachedAs file z)
     receiving w G st z i =
         let h = inside w G st in
-        in-session h (λ B S. receiveReached G q n S (reach (S .progress) 0 r B))
-        ∙ (ap (λ (S : Session). receiveReached G q n (h .session) (reach (S .progress) 0 r (behaviourOf file b))) (sym (h .reads))
+        in-session h (λ B S. receiveReached G q n S (reach (S .progress) r B))
+        ∙ (ap (λ (S : Session). receiveReached G q n (h .session) (reach (S .progress) r (behaviourOf file b))) (sym (h .reads))
         ∙ (ap (receiveReached G q n (h .session)) (sym (reaches .tells w (h .row)))
         ∙ ap (λ (t : Reached). receiveReached G q n (h .session) (reachedAs file t)) i))
 

@@ -2,82 +2,85 @@
 use mathlib.Core.Path.{_≡_, refl, sym, ap, subst, _∙_}
 use mathlib.Core.Bool.{Bool, true, false, not}
 use mathlib.Core.List.{List}
-use Prim.Native.Nat.{ℕ, _+_, _*_, _<_, _≤_}
+use Prim.Native.Nat.{ℕ, _<_, _≤_}
 use native.Mathlib.Omega.{arith}
 use lib.ListN.{length}
 use borrow.Author.Tests.{lt-ltb, le-ltb}
 use Rattle.forest.specs.Forest.{Forest}
 use Rattle.scalar.specs.Value.{Value, pick}
 use Rattle.wire.specs.Wire.{withPart}
-use Rattle.state.specs.Session.{ReplyTo, Progress, taken, advance, Session, live}
-use Rattle.state.specs.Bytes.{u16Bytes, padded, progressBytes, treeBytes, slotBytes}
+use Rattle.state.specs.Places.{slotSize}
+use Rattle.state.specs.Session.{ReplyTo, Progress, taken, advance, Session, withTree, withQueue, withProgress, live}
+use Rattle.state.specs.Bytes.{slotBytes}
 use Rattle.state.specs.Shape.{WellMade}
-use Rattle.state.specs.KeepLaws.{advance-past}
 use Rattle.state.specs.FreshLaws.{part-back}
-use Rattle.moves.specs.Moves.{withProgress, withQueue}
+use Rattle.state.specs.KeepLaws.{made-tree, made-row}
+use Rattle.moves.specs.Moves.{receivedBy}
 use Rattle.progress.specs.declared.Progress.the-variants.{Done, Taken, FromOutsider, FromRow, FromNobody}
 use Rattle.progress.specs.Meaning.{meaning}
+use Rattle.progress.specs.Stored.{rowStored}
 use Rattle.queues.specs.declared.ReplyTo as queues
 use Rattle.queues.specs.declared.ReplyTo.the-variants.{Nobody, Outsider, WaitingRow}
 use Rattle.queues.specs.Queue.{replyOf, without, removed}
 use Rattle.queues.specs.ChangeLaws.{remove-made, remove-live}
 use Rattle.slots.specs.SlotLaws.{row-set, tree-set, living-set, set-again, living-holds}
 use Rattle.slots.specs.Living.{Living}
+use Rattle.slots.specs.Slots.{treeStored}
 use Rattle.session_trees.specs.Changing.{KeptTree}
 use Rattle.receive_moves.specs.declared.Settling.{Settling}
-use Rattle.receive_moves.specs.Receiving.{afterwards, settled, settledBytes, treeStored, storedBytes}
+use Rattle.receive_moves.specs.Receiving.{settled, settledBytes, storedBytes}
 
 -- ---- the input's progress once received
 
 module _ (two : Bool) (to : ReplyTo) where
-  pub after-one-way : not two ≡ true → meaning Done ≡ afterwards two to
+  pub after-one-way : not two ≡ true → meaning Done ≡ receivedBy two to
   after-one-way e = by two e
     where
-      by : (t : Bool) → not t ≡ true → meaning Done ≡ afterwards t to
+      by : (t : Bool) → not t ≡ true → meaning Done ≡ receivedBy t to
       by true e = absurd (let z : _≡_ {A = ℕ} 0 1 = cc in omega arith)
       by false e = refl
 
   module _ (e : not two ≡ false) (r : queues.ReplyTo) (h : replyOf r ≡ to) where
-    two-way : {x : Progress} → x ≡ afterwards true (replyOf r) → x ≡ afterwards two to
+    two-way : {x : Progress} → x ≡ receivedBy true (replyOf r) → x ≡ receivedBy two to
     two-way {x} f = by two e
       where
-        by : (t : Bool) → not t ≡ false → x ≡ afterwards t to
-        by true e = f ∙ ap (afterwards true) h
+        by : (t : Bool) → not t ≡ false → x ≡ receivedBy t to
+        by true e = f ∙ ap (receivedBy true) h
         by false e = absurd (let z : _≡_ {A = ℕ} 0 1 = cc in omega arith)
 
-    pub after-nobody : r ≡ Nobody → meaning FromNobody ≡ afterwards two to
-    after-nobody i = two-way (ap (λ (y : queues.ReplyTo). afterwards true (replyOf y)) (sym i))
+    pub after-nobody : r ≡ Nobody → meaning FromNobody ≡ receivedBy two to
+    after-nobody i = two-way (ap (λ (y : queues.ReplyTo). receivedBy true (replyOf y)) (sym i))
 
-    pub after-outsider : {v : ℕ} → r ≡ Outsider v → meaning (FromOutsider v) ≡ afterwards two to
-    after-outsider i = two-way (ap (λ (y : queues.ReplyTo). afterwards true (replyOf y)) (sym i))
+    pub after-outsider : {v : ℕ} → r ≡ Outsider v → meaning (FromOutsider v) ≡ receivedBy two to
+    after-outsider i = two-way (ap (λ (y : queues.ReplyTo). receivedBy true (replyOf y)) (sym i))
 
-    pub after-row : {a b c : ℕ} → r ≡ WaitingRow a b c → meaning (FromRow a b c) ≡ afterwards two to
-    after-row i = two-way (ap (λ (y : queues.ReplyTo). afterwards true (replyOf y)) (sym i))
+    pub after-row : {a b c : ℕ} → r ≡ WaitingRow a b c → meaning (FromRow a b c) ≡ receivedBy two to
+    after-row i = two-way (ap (λ (y : queues.ReplyTo). receivedBy true (replyOf y)) (sym i))
 
 pub ruleset after-laws = (after-one-way, after-nobody, after-outsider, after-row)
 
 -- ---- the branch
 
 module _ (s : List ℕ) (slot : ℕ) {x : Settling} {c k : ℕ} (e : x ≡ Settling.Branch c k) where
-  pub settle-branch : {s′ : List ℕ} → c < 256 → s′ ≡ withPart s (slot + 2416 + 6 * c) (progressBytes (meaning (Taken k))) → s′ ≡ settledBytes s slot x
+  pub settle-branch : {s′ : List ℕ} → c < 256 → s′ ≡ rowStored s slot c (meaning (Taken k)) → s′ ≡ settledBytes s slot x
   settle-branch l f =
-      f ∙ (sym (ap (λ (t : Bool). pick t (withPart s (slot + 2416 + 6 * c) (progressBytes (taken k))) s) (lt-ltb c 256 l)) ∙ sym (ap (settledBytes s slot) e))
+      f ∙ (sym (ap (λ (t : Bool). pick t (rowStored s slot c (taken k)) s) (lt-ltb c 256 l)) ∙ sym (ap (settledBytes s slot) e))
 
   pub settle-past : 256 ≤ c → s ≡ settledBytes s slot x
   settle-past l =
-      sym (ap (settledBytes s slot) e ∙ ap (λ (t : Bool). pick t (withPart s (slot + 2416 + 6 * c) (progressBytes (taken k))) s) (le-ltb c 256 l))
+      sym (ap (settledBytes s slot) e ∙ ap (λ (t : Bool). pick t (rowStored s slot c (taken k)) s) (le-ltb c 256 l))
 
 -- ---- all stores
 
 pub stores : (s : List ℕ) (slot : ℕ) (tree : List ℕ) (n k : ℕ) (x : Settling) (i : ℕ) (y : Progress) {a b c d : List ℕ} → a ≡ treeStored s slot tree n
-    → b ≡ removed a slot k → c ≡ settledBytes b slot x → d ≡ withPart c (slot + 2416 + 6 * i) (progressBytes y) → d ≡ storedBytes s slot tree n k x i y
+    → b ≡ removed a slot k → c ≡ settledBytes b slot x → d ≡ rowStored c slot i y → d ≡ storedBytes s slot tree n k x i y
 stores s slot tree n k x i y e f g h =
-    h ∙ ap (λ (t : List ℕ). withPart t (slot + 2416 + 6 * i) (progressBytes y))
+    h ∙ ap (λ (t : List ℕ). rowStored t slot i y)
     (g ∙ ap (λ (t : List ℕ). settledBytes t slot x) (f ∙ ap (λ (t : List ℕ). removed t slot k) e))
 
 -- The session after a receive.
 abbrev pub receivedIn : Session → Forest Value → ℕ → Settling → ℕ → Progress → Session
-receivedIn S F k x i y = record { tree = F; queue = without k (S .queue); progress = advance (settled x (S .progress)) i y }
+receivedIn S F k x i y = withProgress (withQueue (withTree S F) (without k (S .queue))) (advance (settled x (S .progress)) i y)
 
 -- The choice of a settled branch has a place among the rows.
 abbrev pub Small : Settling → Type 0
@@ -94,21 +97,21 @@ step-on {s} {t} {u} {at} h S₁ S₂ v w e f =
 settled-made : {S : Session} → WellMade S → (x : Settling) → Small x → WellMade (withProgress S (settled x (S .progress)))
 settled-made w Settling.Nothing l = w
 settled-made {S} w (Settling.Branch c k) l =
-    record { bounded = w .bounded; upToFour = w .upToFour; messages = w .messages; noRowsPast = advance-past (S .progress) c (taken k) l (w .noRowsPast) }
+    made-row w c (taken k) l
 
 settled-set : {s : List ℕ} {at : ℕ} {S : Session} → Living s at S → (x : Settling) → Small x
     → settledBytes s at x ≡ withPart s at (slotBytes (live (withProgress S (settled x (S .progress)))))
 settled-set {s} {at} {S} h Settling.Nothing l = sym (row-same h)
   where
     row-same : Living s at S → withPart s at (slotBytes (live S)) ≡ s
-    row-same h = ap (withPart s at) (sym (h .bytes)) ∙ part-back s at 4096 (h .inside)
+    row-same h = ap (withPart s at) (sym (h .bytes)) ∙ part-back s at slotSize (h .inside)
 settled-set {s} {at} {S} h (Settling.Branch c k) l =
-    ap (λ (t : Bool). pick t (withPart s (at + 2416 + 6 * c) (progressBytes (taken k))) s) (lt-ltb c 256 l) ∙ row-set h c (taken k) l
+    ap (λ (t : Bool). pick t (rowStored s at c (taken k)) s) (lt-ltb c 256 l) ∙ row-set h c (taken k) l
 
 module _ {s : List ℕ} {at : ℕ} {S : Session} (h : Living s at S) (o : List ℕ) (n k : ℕ) (x : Settling) (i : ℕ) (y : Progress) (F : Forest Value)
     (kept : KeptTree o n F) (few : k < length (S .queue)) (small : Small x) (l : i < 256) where
   abbrev S₁ : Session
-  S₁ = record { tree = F; queue = S .queue; progress = S .progress }
+  S₁ = withTree S F
 
   abbrev S₂ : Session
   S₂ = withQueue S₁ (without k (S .queue))
@@ -117,7 +120,7 @@ module _ {s : List ℕ} {at : ℕ} {S : Session} (h : Living s at S) (o : List �
   S₃ = withProgress S₂ (settled x (S .progress))
 
   made₁ : WellMade S₁
-  made₁ = record { bounded = kept .made; upToFour = h .made .upToFour; messages = h .made .messages; noRowsPast = h .made .noRowsPast }
+  made₁ = made-tree (h .made) F (kept .made)
 
   made₂ : WellMade S₂
   made₂ = remove-made made₁ k few
@@ -126,19 +129,10 @@ module _ {s : List ℕ} {at : ℕ} {S : Session} (h : Living s at S) (o : List �
   made₃ = settled-made made₂ x small
 
   pub stored-made : WellMade (receivedIn S F k x i y)
-  stored-made =
-      record {
-        bounded = made₃ .bounded;
-        upToFour = made₃ .upToFour;
-        messages = made₃ .messages;
-        noRowsPast = advance-past (settled x (S .progress)) i y l (made₃ .noRowsPast);
-      }
+  stored-made = made-row made₃ i y l
 
   tree-stored : treeStored s at o n ≡ withPart s at (slotBytes (live S₁))
-  tree-stored =
-      ap (λ (t : List ℕ). withPart (withPart s (at + 2) (u16Bytes n)) (at + 16) (padded 1024 t)) (kept .bytes)
-      ∙ (ap (λ (j : ℕ). withPart (withPart s (at + 2) (u16Bytes j)) (at + 16) (padded 1024 (treeBytes F))) (kept .size)
-      ∙ tree-set h F (omega (arith, kept .size, kept .small)))
+  tree-stored = tree-set h F o n (kept .bytes) (kept .size) (omega (arith, kept .size, kept .small))
 
   queue-stored : removed (treeStored s at o n) at k ≡ withPart s at (slotBytes (live S₂))
   queue-stored = step-on h S₁ S₂ made₁ made₂ tree-stored (λ g. remove-live made₁ (living-holds g) k few)

@@ -1,55 +1,34 @@
 -- What each part of a receive says, for every slot that holds a live session. 01: "receive: a ready input (in a choice it settles the branch)
 -- takes the oldest queued message of its operation and replaces the subtree."
 use mathlib.Core.Path.{_≡_}
-use mathlib.Core.Bool.{Bool, true, false}
+use mathlib.Core.Bool.{Bool, false}
 use mathlib.Core.List.{List}
-use Prim.Native.Nat.{ℕ, _+_, _*_, _<_, _≤_}
+use Prim.Native.Nat.{ℕ, _<_, _≤_}
 use lib.Dec.{ltb}
-use lib.ListN.{length, take}
+use lib.ListN.{length}
 use Rattle.forest.specs.Path.{Path, replaceAt}
 use Rattle.refusal.specs.declared.Refusal.the-variants.{MoveNotAllowed}
 use Rattle.refusal.specs.declared.Outcome.{Outcome}
 use Rattle.scalar.specs.Value.{pick}
-use Rattle.wire.specs.Wire.{withPart}
 use Rattle.syntax.specs.Syntax.{Operation, input}
 use Rattle.typing.specs.Environment.{within}
 use Rattle.typing.specs.Rules.{permits}
 use Rattle.network.specs.Form.{WellFormed}
 use Rattle.network.specs.Layout.{pathCount, behaviourCount}
 use Rattle.network.specs.Decode.{pathOf, operationOf, behaviourOf}
-use Rattle.state.specs.Session.{ReplyTo, Progress, done, received, taken, Progresses, advance, Queued, Session, State}
-use Rattle.state.specs.Bytes.{u16Bytes, padded, progressBytes, readEntry, readSession}
-use Rattle.moves.specs.Moves.{Result, nothing, message, oldest, voidValue, require, ifUndone, takes, receiveAt}
+use Rattle.state.specs.Places.{entryStart}
+use Rattle.state.specs.Session.{Progress, taken, Progresses, advance, Queued, Session, State}
+use Rattle.state.specs.Bytes.{readEntry, readSession}
+use Rattle.moves.specs.Moves.{Result, nothing, message, oldest, voidValue, require, ifUndone, receivedBy, takes, receiveAt}
 use Rattle.moves.specs.Step.{Step, finish}
-use Rattle.queues.specs.Queue.{entryAt, without, removed}
+use Rattle.queues.specs.Queue.{without, removed}
 use Rattle.session_trees.specs.Changing.{KeptTree}
 use Rattle.moving.specs.Made.{StateOf, InSession}
-use Rattle.rows.specs.declared.BehaviourRow.{BehaviourRow}
 use Rattle.slots.specs.Living.{Living}
-use Rattle.receive_moves.specs.declared.Input.{Input}
+use Rattle.slots.specs.Slots.{treeStored}
 use Rattle.receive_moves.specs.declared.Settling.{Settling}
 use Rattle.receive_moves.specs.declared.Taking.{Taking}
-
--- B: "1 one-way (operation a, path b); 2 request-response (operation a, into b, ..)".
-abbrev pub inputOf : BehaviourRow → Input
-inputOf BehaviourRow.Nil = Input.Nothing
-inputOf (BehaviourRow.OneWay o p) = Input.Of o p false
-inputOf (BehaviourRow.RequestResponse o p c d) = Input.Of o p true
-inputOf (BehaviourRow.Notification o e) = Input.Nothing
-inputOf (BehaviourRow.SolicitResponse o e p) = Input.Nothing
-inputOf (BehaviourRow.If e a b) = Input.Nothing
-inputOf (BehaviourRow.While e b) = Input.Nothing
-inputOf (BehaviourRow.Sequence a b) = Input.Nothing
-inputOf (BehaviourRow.Parallel a b) = Input.Nothing
-inputOf (BehaviourRow.Assign p e) = Input.Nothing
-inputOf (BehaviourRow.Choice first n) = Input.Nothing
-inputOf (BehaviourRow.Branch a b) = Input.Nothing
-inputOf BehaviourRow.Unknown = Input.Nothing
-
--- The input's progress once received: done, or received with where the reply goes if it is two-way.
-abbrev pub afterwards : Bool → ReplyTo → Progress
-afterwards true to = received to
-afterwards false to = done
+use Rattle.progress.specs.Stored.{rowStored}
 
 -- "in a choice it settles the branch"
 abbrev pub settled : Settling → Progresses → Progresses
@@ -64,15 +43,12 @@ SettlesRow file (Settling.Branch c k) = c < behaviourCount file
 -- The bytes with the branch settled; rows past 255 are none.
 abbrev pub settledBytes : List ℕ → ℕ → Settling → List ℕ
 settledBytes s slot Settling.Nothing = s
-settledBytes s slot (Settling.Branch c k) = pick (ltb c 256) (withPart s (slot + 2416 + 6 * c) (progressBytes (taken k))) s
+settledBytes s slot (Settling.Branch c k) = pick (ltb c 256) (rowStored s slot c (taken k)) s
 
--- The bytes with another tree, of n bytes; without the entry k besides; after all stores of a receive.
-abbrev pub treeStored : List ℕ → ℕ → List ℕ → ℕ → List ℕ
-treeStored s slot tree n = withPart (withPart s (slot + 2) (u16Bytes n)) (slot + 16) (padded 1024 (take n tree))
-
+-- The bytes after all stores of a receive: the tree, the queue without the entry k, the branch, the input's progress.
 abbrev pub storedBytes : List ℕ → ℕ → List ℕ → ℕ → ℕ → Settling → ℕ → Progress → List ℕ
 storedBytes s slot tree n k x i y =
-    withPart (settledBytes (removed (treeStored s slot tree n) slot k) slot x) (slot + 2416 + 6 * i) (progressBytes y)
+    rowStored (settledBytes (removed (treeStored s slot tree n) slot k) slot x) slot i y
 
 -- The message that is taken, of those of the session S.
 abbrev pub TakenAs : List ℕ → List ℕ → ℕ → ℕ → ℕ → List ℕ → Session → Taking → Type 0
@@ -80,8 +56,8 @@ TakenAs file s slot o p scratch S Taking.Nothing = oldest o (S .queue) ≡ nothi
 TakenAs file s slot o p scratch S Taking.TooLarge =
     (m : Queued) × (l : List Queued) × (oldest o (S .queue) ≡ message m l) × (within (replaceAt voidValue (pathOf file p) (m .message) (S .tree)) ≡ false)
 TakenAs file s slot o p scratch S (Taking.Message k n) =
-    (oldest o (S .queue) ≡ message (readEntry s (entryAt slot k)) (without k (S .queue))) × (k < length (S .queue))
-    × KeptTree scratch n (replaceAt voidValue (pathOf file p) (readEntry s (entryAt slot k) .message) (S .tree))
+    (oldest o (S .queue) ≡ message (readEntry s (entryStart slot k)) (without k (S .queue))) × (k < length (S .queue))
+    × KeptTree scratch n (replaceAt voidValue (pathOf file p) (readEntry s (entryStart slot k) .message) (S .tree))
 
 pub record Takes (file s : List ℕ) (slot o p : ℕ) (scratch : List ℕ) (x : Taking) : Type 0 where
   pub tells : WellFormed file → p < pathCount file → (S : Session) → Living s slot S → readSession s slot ≡ S → TakenAs file s slot o p scratch S x
@@ -94,7 +70,7 @@ pub record Leaves (s s′ : List ℕ) (o : Outcome) (r : Result) : Type 0 where
 -- What an input of row i does, of moves' `receiveAt`.
 abbrev pub inputReceives : State → ℕ → ℕ → Session → Progresses → ℕ → Operation → Path → Bool → Result
 inputReceives G q n S p i o x two =
-    ifUndone (S .progress i) (require (permits q input two o) MoveNotAllowed (takes G q n S x p i (afterwards two) (oldest (o .row) (S .queue))))
+    ifUndone (S .progress i) (require (permits q input two o) MoveNotAllowed (takes G q n S x p i (receivedBy two) (oldest (o .row) (S .queue))))
 
 pub record ReceivesInput (file : List ℕ) (q slot i : ℕ) (x : Settling) (o p : ℕ) (two : Bool) (s s′ : List ℕ) (r : Outcome) : Type 0 where
   pub tells : WellFormed file → (G : State) → StateOf file s G → (n b : ℕ) (h : InSession file s G q n slot b) → p < pathCount file → SettlesRow file x

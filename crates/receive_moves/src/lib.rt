@@ -1,17 +1,15 @@
 // Receiving. 01: "receive: a ready input (in a choice it settles the branch) takes the oldest queued message of its operation and replaces the
 // subtree." `slot` is where the session's slot starts. Everything is tested before the first byte of the state is written.
 ghost use mathlib.Core.Path.{_≡_};
-ghost use mathlib.Core.Bool.{Bool};
-ghost use Prim.Native.Nat.{_+_, _*_, _≤_, _<_};
+ghost use Prim.Native.Nat.{_+_, _≤_, _<_};
 ghost use lib.ListN.{length};
+ghost use Rattle.state.specs.Places.{slotSize, treeRoom, entryStart};
 ghost use Rattle.state.specs.Bytes.{readEntry, readSession};
 ghost use Rattle.state.specs.Shape.{isUndone};
-ghost use Rattle.rows.specs.Readers.{behaviourRowOf};
-ghost use Rattle.moves.specs.Moves.{receiveMove};
+ghost use Rattle.moves.specs.Moves.{receivedBy, receiveMove};
 ghost use Rattle.moving.specs.Made.{Made};
 ghost use Rattle.progress.specs.Meaning.{meaning};
-ghost use Rattle.queues.specs.Queue.{entryAt};
-ghost use Rattle.receive_moves.specs.Receiving.{inputOf, afterwards, settledBytes, storedBytes, Takes, ReceivesInput, ReceivesAt};
+ghost use Rattle.receive_moves.specs.Receiving.{settledBytes, storedBytes, Takes, ReceivesInput, ReceivesAt};
 use moving::Running;
 use progress::Progress;
 use queues::OldestEntry;
@@ -19,7 +17,7 @@ use queues::ReplyTo;
 use readiness::Reached;
 use refusal::Outcome;
 use refusal::Refusal;
-use rows::BehaviourRow;
+use rows::InputRow;
 use session_trees::Change;
 
 // What an input settles: nothing, or a branch of a choice, by the choice's row and the branch's number.
@@ -34,33 +32,6 @@ pub enum Taking {
     Nothing,
     TooLarge,
     Message(usize, u16),
-}
-
-// An input by its operation (O row), its path (P row) and whether it is two-way.
-pub enum Input {
-    Nothing,
-    Of(u16, u16, bool),
-}
-
-// B row i, if it is an input.
-fn input_at(file: &[u8], i: u16) -> Input
-    ensures { λ x. ⌜ x ≡ inputOf (behaviourRowOf (now (file .entry)) i) ⌝ }
-{
-    match rows::behaviour_row(file, i) {
-        BehaviourRow::Nil => Input::Nothing,
-        BehaviourRow::OneWay(o, p) => Input::Of(o, p, false),
-        BehaviourRow::RequestResponse(o, p, _, _) => Input::Of(o, p, true),
-        BehaviourRow::Notification(_, _) => Input::Nothing,
-        BehaviourRow::SolicitResponse(_, _, _) => Input::Nothing,
-        BehaviourRow::If(_, _, _) => Input::Nothing,
-        BehaviourRow::While(_, _) => Input::Nothing,
-        BehaviourRow::Sequence(_, _) => Input::Nothing,
-        BehaviourRow::Parallel(_, _) => Input::Nothing,
-        BehaviourRow::Assign(_, _) => Input::Nothing,
-        BehaviourRow::Choice(_, _) => Input::Nothing,
-        BehaviourRow::Branch(_, _) => Input::Nothing,
-        BehaviourRow::Unknown => Input::Nothing,
-    }
 }
 
 // Is the row undone?
@@ -81,7 +52,7 @@ fn is_undone(state: &[u8], slot: usize, r: u16) -> bool
 
 // The oldest message of O row o, and the session's tree with it at the path of P row p, in the scratch buffer.
 fn take(scratch: &mut [u8], file: &[u8], state: &[u8], slot: usize, o: u16, p: u16) -> Taking
-    requires { ⌜ (slot + 4096 ≤ length (now state)) × (2304 ≤ length (now scratch)) ⌝ }
+    requires { ⌜ (slot + slotSize ≤ length (now state)) × (2304 ≤ length (now scratch)) ⌝ }
     ensures { λ x. ⌜ Takes (now (file .entry)) (now (state .entry)) slot o p (now (scratch .exit)) x ⌝ }
 {
     let OldestEntry::Entry(k) = queues::oldest(state, slot, o) else {
@@ -107,8 +78,8 @@ fn take(scratch: &mut [u8], file: &[u8], state: &[u8], slot: usize, o: u16, p: u
 
 // The input's progress once it has the message of the entry k: done, or received where it is two-way.
 fn progress_after(state: &[u8], slot: usize, k: usize, twoway: bool) -> Progress
-    requires { ⌜ (slot + 4096 ≤ length (now state)) × (k < 4) ⌝ }
-    ensures { λ x. ⌜ meaning x ≡ afterwards twoway (readEntry (now (state .entry)) (entryAt slot k) .replyTo) ⌝ }
+    requires { ⌜ (slot + slotSize ≤ length (now state)) × (k < 4) ⌝ }
+    ensures { λ x. ⌜ meaning x ≡ receivedBy twoway (readEntry (now (state .entry)) (entryStart slot k) .replyTo) ⌝ }
 {
     if !twoway {
         return Progress::Done;
@@ -122,7 +93,7 @@ fn progress_after(state: &[u8], slot: usize, k: usize, twoway: bool) -> Progress
 
 // "in a choice it settles the branch"
 fn settle(state: &mut [u8], slot: usize, x: Settling)
-    requires { ⌜ slot + 4096 ≤ length (now state) ⌝ }
+    requires { ⌜ slot + slotSize ≤ length (now state) ⌝ }
     ensures { λ _. ⌜ now (state .exit) ≡ settledBytes (now (state .entry)) slot x ⌝ }
 {
     match x {
@@ -146,7 +117,7 @@ fn store(
     i: u16,
     y: Progress,
 )
-    requires { ⌜ (slot + 4096 ≤ length (now state)) × (n ≤ 1024) × (n ≤ length (now tree)) × (k < 4) × (i < 256) ⌝ }
+    requires { ⌜ (slot + slotSize ≤ length (now state)) × (n ≤ treeRoom) × (n ≤ length (now tree)) × (k < 4) × (i < 256) ⌝ }
     ensures { λ _. ⌜ now (state .exit) ≡ storedBytes (now (state .entry)) slot (now (tree .entry)) n k x i (meaning y) ⌝ }
 {
     slots::put_tree(state, slot, tree, n);
@@ -167,7 +138,7 @@ fn receive_input(
     p: u16,
     twoway: bool,
 ) -> Outcome
-    requires { ⌜ (slot + 4096 ≤ length (now state)) × (slot < 65536) × (i < 256) ⌝ }
+    requires { ⌜ (slot + slotSize ≤ length (now state)) × (slot < 65536) × (i < 256) ⌝ }
     ensures { λ r. ⌜ ReceivesInput (now (file .entry)) q slot i x o p twoway (now (state .entry)) (now (state .exit)) r ⌝ }
 {
     if !is_undone(state, slot, i) {
@@ -190,16 +161,19 @@ fn receive_input(
 
 // The row i, if it is an input.
 fn receive_at(file: &[u8], state: &mut [u8], q: u16, slot: usize, i: u16, x: Settling) -> Outcome
-    requires { ⌜ (slot + 4096 ≤ length (now state)) × (slot < 65536) ⌝ }
+    requires { ⌜ (slot + slotSize ≤ length (now state)) × (slot < 65536) ⌝ }
     ensures { λ r. ⌜ ReceivesAt (now (file .entry)) q slot i x (now (state .entry)) (now (state .exit)) r ⌝ }
 {
     if 255 < i {
         return refusal::refused(Refusal::MoveNotAllowed);
     }
-    let Input::Of(o, p, twoway) = input_at(file, i) else {
-        return refusal::refused(Refusal::MoveNotAllowed);
-    };
-    receive_input(file, state, q, slot, i, x, o, p, twoway)
+    match rows::input_of(file, i) {
+        InputRow::OneWay(o, p) => receive_input(file, state, q, slot, i, x, o, p, false),
+        InputRow::RequestResponse(o, p, _, _) => {
+            receive_input(file, state, q, slot, i, x, o, p, true)
+        }
+        InputRow::Nothing => refusal::refused(Refusal::MoveNotAllowed),
+    }
 }
 
 // Row r of session n of service q receives.

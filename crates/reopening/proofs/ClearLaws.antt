@@ -1,12 +1,12 @@
 -- Laws of rows set to undone: one for each way out of the functions.
-use Prim.Native.Nat.{ℕ, zero, suc, _+_, _-_, _*_, _/_, _<_, _≤_}
+use Prim.Native.Nat.{ℕ, zero, suc, _+_, _-_, _/_, _<_, _≤_}
 use mathlib.Core.Path.{_≡_, refl, sym, _∙_, ap, subst}
 use mathlib.Core.List.{List}
 use mathlib.Core.Bool.{Bool, true, false, _&&_, _||_}
 use mathlib.Core.Logic.{inl, inr}
 use native.Mathlib.Omega.{arith}
 use native.Mathlib.Nat.{add-zero}
-use native.Mathlib.Decide.{decLt, decLe}
+use native.Mathlib.Decide.{decLt}
 use lib.Dec.{eqb, leb, ltb}
 use lib.ListN.{length}
 use borrow.Author.Tests.{eq-eqb, ne-eqb, lt-ltb, le-ltb, le-leb, lt-leb}
@@ -14,16 +14,17 @@ use Rattle.forest.specs.Compare.{Compare, lt, eq, gt, compare}
 use Rattle.wire.specs.Wire.{byteAt, u16At, withPart}
 use Rattle.wire.specs.WireLaws.{Agree, withPart-inside, withPart-outside, length-withPart}
 use Rattle.scalar.specs.Value.{pick}
-use Rattle.syntax.specs.Rows.{hasRow}
+use Rattle.syntax.specs.Rows.{hasRow, hasRowIn}
 use Rattle.network.specs.declared.BehaviourKind.{BehaviourKind}
 use Rattle.network.specs.Layout.{behaviourCount, behaviourAt}
 use Rattle.network.specs.Rows.{fieldA, fieldB, fieldC, fieldD, kindAt}
 use Rattle.network.specs.Decode.{branchesFrom, behaviourFrom, behaviourTo, behaviourOf}
 use Rattle.network.specs.TestLaws.{one-less, or-false}
-use Rattle.rows.specs.Readers.{behaviourRowAs, behaviourRowOf}
+use Rattle.rows.specs.declared.BranchRow.{BranchRow}
+use Rattle.rows.specs.Readers.{behaviourRowAs, behaviourRowOf, BranchAt}
 use Rattle.row_parts.specs.declared.Subs.{Subs}
 use Rattle.row_parts.specs.Parts.{subsIn, subsOf}
-use Rattle.state.specs.Session.{undone}
+use Rattle.state.specs.Places.{slotSize, rowSize, rowsPlace, keptPlace, rowStart}
 use Rattle.state.specs.Bytes.{zeros, progressBytes}
 use Rattle.state.specs.PartLaws.{length-zeros, byte-zeros}
 use Rattle.progress.specs.declared.Progress.the-variants.{Undone}
@@ -46,13 +47,13 @@ and-or false b x y = refl
 in-either : (f g h : ℕ → Bool) (slot k : ℕ) → ((i : ℕ) → h i ≡ f i || g i) → inRows f slot k || inRows g slot k ≡ inRows h slot k
 unfolding inRows
 in-either f g h slot k e =
-    let i = (k - (slot + 2416)) / 6 in
-    and-or (leb (slot + 2416) k) (ltb k (slot + 3952)) (f i) (g i)
-    ∙ ap (λ (x : Bool). leb (slot + 2416) k && (ltb k (slot + 3952) && x)) (sym (e i))
+    let i = (k - (slot + rowsPlace)) / rowSize in
+    and-or (leb (slot + rowsPlace) k) (ltb k (slot + keptPlace)) (f i) (g i)
+    ∙ ap (λ (x : Bool). leb (slot + rowsPlace) k && (ltb k (slot + keptPlace) && x)) (sym (e i))
 
 in-same : (f g : ℕ → Bool) (slot k : ℕ) → ((i : ℕ) → f i ≡ g i) → inRows f slot k ≡ inRows g slot k
 unfolding inRows
-in-same f g slot k e = ap (λ (x : Bool). leb (slot + 2416) k && (ltb k (slot + 3952) && x)) (e ((k - (slot + 2416)) / 6))
+in-same f g slot k e = ap (λ (x : Bool). leb (slot + rowsPlace) k && (ltb k (slot + keptPlace) && x)) (e ((k - (slot + rowsPlace)) / rowSize))
 
 clears-as : {slot : ℕ} {s t : List ℕ} (f g : ℕ → Bool) → ((i : ℕ) → f i ≡ g i) → Clears f slot s t → Clears g slot s t
 clears-as {slot} {s} {t} f g e c = record {
@@ -70,80 +71,84 @@ clears-both {slot} {s} {t} {u} f g h c d e = record {
 
 -- ---- one row
 
-before-row : (r slot k : ℕ) → k < slot + 2416 + 6 * r → inRows (isRow r) slot k ≡ false
+before-row : (r slot k : ℕ) → k < rowStart slot r → inRows (isRow r) slot k ≡ false
 unfolding inRows isRow
-before-row r slot k l = by (decLt k (slot + 2416))
+before-row r slot k l = by (decLt k (slot + rowsPlace))
   where
-    by : Dec (k < slot + 2416) → leb (slot + 2416) k && (ltb k (slot + 3952) && eqb ((k - (slot + 2416)) / 6) r) ≡ false
-    by (yes m) = rw (lt-leb (slot + 2416) k m) refl
+    by : Dec (k < slot + rowsPlace) → leb (slot + rowsPlace) k && (ltb k (slot + keptPlace) && eqb ((k - (slot + rowsPlace)) / rowSize) r) ≡ false
+    by (yes m) = rw (lt-leb (slot + rowsPlace) k m) refl
     by (no m) =
-        let e : (k - (slot + 2416)) / 6 ≡ r → ⊥ = λ q. omega arith in
-        rw (ne-eqb ((k - (slot + 2416)) / 6) r e, and-false (ltb k (slot + 3952)), and-false (leb (slot + 2416) k)) refl
+        let e : (k - (slot + rowsPlace)) / rowSize ≡ r → ⊥ = λ q. omega arith in
+        rw (ne-eqb ((k - (slot + rowsPlace)) / rowSize) r e, and-false (ltb k (slot + keptPlace)), and-false (leb (slot + rowsPlace) k)) refl
 
-after-row : (r slot k : ℕ) → slot + 2416 + 6 * r + 6 ≤ k → inRows (isRow r) slot k ≡ false
+after-row : (r slot k : ℕ) → rowStart slot r + rowSize ≤ k → inRows (isRow r) slot k ≡ false
 unfolding inRows isRow
 after-row r slot k l =
-    let e : (k - (slot + 2416)) / 6 ≡ r → ⊥ = λ q. omega arith in
-    rw (ne-eqb ((k - (slot + 2416)) / 6) r e, and-false (ltb k (slot + 3952)), and-false (leb (slot + 2416) k)) refl
+    let e : (k - (slot + rowsPlace)) / rowSize ≡ r → ⊥ = λ q. omega arith in
+    rw (ne-eqb ((k - (slot + rowsPlace)) / rowSize) r e, and-false (ltb k (slot + keptPlace)), and-false (leb (slot + rowsPlace) k)) refl
 
-inside-row : (r slot k : ℕ) → r < 256 → slot + 2416 + 6 * r ≤ k → k < slot + 2416 + 6 * r + 6 → inRows (isRow r) slot k ≡ true
+inside-row : (r slot k : ℕ) → r < 256 → rowStart slot r ≤ k → k < rowStart slot r + rowSize → inRows (isRow r) slot k ≡ true
 unfolding inRows isRow
 inside-row r slot k h l m =
-    let e : (k - (slot + 2416)) / 6 ≡ r = omega arith in
-    rw (le-leb (slot + 2416) k (omega arith), lt-ltb k (slot + 3952) (omega arith), eq-eqb ((k - (slot + 2416)) / 6) r e) refl
+    let e : (k - (slot + rowsPlace)) / rowSize ≡ r = omega arith in
+    rw (le-leb (slot + rowsPlace) k (omega arith), lt-ltb k (slot + keptPlace) (omega arith), eq-eqb ((k - (slot + rowsPlace)) / rowSize) r e) refl
 
-past-slot : (r slot k : ℕ) → slot + 3952 ≤ k → inRows (isRow r) slot k ≡ false
+past-slot : (r slot k : ℕ) → slot + keptPlace ≤ k → inRows (isRow r) slot k ≡ false
 unfolding inRows
-past-slot r slot k h = rw (le-ltb k (slot + 3952) h, and-false (leb (slot + 2416) k)) refl
+past-slot r slot k h = rw (le-ltb k (slot + keptPlace) h, and-false (leb (slot + rowsPlace) k)) refl
 
 past-rows : (r slot k : ℕ) → 256 ≤ r → inRows (isRow r) slot k ≡ false
-past-rows r slot k h = by (decLt k (slot + 3952))
+past-rows r slot k h = by (decLt k (slot + keptPlace))
   where
-    by : Dec (k < slot + 3952) → inRows (isRow r) slot k ≡ false
+    by : Dec (k < slot + keptPlace) → inRows (isRow r) slot k ≡ false
     by (yes m) = before-row r slot k (omega arith)
     by (no m) = past-slot r slot k (omega arith)
 
 pub clear-past : (slot r : ℕ) (s : List ℕ) → 256 ≤ r → Clears (isRow r) slot s s
 clear-past slot r s h = record { long = refl; bytes = λ k. rw (past-rows r slot k h) refl }
 
-six-zeros : progressBytes (meaning Undone) ≡ zeros 6
+six-zeros : progressBytes (meaning Undone) ≡ zeros rowSize
 unfolding progressBytes
 six-zeros = refl
 
-pub clear-put : (slot r : ℕ) (s o : List ℕ) → r < 256 → slot + 4096 ≤ length s → o ≡ withPart s (slot + 2416 + 6 * r) (progressBytes (meaning Undone))
-    → Clears (isRow r) slot s o
-clear-put slot r s o h l e =
-    let at = slot + 2416 + 6 * r in
-    let z = ap (withPart s at) six-zeros in
-    let n = length-zeros 6 in
-    let fits : at + length (zeros 6) ≤ length s = omega arith in
+pub clear-put : (slot r : ℕ) (s o : List ℕ) {i : ℕ} → r < 256 → slot + slotSize ≤ length s → i ≡ rowStart slot r
+    → o ≡ withPart s i (progressBytes (meaning Undone)) → Clears (isRow r) slot s o
+clear-put slot r s o {i} h l f e =
+    let at = rowStart slot r in
+    let z = ap (λ (j : ℕ). withPart s j (progressBytes (meaning Undone))) f ∙ ap (withPart s at) six-zeros in
+    let n = length-zeros rowSize in
+    let fits : at + length (zeros rowSize) ≤ length s = omega arith in
     record {
-      long = ap length (e ∙ z) ∙ length-withPart s at (zeros 6) fits;
-      bytes = λ k. ap (λ (x : List ℕ). byteAt x k) (e ∙ z) ∙ by k (decLt k at) (decLt k (at + 6));
+      long = ap length (e ∙ z) ∙ length-withPart s at (zeros rowSize) fits;
+      bytes = λ k. ap (λ (x : List ℕ). byteAt x k) (e ∙ z) ∙ by k (decLt k at) (decLt k (at + rowSize));
     }
   where
-    by : (k : ℕ) → Dec (k < slot + 2416 + 6 * r) → Dec (k < slot + 2416 + 6 * r + 6)
-        → byteAt (withPart s (slot + 2416 + 6 * r) (zeros 6)) k ≡ pick (inRows (isRow r) slot k) 0 (byteAt s k)
+    by : (k : ℕ) → Dec (k < rowStart slot r) → Dec (k < rowStart slot r + rowSize)
+        → byteAt (withPart s (rowStart slot r) (zeros rowSize)) k ≡ pick (inRows (isRow r) slot k) 0 (byteAt s k)
     by k (yes a) b =
-        let at = slot + 2416 + 6 * r in
-        let n = length-zeros 6 in
-        let g = withPart-outside s at (zeros 6) (omega arith) k 1 (inl (omega arith)) .bytes 0 (omega arith) in
+        let at = rowStart slot r in
+        let n = length-zeros rowSize in
+        let g = withPart-outside s at (zeros rowSize) (omega arith) k 1 (inl (omega arith)) .bytes 0 (omega arith) in
         rw (before-row r slot k a) (rw (add-zero k) at g)
     by k (no a) (yes b) =
-        let at = slot + 2416 + 6 * r in
-        let n = length-zeros 6 in
-        let g = withPart-inside s at (zeros 6) (omega arith) (k - at) 1 (omega arith) .bytes 0 (omega arith) in
+        let at = rowStart slot r in
+        let n = length-zeros rowSize in
+        let g = withPart-inside s at (zeros rowSize) (omega arith) (k - at) 1 (omega arith) .bytes 0 (omega arith) in
         let i : at + (k - at) + 0 ≡ k = omega arith in
-        rw (inside-row r slot k h (omega arith) b) (rw i at g ∙ byte-zeros 6 (k - at + 0))
+        rw (inside-row r slot k h (omega arith) b) (rw i at g ∙ byte-zeros rowSize (k - at + 0))
     by k (no a) (no b) =
-        let at = slot + 2416 + 6 * r in
-        let n = length-zeros 6 in
-        let g = withPart-outside s at (zeros 6) (omega arith) k 1 (inr (omega arith)) .bytes 0 (omega arith) in
+        let at = rowStart slot r in
+        let n = length-zeros rowSize in
+        let g = withPart-outside s at (zeros rowSize) (omega arith) k 1 (inr (omega arith)) .bytes 0 (omega arith) in
         rw (after-row r slot k (omega arith)) (rw (add-zero k) at g)
 
 pub ruleset clear-laws = (clear-past, clear-put)
 
 -- ---- behaviours
+
+or-same : (a : Bool) → a ≡ a || (a || a)
+or-same true = refl
+or-same false = refl
 
 or-assoc : (a b c : Bool) → a || (b || c) ≡ (a || b) || c
 or-assoc true b c = refl
@@ -219,7 +224,7 @@ next-at s r = omega arith
 
 branch-rows : (s : List ℕ) (d r n i : ℕ) → (n ≡ 0 → ⊥) → (n ≡ 1 → ⊥) → branchRows s d r n i
     ≡ (isRow r i || (behaviourRows s d (fieldA s (behaviourAt s r)) i || behaviourRows s d (fieldB s (behaviourAt s r)) i)) || branchRows s d (r + 1) (n - 1) i
-unfolding branchRows branchesFrom hasRow isRow behaviourRows
+unfolding branchRows branchesFrom hasRowIn isRow behaviourRows
 branch-rows s d r zero i f g = absurd (f refl)
 branch-rows s d r (suc zero) i f g = absurd (g refl)
 branch-rows s d r (suc (suc n)) i f g =
@@ -227,49 +232,53 @@ branch-rows s d r (suc (suc n)) i f g =
     let b : suc (suc n) - 1 ≡ suc n = omega arith in
     let x = hasRow i (behaviourTo s d (fieldA s (behaviourAt s r))) in
     let y = hasRow i (behaviourTo s d (fieldB s (behaviourAt s r))) in
-    rw (a, b) (or-assoc (eqb i r) (x || y) (hasRow i (branchesFrom s (behaviourTo s d) (suc r) (suc n))))
+    rw (a, b) (or-assoc (eqb i r) (x || y) (hasRowIn i (branchesFrom s (behaviourTo s d) (suc r) (suc n))))
 
 pub no-branches : (s : List ℕ) (slot r at n left : ℕ) (a b : List ℕ) → Clears (isRow r) slot a b → n ≡ 0 → ClearsBranches s slot r at n left a b
-unfolding branchRows branchesFrom hasRow isRow
-no-branches s slot r at n left a b c z =
-    record { clears = λ e. clears-as (isRow r) (branchRows s left r n) (λ i. ap (λ (m : ℕ). hasRow i (branchesFrom s (behaviourTo s left) r m)) (sym z)) c }
+unfolding branchRows branchesFrom hasRowIn isRow
+no-branches s slot r at n left a b c z = record {
+  clears = λ e. clears-as (isRow r) (branchRows s left r n) (λ i. or-same (eqb i r) ∙ ap (λ (m : ℕ). branchRows s left r m i) (sym z)) c;
+}
 
-module _ (s : List ℕ) (slot r at n left : ℕ) (a b m o : List ℕ) {j k : ℕ} (c : Clears (isRow r) slot a b) (p : j ≡ u16At s (at + 2))
-    (d : Clears (behaviourRows s left j) slot b m) (q : k ≡ u16At s (at + 4)) (t : Clears (behaviourRows s left k) slot m o) where
+module _ (s : List ℕ) (slot r at n left : ℕ) (a b m o : List ℕ) (c : Clears (isRow r) slot a b) {f : BranchRow} (p : BranchAt s at f)
+    (d : Clears (behaviourRows s left (f .input)) slot b m) (t : Clears (behaviourRows s left (f .follow)) slot m o) where
+  abbrev both-rows : ℕ → Bool
+  both-rows i = behaviourRows s left (f .input) i || behaviourRows s left (f .follow) i
+
   -- The rows of the first branch.
   abbrev first-rows : ℕ → Bool
-  first-rows i = isRow r i || (behaviourRows s left j i || behaviourRows s left k i)
+  first-rows i = isRow r i || both-rows i
 
   first-clears : Clears first-rows slot a o
   first-clears =
-      clears-both (isRow r) (λ i. behaviourRows s left j i || behaviourRows s left k i) first-rows c
-      (clears-both (behaviourRows s left j) (behaviourRows s left k) (λ i. behaviourRows s left j i || behaviourRows s left k i) d t (λ i. refl)) (λ i. refl)
+      clears-both (isRow r) both-rows first-rows c
+      (clears-both (behaviourRows s left (f .input)) (behaviourRows s left (f .follow)) both-rows d t (λ i. refl)) (λ i. refl)
 
-  left-is : at ≡ behaviourAt s r → fieldA s (behaviourAt s r) ≡ j
-  left-is e = sym (p ∙ ap (λ (y : ℕ). u16At s (y + 2)) e)
+  input-is : at ≡ behaviourAt s r → fieldA s (behaviourAt s r) ≡ f .input
+  input-is e = sym (p .input ∙ ap (fieldA s) e)
 
-  right-is : at ≡ behaviourAt s r → fieldB s (behaviourAt s r) ≡ k
-  right-is e = sym (q ∙ ap (λ (y : ℕ). u16At s (y + 4)) e)
+  follow-is : at ≡ behaviourAt s r → fieldB s (behaviourAt s r) ≡ f .follow
+  follow-is e = sym (p .follow ∙ ap (fieldB s) e)
 
   pub last-branch : n ≡ 1 → ClearsBranches s slot r at n left a o
-  unfolding branchRows branchesFrom hasRow isRow behaviourRows
+  unfolding branchRows branchesFrom hasRowIn isRow behaviourRows
   last-branch z = record {
     clears = λ e. clears-as first-rows (branchRows s left r n) (λ i.
-        let x = left-is e in
-        let y = right-is e in
+        let x = input-is e in
+        let y = follow-is e in
         rw (z, x, y) refl) first-clears;
   }
 
   pub more-branches : (w : List ℕ) → (n ≡ 0 → ⊥) → (n ≡ 1 → ⊥) → ClearsBranches s slot (r + 1) (at + 10) (n - 1) left o w
       → ClearsBranches s slot r at n left a w
-  more-branches w f g v = record {
+  more-branches w y z v = record {
     clears = λ e.
         clears-both first-rows (branchRows s left (r + 1) (n - 1)) (branchRows s left r n) first-clears
         (v .clears (ap (λ (y : ℕ). y + 10) e ∙ next-at s r)) (λ i. two-or-more e i);
   }
     where
       two-or-more : at ≡ behaviourAt s r → (i : ℕ) → branchRows s left r n i ≡ first-rows i || branchRows s left (r + 1) (n - 1) i
-      two-or-more e i = branch-rows s left r n i f g ∙ rw (left-is e, right-is e) refl
+      two-or-more e i = branch-rows s left r n i y z ∙ rw (input-is e, follow-is e) refl
 
 pub ruleset branches-laws = (no-branches, last-branch, more-branches)
 

@@ -8,15 +8,16 @@ use lib.Dec.{eqb, leb, ltb}
 use lib.ListN.{length}
 use Rattle.wire.specs.Wire.{byteAt}
 use Rattle.scalar.specs.Value.{pick}
-use Rattle.syntax.specs.Rows.{hasRow}
+use Rattle.syntax.specs.Rows.{hasRow, hasRowIn}
 use Rattle.network.specs.Layout.{behaviourAt}
 use Rattle.network.specs.Decode.{branchesFrom, behaviourTo, behaviourOf}
 use Rattle.row_parts.specs.declared.Subs.{Subs}
+use Rattle.state.specs.Places.{rowSize, rowsPlace, keptPlace}
 
 -- Does the place k belong to the progress of a row of which f holds, in the slot that starts at `slot`? "2,416 to 3,951: the progress of B rows
 -- 0 to 255: six bytes each" (docs/STATE.md).
 unfoldable pub inRows : (ℕ → Bool) → ℕ → ℕ → Bool
-inRows f slot k = leb (slot + 2416) k && (ltb k (slot + 3952) && f ((k - (slot + 2416)) / 6))
+inRows f slot k = leb (slot + rowsPlace) k && (ltb k (slot + keptPlace) && f ((k - (slot + rowsPlace)) / rowSize))
 
 -- The bytes, of which k stand before, with these places 0: an undone row is six zeros.
 unfoldable pub undoneFrom : (ℕ → Bool) → ℕ → ℕ → List ℕ → List ℕ
@@ -39,7 +40,7 @@ unfoldable pub behaviourRows : List ℕ → ℕ → ℕ → ℕ → Bool
 behaviourRows s d r i = hasRow i (behaviourTo s d r)
 
 unfoldable pub branchRows : List ℕ → ℕ → ℕ → ℕ → ℕ → Bool
-branchRows s d r n i = hasRow i (branchesFrom s (behaviourTo s d) r n)
+branchRows s d r n i = hasRowIn i (branchesFrom s (behaviourTo s d) r n)
 
 unfoldable pub subRows : List ℕ → ℕ → Subs → ℕ → Bool
 subRows s d Subs.Nothing i = false

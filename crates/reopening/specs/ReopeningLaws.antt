@@ -7,17 +7,18 @@ use mathlib.Core.Logic.{inl, inr}
 use native.Mathlib.Nat.{zero-add, add-zero}
 use native.Mathlib.Decide.{decLt}
 use native.Mathlib.Omega.{arith}
-use lib.Dec.{leb, ltb}
-use lib.ListN.{getD, length}
+use lib.Dec.{leb}
+use lib.ListN.{length}
 use lib.Seq.{ext-getD}
 use borrow.Author.Tests.{lt-ltb, le-ltb, le-leb, lt-leb}
 use Rattle.wire.specs.Wire.{byteAt, withPart}
-use Rattle.wire.specs.WireLaws.{Agree, withPart-inside, withPart-outside, length-withPart}
+use Rattle.wire.specs.WireLaws.{withPart-inside, withPart-outside, length-withPart}
 use Rattle.scalar.specs.Value.{pick}
 use Rattle.syntax.specs.Syntax.{Behaviour}
 use Rattle.syntax.specs.Rows.{hasRow}
-use Rattle.state.specs.Session.{Progress, undone, Progresses, reopen, Session, Slot, live, State, setSlot}
-use Rattle.state.specs.Bytes.{zeros, progressBytes, rowsBytes, slotBytes, stateBytes}
+use Rattle.state.specs.Places.{slotSize, rowSize, rowsSize, rowsPlace, keptPlace, slotStart}
+use Rattle.state.specs.Session.{Progress, undone, Progresses, reopen, Session, withProgress, Slot, live, State, setSlot}
+use Rattle.state.specs.Bytes.{progressBytes, rowsBytes, slotBytes, stateBytes}
 use Rattle.state.specs.PartLaws.{Holds, holds-whole, holds-byte, byte-zeros}
 use Rattle.state.specs.SizeLaws.{progress-size, rows-size, Fits, Sized, sized-length}
 use Rattle.state.specs.ReadLaws.{holds-row, slot-parts, state-slot}
@@ -54,54 +55,54 @@ and-false true = refl
 and-false false = refl
 
 module _ (f : ℕ → Bool) (slot : ℕ) where
-  before-rows : (k : ℕ) → k < slot + 2416 → inRows f slot k ≡ false
+  before-rows : (k : ℕ) → k < slot + rowsPlace → inRows f slot k ≡ false
   unfolding inRows
-  before-rows k l = rw (lt-leb (slot + 2416) k l) refl
+  before-rows k l = rw (lt-leb (slot + rowsPlace) k l) refl
 
-  past-rows : (k : ℕ) → slot + 3952 ≤ k → inRows f slot k ≡ false
+  past-rows : (k : ℕ) → slot + keptPlace ≤ k → inRows f slot k ≡ false
   unfolding inRows
-  past-rows k l = rw (le-ltb k (slot + 3952) l, and-false (leb (slot + 2416) k)) refl
+  past-rows k l = rw (le-ltb k (slot + keptPlace) l, and-false (leb (slot + rowsPlace) k)) refl
 
-  inside-rows : (k i : ℕ) → slot + 2416 ≤ k → k < slot + 3952 → (k - (slot + 2416)) / 6 ≡ i → inRows f slot k ≡ f i
+  inside-rows : (k i : ℕ) → slot + rowsPlace ≤ k → k < slot + keptPlace → (k - (slot + rowsPlace)) / rowSize ≡ i → inRows f slot k ≡ f i
   unfolding inRows
-  inside-rows k i l m e = rw (le-leb (slot + 2416) k l, lt-ltb k (slot + 3952) m, e) refl
+  inside-rows k i l m e = rw (le-leb (slot + rowsPlace) k l, lt-ltb k (slot + keptPlace) m, e) refl
 
 -- The same with every row of which f holds undone.
 abbrev pub undoneWhere : (ℕ → Bool) → Progresses → Progresses
 undoneWhere f p = λ i. pick (f i) undone (p i)
 
-row-byte : {s : List ℕ} {at : ℕ} (p : Progresses) → Holds s at (rowsBytes p) → (i m : ℕ) → i < 256 → m < 6
-    → byteAt s (at + 6 * i + m) ≡ byteAt (progressBytes (p i)) m
+row-byte : {s : List ℕ} {at : ℕ} (p : Progresses) → Holds s at (rowsBytes p) → (i m : ℕ) → i < 256 → m < rowSize
+    → byteAt s (at + rowSize * i + m) ≡ byteAt (progressBytes (p i)) m
 row-byte p h i m l k = holds-byte (holds-row p h i l) m (omega (arith, progress-size (p i)))
 
 cleared-byte : (t : Bool) (x : Progress) (m : ℕ) → byteAt (progressBytes (pick t undone x)) m ≡ pick t 0 (byteAt (progressBytes x) m)
 unfolding progressBytes
-cleared-byte true x m = byte-zeros 6 m
+cleared-byte true x m = byte-zeros rowSize m
 cleared-byte false x m = refl
 
 -- Rows that the bytes hold are written anew.
-pub undone-rows : (f : ℕ → Bool) (slot : ℕ) (p : Progresses) (s : List ℕ) → slot + 4096 ≤ length s → Holds s (slot + 2416) (rowsBytes p)
-    → withUndone f slot s ≡ withPart s (slot + 2416) (rowsBytes (undoneWhere f p))
+pub undone-rows : (f : ℕ → Bool) (slot : ℕ) (p : Progresses) (s : List ℕ) → slot + slotSize ≤ length s → Holds s (slot + rowsPlace) (rowsBytes p)
+    → withUndone f slot s ≡ withPart s (slot + rowsPlace) (rowsBytes (undoneWhere f p))
 undone-rows f slot p s l h =
     ext-getD 0 (withUndone f slot s) (withPart s base new) (undone-length f slot 0 s ∙ sym (length-withPart s base new fits)) (λ k j.
-    undone-byte f slot 0 s k ∙ ap (λ (i : ℕ). pick (inRows f slot i) 0 (byteAt s k)) (zero-add k) ∙ by k (decLt k base) (decLt k (slot + 3952)))
+    undone-byte f slot 0 s k ∙ ap (λ (i : ℕ). pick (inRows f slot i) 0 (byteAt s k)) (zero-add k) ∙ by k (decLt k base) (decLt k (slot + keptPlace)))
   where
     base : ℕ
-    base = slot + 2416
+    base = slot + rowsPlace
 
     new : List ℕ
     new = rowsBytes (undoneWhere f p)
 
-    size : length new ≡ 1536
+    size : length new ≡ rowsSize
     size = rows-size (undoneWhere f p)
 
     fits : base + length new ≤ length s
     fits = omega (arith, size)
 
-    inside : (k j i m : ℕ) → base + j ≡ k → 6 * i + m ≡ j → i < 256 → m < 6 → pick (inRows f slot k) 0 (byteAt s k) ≡ byteAt (withPart s base new) k
+    inside : (k j i m : ℕ) → base + j ≡ k → rowSize * i + m ≡ j → i < 256 → m < rowSize → pick (inRows f slot k) 0 (byteAt s k) ≡ byteAt (withPart s base new) k
     inside k j i m e d li lm =
-        let a : base + 6 * i + m ≡ k = omega arith in
-        let c : 0 + 6 * i + m ≡ j = omega arith in
+        let a : base + rowSize * i + m ≡ k = omega arith in
+        let c : 0 + rowSize * i + m ≡ j = omega arith in
         let n : base + j + 0 ≡ k = omega arith in
         let g = withPart-inside s base new fits j 1 (omega (arith, size)) .bytes 0 (omega arith) in
         let old : byteAt s k ≡ byteAt (progressBytes (p i)) m = rw a at (row-byte p h i m li lm) in
@@ -111,25 +112,25 @@ undone-rows f slot p s l h =
         let held : pick (f i) 0 (byteAt s k) ≡ pick (f i) 0 (byteAt (progressBytes (p i)) m) = ap (pick (f i) 0) old in
         rw (inside-rows f slot k i (omega arith) (omega arith) (omega arith), put, now, cleared) held
 
-    by : (k : ℕ) → Dec (k < base) → Dec (k < slot + 3952) → pick (inRows f slot k) 0 (byteAt s k) ≡ byteAt (withPart s base new) k
+    by : (k : ℕ) → Dec (k < base) → Dec (k < slot + keptPlace) → pick (inRows f slot k) 0 (byteAt s k) ≡ byteAt (withPart s base new) k
     by k (yes a) b =
         let g = withPart-outside s base new fits k 1 (inl (omega arith)) .bytes 0 (omega arith) in
         rw (before-rows f slot k a) (sym (rw (add-zero k) at g))
     by k (no a) (no b) =
         let g = withPart-outside s base new fits k 1 (inr (omega (arith, size))) .bytes 0 (omega arith) in
         rw (past-rows f slot k (omega arith)) (sym (rw (add-zero k) at g))
-    by k (no a) (yes b) = inside k (k - base) ((k - base) / 6) ((k - base) % 6) (omega arith) (omega arith) (omega arith) (omega arith)
+    by k (no a) (yes b) = inside k (k - base) ((k - base) / rowSize) ((k - base) % rowSize) (omega arith) (omega arith) (omega arith) (omega arith)
 
 -- ---- a live session
 
 module _ {G : State} (z : Sized G) (q n : ℕ) (i : q < 4) (j : n < 4) (S : Session) (e : G q n ≡ live S) (w : Fits S) where
   -- Setting the rows of a behaviour to undone, in the slot of a live session, is `reopen`.
-  pub reopen-bytes : (b : Behaviour) → withUndone (λ r. hasRow r b) (4096 * (4 * q + n)) (stateBytes G)
-      ≡ stateBytes (setSlot G q n (live (record { tree = S .tree; queue = S .queue; progress = reopen (S .progress) b })))
+  pub reopen-bytes : (b : Behaviour) → withUndone (λ r. hasRow r b) (slotStart q n) (stateBytes G)
+      ≡ stateBytes (setSlot G q n (live (withProgress S (reopen (S .progress) b))))
   reopen-bytes b =
       let p = reopen (S .progress) b in
-      let x = live (record { tree = S .tree; queue = S .queue; progress = p }) in
-      let h = slot-parts S w (subst (λ (y : Slot). Holds (stateBytes G) (4096 * (4 * q + n)) (slotBytes y)) e (state-slot z q n i j)) in
-      undone-rows (λ r. hasRow r b) (4096 * (4 * q + n)) (S .progress) (stateBytes G) (omega (arith, sized-length z)) (h .rows)
-      ∙ sym (set-part z q n x 2416 (rowsBytes p) i j (omega (arith, rows-size p))
-      (change-rows S w p ∙ ap (λ (y : Slot). withPart (slotBytes y) 2416 (rowsBytes p)) (sym e)))
+      let x = live (withProgress S p) in
+      let h = slot-parts S w (subst (λ (y : Slot). Holds (stateBytes G) (slotStart q n) (slotBytes y)) e (state-slot z q n i j)) in
+      undone-rows (λ r. hasRow r b) (slotStart q n) (S .progress) (stateBytes G) (omega (arith, sized-length z)) (h .rows)
+      ∙ sym (set-part z q n x rowsPlace (rowsBytes p) i j (omega (arith, rows-size p))
+      (change-rows S w p ∙ ap (λ (y : Slot). withPart (slotBytes y) rowsPlace (rowsBytes p)) (sym e)))

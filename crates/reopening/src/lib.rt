@@ -5,23 +5,24 @@ ghost use mathlib.Core.Path.{_≡_};
 ghost use Prim.Native.Nat.{_+_, _*_, _≤_, _<_};
 ghost use lib.ListN.{length};
 ghost use Rattle.reopening.specs.Reopening.{isRow, behaviourRows, rowsBelow, withUndone, Clears, ClearsBranches};
+ghost use Rattle.state.specs.Places.{slotSize};
 use progress::Progress;
 use row_parts::Subs;
 
 // Row r alone; rows past 255 have no progress.
 fn clear(state: &mut [u8], slot: usize, r: usize)
-    requires { ⌜ slot + 4096 ≤ length (now state) ⌝ }
+    requires { ⌜ slot + slotSize ≤ length (now state) ⌝ }
     ensures { λ _. ⌜ Clears (isRow r) slot (now (state .entry)) (now (state .exit)) ⌝ }
 {
     if 256 <= r {
         return;
     }
-    progress::put_progress(state, slot + 2416 + 6 * r, Progress::Undone);
+    progress::put_progress(state, state::row_start(slot, r), Progress::Undone);
 }
 
 // The rows of the behaviour of B row r; so many rows are left for its sub-behaviours.
 fn clear_row(file: &[u8], state: &mut [u8], slot: usize, r: u16, left: u16)
-    requires { ⌜ slot + 4096 ≤ length (now state) ⌝ }
+    requires { ⌜ slot + slotSize ≤ length (now state) ⌝ }
     ensures { λ _. ⌜ Clears (behaviourRows (now (file .entry)) left r) slot (now (state .entry)) (now (state .exit)) ⌝ }
 {
     clear(state, slot, wire::index(r));
@@ -59,15 +60,16 @@ fn clear_branches(
     n: u16,
     left: u16,
 )
-    requires { ⌜ (slot + 4096 ≤ length (now state)) × (row + n < 2000000) × (at + 10 * n < 2000000) ⌝ }
+    requires { ⌜ (slot + slotSize ≤ length (now state)) × (row + n < 2000000) × (at + 10 * n < 2000000) ⌝ }
     ensures { λ _. ⌜ ClearsBranches (now (file .entry)) slot row at n left (now (state .entry)) (now (state .exit)) ⌝ }
 {
     clear(state, slot, row);
     if n == 0 {
         return;
     }
-    clear_row(file, state, slot, wire::u16_at(file, at + 2), left);
-    clear_row(file, state, slot, wire::u16_at(file, at + 4), left);
+    let b = rows::branch_at(file, at);
+    clear_row(file, state, slot, b.input, left);
+    clear_row(file, state, slot, b.follow, left);
     if n == 1 {
         return;
     }
@@ -76,7 +78,7 @@ fn clear_branches(
 
 // Every row of the behaviour of B row r.
 pub fn reopen(file: &[u8], state: &mut [u8], slot: usize, r: u16)
-    requires { ⌜ slot + 4096 ≤ length (now state) ⌝ }
+    requires { ⌜ slot + slotSize ≤ length (now state) ⌝ }
     ensures { λ _. ⌜ now (state .exit) ≡ withUndone (rowsBelow (now (file .entry)) r) slot (now (state .entry)) ⌝ }
 {
     clear_row(file, state, slot, r, layout::behaviour_count(file));

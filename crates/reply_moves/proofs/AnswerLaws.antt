@@ -2,7 +2,7 @@
 use mathlib.Core.Path.{_≡_, refl, sym, ap, subst, _∙_}
 use mathlib.Core.Bool.{Bool, true, false, not}
 use mathlib.Core.List.{List, [], _∷_, _++_}
-use Prim.Native.Nat.{ℕ, _+_, _*_, _≤_, _<_}
+use Prim.Native.Nat.{ℕ, _≤_, _<_}
 use native.Mathlib.Omega.{arith}
 use native.Mathlib.Decide.{ℕ-discrete}
 use types.Run.{OneOf, miss}
@@ -29,16 +29,18 @@ use Rattle.network.specs.Layout.{pathCount}
 use Rattle.network.specs.Decode.{pathOf, operationOf, behaviourOf, networkOf}
 use Rattle.network.specs.TestLaws.{not-true, not-false}
 use Rattle.rows.specs.Readers.{pathIds}
-use Rattle.state.specs.Session.{ReplyTo, outsider, waitingRow, Progress, done, advance, Session, Slot, live, State, setSlot}
-use Rattle.state.specs.Bytes.{u32Bytes, messageBytes, progressBytes, slotBytes, stateBytes, readSession}
+use Rattle.state.specs.Places.{slotSize}
+use Rattle.state.specs.Session.{ReplyTo, outsider, waitingRow, Progress, done, advance, Session, withProgress, Slot, live, State, setSlot}
+use Rattle.state.specs.Bytes.{u32Bytes, messageBytes, slotBytes, stateBytes, readSession}
 use Rattle.state.specs.Shape.{WellMade}
 use Rattle.state.specs.SizeLaws.{message-size, slot-size, Sized, shape-sized, sized-length}
 use Rattle.state.specs.ChangeLaws.{set-same, set-other, set-sized, set-bytes, slot-part}
-use Rattle.state.specs.KeepLaws.{advance-past}
+use Rattle.state.specs.KeepLaws.{made-row}
 use Rattle.progress.specs.declared.Progress as coded
 use Rattle.progress.specs.Meaning.{meaning}
 use Rattle.progress.proofs.Progress as progress
-use Rattle.moves.specs.Moves.{Result, moved, notAllowed, require, onFound, onLive, onReceived, voidValue, withProgress, saveWithin, mustFit, onWaitingRow, takeReply, answered, replyTo, replyAt, replyMove}
+use Rattle.progress.specs.Stored.{rowStored}
+use Rattle.moves.specs.Moves.{Result, moved, notAllowed, require, onFound, onLive, onReceived, voidValue, saveWithin, mustFit, onWaitingRow, takeReply, answered, replyTo, replyAt, replyMove}
 use Rattle.moves.specs.Step.{finish}
 use Rattle.slots.specs.SlotLaws.{row-set, stands-set}
 use Rattle.slots.specs.Living.{Living}
@@ -74,15 +76,10 @@ abbrev answering : Session → ℕ → Session
 answering S r = withProgress S (advance (S .progress) r done)
 
 answering-made : {S : Session} (r : ℕ) → r < 256 → WellMade S → WellMade (answering S r)
-answering-made {S} r l w = record {
-  bounded = w .bounded;
-  upToFour = w .upToFour;
-  messages = w .messages;
-  noRowsPast = advance-past (S .progress) r done l (w .noRowsPast);
-}
+answering-made r l w = made-row w r done l
 
 answered-bytes : {file s s₁ : List ℕ} {G : State} {q n slot b : ℕ} → StateOf file s G → (h : InSession file s G q n slot b) (r : ℕ) → r < 256
-    → s₁ ≡ withPart s (slot + 2416 + 6 * r) (progressBytes done) → s₁ ≡ stateBytes (answered (networkOf file) G q n (h .session) r)
+    → s₁ ≡ rowStored s slot r done → s₁ ≡ stateBytes (answered (networkOf file) G q n (h .session) r)
 answered-bytes {s = s} {q = q} {n = n} st h r l e =
     let x = live (answering (h .session) r) in
     e ∙ (row-set (h .living) r done l ∙ (ap (λ (j : ℕ). withPart s j (slotBytes x)) (h .place)
@@ -135,7 +132,7 @@ module _ (file s : List ℕ) (slot r o c number : ℕ) (out : List ℕ) where
               absurd (omega (arith, g, v, ap length (ms .bytes), message-size (d .0) (ms .good)));
         }
 
-        pub outside-done : {s₁ out′ : List ℕ} {v : ℕ} {a : Outcome} → r < 256 → s₁ ≡ withPart s (slot + 2416 + 6 * r) (progressBytes done)
+        pub outside-done : {s₁ out′ : List ℕ} {v : ℕ} {a : Outcome} → r < 256 → s₁ ≡ rowStored s slot r done
             → Wrote out out′ 0 v v (u32Bytes number ++ m) → a ≡ doneWith v → RepliesOutside file s slot r o c number s₁ out out′ a
         outside-done {s₁} {out′} {v} {a} l g wr d = record {
           tells = λ w i G st q j b h len.
@@ -228,7 +225,7 @@ module _ (file s : List ℕ) (slot r to r2 p : ℕ) (m : List ℕ) (small : r < 
         let z = sized st in
         record {
           inside = omega (arith, ap length e, sized-length z, k .place, k .service, k .number);
-          bytes = ap (λ (y : List ℕ). part y to 4096) e ∙ (ap (λ (j : ℕ). part (stateBytes After) j 4096) (k .place)
+          bytes = ap (λ (y : List ℕ). part y to slotSize) e ∙ (ap (λ (j : ℕ). part (stateBytes After) j slotSize) (k .place)
               ∙ (slot-part z q2 n2 (k .service) (k .number) ∙ ap slotBytes (other h k r small .isLive)));
           made = other h k r small .made;
         }
@@ -247,7 +244,7 @@ module _ (file s : List ℕ) (slot r to r2 p : ℕ) (m : List ℕ) (small : r < 
           absurd (omega (arith, v, y .small));
     }
 
-    pub store-done : {s₁ s₂ : List ℕ} {a : Outcome} → s₁ ≡ withPart s (slot + 2416 + 6 * r) (progressBytes done) → PutsReply s₁ to r2 o j s₂ → a ≡ doneWith 0
+    pub store-done : {s₁ s₂ : List ℕ} {a : Outcome} → s₁ ≡ rowStored s slot r done → PutsReply s₁ to r2 o j s₂ → a ≡ doneWith 0
         → StoresReply file s slot r to r2 p m s₂ a
     store-done {s₁} {s₂} {a} u v f = record {
       tells = λ w l G st q n b h q2 n2 b2 k t g out.

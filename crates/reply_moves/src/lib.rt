@@ -5,6 +5,7 @@ ghost use mathlib.Core.List.{_++_};
 ghost use Prim.Native.Nat.{_+_, _≤_, _<_};
 ghost use lib.ListN.{length};
 ghost use Rattle.tree_edit.specs.Wrote.{Wrote};
+ghost use Rattle.state.specs.Places.{slotSize, treeRoom};
 ghost use Rattle.state.specs.Bytes.{u32Bytes};
 ghost use Rattle.moves.specs.Moves.{replyMove};
 ghost use Rattle.moving.specs.Made.{MadeOut};
@@ -13,7 +14,7 @@ use moving::Running;
 use progress::Progress;
 use refusal::Outcome;
 use refusal::Refusal;
-use rows::BehaviourRow;
+use rows::InputRow;
 use session_trees::Change;
 use tree::Found;
 use waiting_rows::Waiting;
@@ -38,7 +39,7 @@ fn replying_at(file: &[u8], state: &[u8], slot: usize, b: u16, q: u16, r: u16) -
     if !waiting_rows::has_row(file, b, r) {
         return Replying::NotAllowed;
     }
-    let BehaviourRow::RequestResponse(o, _, c, d) = rows::behaviour_row(file, r) else {
+    let InputRow::RequestResponse(o, _, c, d) = rows::input_of(file, r) else {
         return Replying::NotAllowed;
     };
     if !readiness::is_done(file, state, slot, d) {
@@ -52,7 +53,7 @@ fn replying_at(file: &[u8], state: &[u8], slot: usize, b: u16, q: u16, r: u16) -
 
 // Writes what stands at the path of P row c in the session's tree to the start of out, as a tree alone.
 fn read_reply(out: &mut [u8], file: &[u8], state: &[u8], slot: usize, c: u16) -> Reply
-    requires { ⌜ (slot + 4096 ≤ length (now state)) × (1024 ≤ length (now out)) ⌝ }
+    requires { ⌜ (slot + slotSize ≤ length (now state)) × (treeRoom ≤ length (now out)) ⌝ }
     ensures { λ x. ⌜ ReadsReply (now (file .entry)) (now (state .entry)) slot c (now (out .exit)) x ⌝ }
 {
     let s = slots::tree_of(state, slot);
@@ -106,7 +107,7 @@ fn reply_outside(
     c: u16,
     number: u32,
 ) -> Outcome
-    requires { ⌜ (slot + 4096 ≤ length (now state)) × (r < 256) ⌝ }
+    requires { ⌜ (slot + slotSize ≤ length (now state)) × (r < 256) ⌝ }
     ensures { λ a. ⌜ RepliesOutside (now (file .entry)) (now (state .entry)) slot r o c number (now (state .exit)) (now (out .entry)) (now (out .exit)) a ⌝ }
 {
     if out.len() < 512 {
@@ -139,7 +140,7 @@ fn store_reply(
     p: u16,
     m: &[u8],
 ) -> Outcome
-    requires { ⌜ (slot + 4096 ≤ length (now state)) × (to + 4096 ≤ length (now state)) × (r < 256) × (r2 < 256) ⌝ }
+    requires { ⌜ (slot + slotSize ≤ length (now state)) × (to + slotSize ≤ length (now state)) × (r < 256) × (r2 < 256) ⌝ }
     ensures { λ a. ⌜ StoresReply (now (file .entry)) (now (state .entry)) slot r to r2 p (now (m .entry)) (now (state .exit)) a ⌝ }
 {
     let mut tree = [0u8; 2304];
@@ -166,7 +167,7 @@ fn reply_inside(
     n2: u16,
     r2: u16,
 ) -> Outcome
-    requires { ⌜ (length (now state) ≡ 65536) × (slot + 4096 ≤ 65536) × (r < 256) ⌝ }
+    requires { ⌜ (length (now state) ≡ 65536) × (slot + slotSize ≤ 65536) × (r < 256) ⌝ }
     ensures { λ a. ⌜ RepliesInside (now (file .entry)) (now (state .entry)) slot r c q2 n2 r2 (now (state .exit)) a ⌝ }
 {
     let Running::Session(to, b2) = moving::session_at(file, state, q2, n2) else {

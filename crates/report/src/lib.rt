@@ -9,15 +9,11 @@ use environments::Environment;
 use refusal::Verdict;
 
 fn word(ok: &mut bool, basic: u8) {
-    match basic {
-        0 => write(ok, b"bool\n"),
-        1 => write(ok, b"int\n"),
-        2 => write(ok, b"double\n"),
-        3 => write(ok, b"long\n"),
-        4 => write(ok, b"string\n"),
-        5 => write(ok, b"raw\n"),
-        _ => write(ok, b"void\n"),
-    }
+    let w = scalar::word_of(basic);
+    let bytes = w.bytes;
+    let len = w.len;
+    write(ok, &bytes[..len]);
+    write(ok, b"\n");
 }
 
 // A path's ids down to the node, each in its place by level.

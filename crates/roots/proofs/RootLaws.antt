@@ -23,8 +23,9 @@ use Rattle.network.specs.TestLaws.{lt-of, one-less, or-false, or-assoc, clash}
 use Rattle.network.specs.RowLaws.{counts-kept, next-at}
 use Rattle.rows.specs.declared.ExpressionRow.{ExpressionRow}
 use Rattle.rows.specs.declared.BehaviourRow.{BehaviourRow}
-use Rattle.rows.specs.Readers.{expressionRowAs, expressionRowOf, behaviourRowAs, behaviourRowOf}
-use Rattle.typing.specs.Occurs.{isRoot, occursIn, occurs, noSharedRoot}
+use Rattle.rows.specs.declared.BranchRow.{BranchRow}
+use Rattle.rows.specs.Readers.{expressionRowAs, expressionRowOf, behaviourRowAs, behaviourRowOf, BranchAt}
+use Rattle.typing.specs.Occurs.{isRoot, occursIn, occurs, occursInBranches, noSharedRoot}
 use Rattle.typing.specs.OccursLaws.{no-shared-sound, no-shared-complete}
 use Rattle.roots.specs.declared.Operands.{Operands}
 use Rattle.roots.specs.declared.Own.{Own}
@@ -236,7 +237,7 @@ pub ruleset own-laws = (own-nothing, own-path, own-paths, own-expression, own-bo
 -- ---- branches
 
 pub branches-none : (s sets set : List ℕ) (at n : ℕ) → n ≡ 0 → WithBranches s sets set at n set
-unfolding branchRoots branchesFrom occurs
+unfolding branchRoots branchesFrom occurs occursInBranches
 branches-none s sets set at n e = record {
   tells = λ table f r first w t g k l m. subst (λ (z : ℕ). SetOf s table set 0 (λ i. f i || branchRoots s first z i)) (sym e)
       (set-of s table set 0 f (λ i. f i || branchRoots s first 0 i) (λ i. or-false (f i)) m);
@@ -244,7 +245,7 @@ branches-none s sets set at n e = record {
 
 branch-parts : (s : List ℕ) (r n i : ℕ) → branchRoots s r (suc n) i
     ≡ ((behaviourRoots s (fieldA s (behaviourAt s r)) i || behaviourRoots s (fieldB s (behaviourAt s r)) i) || branchRoots s (suc r) n i)
-unfolding branchRoots behaviourRoots branchesFrom occurs
+unfolding branchRoots behaviourRoots branchesFrom occurs occursInBranches
 branch-parts s r zero i = or-false (occurs i (behaviourOf s (fieldA s (behaviourAt s r))) || occurs i (behaviourOf s (fieldB s (behaviourAt s r))))
 branch-parts s r (suc n) i = refl
 
@@ -252,15 +253,21 @@ four : (f a b c : Bool) → (((f || a) || b) || c) ≡ (f || ((a || b) || c))
 four true a b c = refl
 four false a b c = refl
 
-pub branches-more : (s sets set m o x : List ℕ) (at n a b : ℕ) → (n ≡ 0 → ⊥) → a ≡ u16At s (at + 2) → Joined set sets a m → b ≡ u16At s (at + 4)
-    → Joined m sets b o → WithBranches s sets o (at + 10) (n - 1) x → WithBranches s sets set at n x
-branches-more s sets set m o x at n a b z e h g j k = record { tells = tells }
+pub branches-more : (s sets set m o x : List ℕ) (at n : ℕ) (row : BranchRow) → (n ≡ 0 → ⊥) → BranchAt s at row → Joined set sets (row .input) m
+    → Joined m sets (row .follow) o → WithBranches s sets o (at + 10) (n - 1) x → WithBranches s sets set at n x
+branches-more s sets set m o x at n row z e h j k = record { tells = tells }
   where
+    a : ℕ
+    a = row .input
+
+    b : ℕ
+    b = row .follow
+
     tells : (table : List ℕ) (f : ℕ → Bool) (r first : ℕ) → WellFormed s → Represented s table → at ≡ behaviourAt s first → LaterBranches s r first n
         → LaterSets s table sets r → SetOf s table set 0 f → SetOf s table x 0 (λ i. f i || branchRoots s first n i)
     tells table f r first w t q later l c =
-        let pa : a ≡ fieldA s (behaviourAt s first) = e ∙ ap (λ (y : ℕ). u16At s (y + 2)) q in
-        let pb : b ≡ fieldB s (behaviourAt s first) = g ∙ ap (λ (y : ℕ). u16At s (y + 4)) q in
+        let pa : a ≡ fieldA s (behaviourAt s first) = e .input ∙ ap (fieldA s) q in
+        let pb : b ≡ fieldB s (behaviourAt s first) = e .follow ∙ ap (fieldB s) q in
         let u = later first (omega arith) (omega (arith, z)) in
         let v = counts-kept s w in
         let la : LaterRow s r a = subst (LaterRow s r) (sym pa) (u .0) in

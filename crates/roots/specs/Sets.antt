@@ -12,7 +12,7 @@ use Rattle.network.specs.Form.{WellFormed}
 use Rattle.network.specs.Layout.{pathCount, expressionCount, behaviourCount, pathAt, behaviourAt}
 use Rattle.network.specs.Rows.{fieldA, fieldB, kindAt}
 use Rattle.network.specs.Decode.{pathOf, expressionOf, branchesFrom, behaviourOf}
-use Rattle.typing.specs.Occurs.{isRoot, occursIn, occurs, noSharedRoot}
+use Rattle.typing.specs.Occurs.{isRoot, occursIn, occurs, occursInBranches, noSharedRoot}
 use Rattle.rows.specs.declared.BehaviourRow.{BehaviourRow}
 use Rattle.rows.specs.Readers.{behaviourRowOf}
 use Rattle.roots.specs.declared.Operands.{Operands}
@@ -47,7 +47,7 @@ unfoldable pub behaviourRoots : List ℕ → ℕ → ℕ → Bool
 behaviourRoots file r i = occurs i (behaviourOf file r)
 
 unfoldable pub branchRoots : List ℕ → ℕ → ℕ → ℕ → Bool
-branchRoots file r n i = occurs i (branchesFrom file (behaviourOf file) r n)
+branchRoots file r n i = occursInBranches i (branchesFrom file (behaviourOf file) r n)
 
 -- In a row's parts.
 unfoldable pub operandRoots : List ℕ → Operands → ℕ → Bool

@@ -188,8 +188,9 @@ fn with_branches(s: &[u8], sets: &[u8; 8192], set: [u8; 32], at: usize, n: u16) 
     if n == 0 {
         return set;
     }
-    let input = join(set, sets, wire::u16_at(s, at + 2));
-    let both = join(input, sets, wire::u16_at(s, at + 4));
+    let row = rows::branch_at(s, at);
+    let input = join(set, sets, row.input);
+    let both = join(input, sets, row.follow);
     with_branches(s, sets, both, at + 10, n - 1)
 }
 

@@ -1,6 +1,7 @@
 -- Whole rows by value: what a reader of one row gives, over network's field definitions. 01, Network file, the items P to S. A row
 -- out of range reads as what stands there.
 use Prim.Native.Nat.{ℕ, _+_}
+use mathlib.Core.Path.{_≡_}
 use mathlib.Core.List.{List, [], _∷_}
 use lib.Dec.{eqb}
 use Rattle.scalar.specs.Value.{pick}
@@ -12,6 +13,9 @@ use Rattle.network.specs.Rows.{typeId, cardinality, typeBasic, firstChild, chil
 use Rattle.rows.specs.declared.TypeNode.{TypeNode}
 use Rattle.rows.specs.declared.ExpressionRow.{ExpressionRow}
 use Rattle.rows.specs.declared.BehaviourRow.{BehaviourRow}
+use Rattle.rows.specs.declared.InputRow.{InputRow}
+use Rattle.rows.specs.declared.OutputRow.{OutputRow}
+use Rattle.rows.specs.declared.BranchRow.{BranchRow}
 use Rattle.rows.specs.declared.OperationRow.{OperationRow}
 use Rattle.rows.specs.declared.Link.{Link}
 use Rattle.rows.specs.declared.ServiceRow.{ServiceRow}
@@ -70,6 +74,49 @@ behaviourRowAs BehaviourKind.Unknown a b c d = BehaviourRow.Unknown
 unfoldable pub behaviourRowOf : List ℕ → ℕ → BehaviourRow
 behaviourRowOf s r =
     behaviourRowAs (kindAt s r) (fieldA s (behaviourAt s r)) (fieldB s (behaviourAt s r)) (fieldC s (behaviourAt s r)) (fieldD s (behaviourAt s r))
+
+-- A row by what it does: it receives, it sends, or neither. "1 one-way (operation a, path b); 2 request-response (operation a, into b, reply path c,
+-- body d); 3 notification (operation a, expression b); 4 solicit-response (a, b, into c)".
+pub data RowView : Type 0 where
+  receives : InputRow → RowView
+  sends : OutputRow → RowView
+  neither : RowView
+
+unfoldable pub viewIn : BehaviourRow → RowView
+viewIn BehaviourRow.Nil = neither
+viewIn (BehaviourRow.OneWay o p) = receives (InputRow.OneWay o p)
+viewIn (BehaviourRow.RequestResponse o p c d) = receives (InputRow.RequestResponse o p c d)
+viewIn (BehaviourRow.Notification o x) = sends (OutputRow.Notification o x)
+viewIn (BehaviourRow.SolicitResponse o x p) = sends (OutputRow.SolicitResponse o x p)
+viewIn (BehaviourRow.If x a b) = neither
+viewIn (BehaviourRow.While x b) = neither
+viewIn (BehaviourRow.Sequence a b) = neither
+viewIn (BehaviourRow.Parallel a b) = neither
+viewIn (BehaviourRow.Assign p x) = neither
+viewIn (BehaviourRow.Choice first n) = neither
+viewIn (BehaviourRow.Branch a b) = neither
+viewIn BehaviourRow.Unknown = neither
+
+abbrev pub inputRowIn : RowView → InputRow
+inputRowIn (receives i) = i
+inputRowIn (sends u) = InputRow.Nothing
+inputRowIn neither = InputRow.Nothing
+
+abbrev pub outputRowIn : RowView → OutputRow
+outputRowIn (receives i) = OutputRow.Nothing
+outputRowIn (sends u) = u
+outputRowIn neither = OutputRow.Nothing
+
+unfoldable pub inputRowOf : List ℕ → ℕ → InputRow
+inputRowOf s r = inputRowIn (viewIn (behaviourRowOf s r))
+
+unfoldable pub outputRowOf : List ℕ → ℕ → OutputRow
+outputRowOf s r = outputRowIn (viewIn (behaviourRowOf s r))
+
+-- "11 branch (input row a, of kind 1 or 2, then b, as in a sequence)", of the row whose first byte is `at`.
+pub record BranchAt (s : List ℕ) (at : ℕ) (x : BranchRow) : Type 0 where
+  pub input : x .input ≡ fieldA s at
+  pub follow : x .follow ≡ fieldB s at
 
 -- O: "service row u8, direction u8 (0 in, 1 out), two-way u8 (0, 1), 0, id u16, location u16 .., request type u16, reply type u16".
 unfoldable pub operationRowOf : List ℕ → ℕ → OperationRow

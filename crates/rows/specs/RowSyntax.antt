@@ -8,11 +8,14 @@ use Rattle.scalar.specs.Value.{value, pick}
 use Rattle.forest.specs.Forest.{Tree, tree}
 use Rattle.forest.specs.Path.{Path, path}
 use Rattle.syntax.specs.Syntax.{Mark, mark, logicalNot, negate, add, subtract, less, equal, logicalAnd, Expression, constant, valueAt, presence, unary, binary, input, output, Operation, Behaviour, nil, oneWay, requestResponse, notification, solicitResponse, ifThenElse, whileDo, sequence, parallel, assign, choice, Optional, none, some, Service}
+use Rattle.syntax.specs.Rows.{Input, Output}
 use Rattle.network.specs.Layout.{dataPart}
 use Rattle.network.specs.Decode.{untilZero, pathOf, siblings, expressionOf, operationOf, branchesFrom, typeOf, noReply, behaviourOf}
 use Rattle.rows.specs.declared.TypeNode.{TypeNode}
 use Rattle.rows.specs.declared.ExpressionRow.{ExpressionRow}
 use Rattle.rows.specs.declared.BehaviourRow.{BehaviourRow}
+use Rattle.rows.specs.declared.InputRow.{InputRow}
+use Rattle.rows.specs.declared.OutputRow.{OutputRow}
 use Rattle.rows.specs.declared.OperationRow.{OperationRow}
 use Rattle.rows.specs.declared.Link.{Link}
 use Rattle.rows.specs.declared.ServiceRow.{ServiceRow}
@@ -36,7 +39,7 @@ expressionWith s operand (ExpressionRow.And a b) = binary logicalAnd (operand a)
 expressionWith s operand ExpressionRow.Unknown = constant (value void [])
 
 -- B row r, its sub-behaviours as `sub` gives them.
-unfoldable pub behaviourWith : List ℕ → (ℕ → Behaviour) → ℕ → BehaviourRow → Behaviour
+abbrev pub behaviourWith : List ℕ → (ℕ → Behaviour) → ℕ → BehaviourRow → Behaviour
 behaviourWith s sub r BehaviourRow.Nil = nil r
 behaviourWith s sub r (BehaviourRow.OneWay o x) = oneWay r (operationOf s o) (pathOf s x)
 behaviourWith s sub r (BehaviourRow.RequestResponse o x y body) = requestResponse r (operationOf s o) (pathOf s x) (pathOf s y) (sub body)
@@ -50,6 +53,24 @@ behaviourWith s sub r (BehaviourRow.Assign x e) = assign r (pathOf s x) (express
 behaviourWith s sub r (BehaviourRow.Choice first n) = choice r (branchesFrom s sub first n)
 behaviourWith s sub r (BehaviourRow.Branch i a) = nil r
 behaviourWith s sub r BehaviourRow.Unknown = nil r
+
+-- B row r as an input, the body of a request-response as `sub` gives it.
+abbrev pub inputWith : List ℕ → (ℕ → Behaviour) → ℕ → InputRow → Optional Input
+inputWith s sub r InputRow.Nothing = none
+inputWith s sub r (InputRow.OneWay o x) = some (record { row = r; operation = operationOf s o; into = pathOf s x; response = none })
+inputWith s sub r (InputRow.RequestResponse o x y body) = some (record {
+  row = r;
+  operation = operationOf s o;
+  into = pathOf s x;
+  response = some (record { path = pathOf s y; body = sub body });
+})
+
+-- B row r as an output.
+abbrev pub outputWith : List ℕ → ℕ → OutputRow → Optional Output
+outputWith s r OutputRow.Nothing = none
+outputWith s r (OutputRow.Notification o e) = some (record { row = r; operation = operationOf s o; message = expressionOf s e; into = none })
+outputWith s r (OutputRow.SolicitResponse o e x) =
+    some (record { row = r; operation = operationOf s o; message = expressionOf s e; into = some (pathOf s x) })
 
 -- O row r.
 unfoldable pub operationWith : List ℕ → ℕ → OperationRow → Operation

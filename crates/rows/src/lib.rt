@@ -7,6 +7,7 @@ ghost use Rattle.network.specs.Rows.{isBranch, isChoice, isInput, typeId, cardi
 ghost use Rattle.network.specs.Rows.{operationService, operationDirection, operationTwoWay, operationId, operationLocation, requestType, replyType};
 ghost use Rattle.network.specs.Rows.{serviceLocation, starterRow, clientRow};
 ghost use Rattle.rows.specs.Readers.{pathIds, typeNodeOf, expressionRowAs, expressionRowOf, behaviourRowAs, behaviourRowOf, operationRowOf, linkOf, serviceRowOf};
+ghost use Rattle.rows.specs.Readers.{inputRowOf, outputRowOf, BranchAt};
 use network::BehaviourKind;
 use network::ExpressionKind;
 
@@ -49,6 +50,26 @@ pub enum BehaviourRow {
     Choice(u16, u16),
     Branch(u16, u16),
     Unknown,
+}
+
+// A B row that is an input: its O row and the P row it receives into; for a request-response the reply path's P row and the body's B row.
+pub enum InputRow {
+    Nothing,
+    OneWay(u16, u16),
+    RequestResponse(u16, u16, u16, u16),
+}
+
+// A B row that is an output: its O row and the E row of its message; for a solicit-response the P row that the reply goes into.
+pub enum OutputRow {
+    Nothing,
+    Notification(u16, u16),
+    SolicitResponse(u16, u16, u16),
+}
+
+// A branch's row: the B rows of its input and of what follows it.
+pub struct BranchRow {
+    pub input: u16,
+    pub follow: u16,
 }
 
 // An O row: `input` says direction 0, `twoway` two-way 1; `request` and `reply` are T rows.
@@ -356,6 +377,39 @@ pub fn behaviour_row(s: &[u8], r: u16) -> BehaviourRow
     let c = wire::u16_at(s, at + 6);
     let d = wire::u16_at(s, at + 8);
     behaviour_as(wire::byte_at(s, at), a, b, c, d)
+}
+
+// B row r, if it is an input.
+pub fn input_of(s: &[u8], r: u16) -> InputRow
+    ensures { λ x. ⌜ x ≡ inputRowOf (now (s .entry)) r ⌝ }
+{
+    match behaviour_row(s, r) {
+        BehaviourRow::OneWay(o, p) => InputRow::OneWay(o, p),
+        BehaviourRow::RequestResponse(o, p, c, d) => InputRow::RequestResponse(o, p, c, d),
+        _ => InputRow::Nothing,
+    }
+}
+
+// B row r, if it is an output.
+pub fn output_of(s: &[u8], r: u16) -> OutputRow
+    ensures { λ x. ⌜ x ≡ outputRowOf (now (s .entry)) r ⌝ }
+{
+    match behaviour_row(s, r) {
+        BehaviourRow::Notification(o, x) => OutputRow::Notification(o, x),
+        BehaviourRow::SolicitResponse(o, x, p) => OutputRow::SolicitResponse(o, x, p),
+        _ => OutputRow::Nothing,
+    }
+}
+
+// The branch whose row starts at `at`.
+pub fn branch_at(s: &[u8], at: usize) -> BranchRow
+    requires { ⌜ at < 2000000 ⌝ }
+    ensures { λ x. ⌜ BranchAt (now (s .entry)) at x ⌝ }
+{
+    BranchRow {
+        input: wire::u16_at(s, at + 2),
+        follow: wire::u16_at(s, at + 4),
+    }
 }
 
 pub fn operation_row(s: &[u8], r: u16) -> OperationRow

@@ -116,7 +116,7 @@ fn type_rule(s: &[u8], r: u16) -> Broken
     let n = rows::child_count(s, r);
     let m = child_ids(s, first, n);
     let m = rule(children_fit(s, r, first, n), at + 4, m);
-    let m = rule(rows::type_basic(s, r) <= 6, at + 3, m);
+    let m = rule(rows::type_basic(s, r) <= scalar::LAST_BASIC, at + 3, m);
     rule(rows::cardinality(s, r) <= 1, at + 2, m)
 }
 

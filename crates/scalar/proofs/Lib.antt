@@ -3,3 +3,4 @@ pub mod Same
 pub mod Operating
 pub mod Copying
 pub mod Reading
+pub mod ByScalar

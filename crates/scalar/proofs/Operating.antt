@@ -11,8 +11,8 @@ use lib.Ieee.{Float, binary64, fits}
 use lib.Ieee as Ieee
 use types.Run.{OneOf, miss}
 use denote.Enum.Declared.{tagOf}
-use borrow.Author.Tests.{ne-eqb}
-use mir.Syntax.{w32, w64}
+use borrow.Author.Tests.{ne-eqb, eq-eqb}
+use mir.Syntax.{Width}
 use mir.Val.{SFits, ofZ}
 use Rattle.integer.specs.Wrap.{wrap}
 use Rattle.scalar.specs.declared.Scalar.{Scalar}
@@ -21,9 +21,9 @@ use Rattle.scalar.specs.declared.Pair.{Pair}
 use Rattle.scalar.specs.declared.Pair.the-variants.{Bools, Ints, Doubles, Longs, Strings, Raws, Voids, Unlike}
 use Rattle.scalar.specs.declared.Operand.{Operand}
 use Rattle.scalar.specs.declared.Computed.the-variants.{Wrong, Gives}
-use Rattle.scalar.specs.Basic.{string, raw}
-use Rattle.scalar.specs.Value.{Value, value, basicOf, number}
-use Rattle.scalar.specs.Operator.{Answer, wrong, gives, ofBool, ofInt, ofLong, ofDouble, boolOf, bit, sameBytes, alike, Numeric, numericBy, adding, subtracting, comparing, equalBy, andBy, notOf, negateOf, andOf, addOf, subtractOf, lessOf, equalOf}
+use Rattle.scalar.specs.Basic.{double, string, raw, void}
+use Rattle.scalar.specs.Value.{Value, value, basicOf, number, integral, basicType}
+use Rattle.scalar.specs.Operator.{Answer, wrong, gives, ofBool, ofInt, ofLong, ofDouble, wrapped, boolOf, bit, sameBytes, alike, Numeric, numericBy, numericOf, adding, subtracting, comparing, equalBy, andBy, notOf, negateOf, andOf, addOf, subtractOf, lessOf, equalOf}
 use Rattle.scalar.specs.NumberLaws.{exact, wrapped-wrap, double-back}
 use Rattle.scalar.specs.Scalar.{valueBeside, beside, valueOf, answerOf, kindOf, AsPair}
 use Rattle.scalar.proofs.Same.{same-wrapped, same-bit}
@@ -57,7 +57,7 @@ kinds-differ k ks x y n e h = ne-eqb (kindOf x) (kindOf y) (λ q. n (subst (OneO
 -- ---- the value of an operand whose scalar is known
 
 module _ (a : Operand) where
-  value-is : {x : Scalar} → a .scalar ≡ x → valueOf a ≡ valueBeside x (beside a)
+  pub value-is : {x : Scalar} → a .scalar ≡ x → valueOf a ≡ valueBeside x (beside a)
   unfolding valueOf
   value-is e = ap (λ (x : Scalar). valueBeside x (beside a)) e
 
@@ -82,13 +82,16 @@ pub not-other : (a : Operand) → OneOf (1 ∷ 2 ∷ 3 ∷ 4 ∷ 5 ∷ 6 ∷ [])
 unfolding answerOf valueOf
 not-other a h = not-other-by (a .scalar) (beside a) h
 
-pub negate-int : (a : Operand) {p r : ℤ} → a .scalar ≡ Int p → SFits w32 p → r ≡ wrap w32 (negℤ p) → answerOf (Gives (Int r)) ≡ negateOf (valueOf a)
-unfolding answerOf negateOf
-negate-int a {p} e f q = rw (value-is a e, exact w32 p f, q, wrapped-wrap w32 (negℤ p)) refl
+-- What an operator's code gives, as an answer.
+pub answer : (x : Scalar) → answerOf (Gives x) ≡ gives (valueBeside x [])
+unfolding answerOf
+answer x = refl
 
-pub negate-long : (a : Operand) {p r : ℤ} → a .scalar ≡ Long p → SFits w64 p → r ≡ wrap w64 (negℤ p) → answerOf (Gives (Long r)) ≡ negateOf (valueOf a)
-unfolding answerOf negateOf
-negate-long a {p} e f q = rw (value-is a e, exact w64 p f, q, wrapped-wrap w64 (negℤ p)) refl
+-- One law for int and long, over the basic type n and its width.
+pub negate-integer : (a : Operand) (n : ℕ) (u : Width) → basicType n .arithmetic ≡ integral u → {p r : ℤ} → valueOf a ≡ value n (wrapped u p) → SFits u p
+    → r ≡ wrap u (negℤ p) → gives (value n (wrapped u r)) ≡ negateOf (valueOf a)
+unfolding negateOf
+negate-integer a n u k {p} e f q = rw (e, k, exact u p f, q, wrapped-wrap u (negℤ p)) refl
 
 pub negate-double : (a : Operand) {p : Float} → a .scalar ≡ Double p → T (fits binary64 p) → answerOf (Gives (Double (Ieee.neg p))) ≡ negateOf (valueOf a)
 unfolding answerOf negateOf
@@ -139,20 +142,19 @@ unlike f x y s t e = alike-differ f (valueBeside x s) (valueBeside y t) (rw (bas
 
 -- ---- add, subtract, less
 
-module _ (o : Numeric) (a b : Operand) (m : Pair) (h : AsPair (a .scalar) (b .scalar) m) where
-  on-ints : {p q : ℤ} → m ≡ Ints p q → SFits w32 p → SFits w32 q → gives (o .ints p q) ≡ alike (numericBy o) (valueOf a) (valueOf b)
-  on-ints {p} {q} e f g = let k = ints a b m h e in rw (k .0, k .1, exact w32 p f, exact w32 q g) refl
+module _ (o : Numeric) (a b : Operand) where
+  on-integers : (n : ℕ) (u : Width) → basicType n .arithmetic ≡ integral u → {p q : ℤ} → (valueOf a ≡ value n (wrapped u p)) × (valueOf b ≡ value n (wrapped u q))
+      → SFits u p → SFits u q → gives (o .integers n u p q) ≡ numericOf o (valueOf a) (valueOf b)
+  on-integers n u k {p} {q} v f g = rw (v .0, v .1, eq-eqb n n refl, k, exact u p f, exact u q g) refl
 
-  on-longs : {p q : ℤ} → m ≡ Longs p q → SFits w64 p → SFits w64 q → gives (o .longs p q) ≡ alike (numericBy o) (valueOf a) (valueOf b)
-  on-longs {p} {q} e f g = let k = longs a b m h e in rw (k .0, k .1, exact w64 p f, exact w64 q g) refl
-
-  on-doubles : {p q : Float} → m ≡ Doubles p q → T (fits binary64 p) → T (fits binary64 q) → gives (o .doubles p q) ≡ alike (numericBy o) (valueOf a) (valueOf b)
-  on-doubles {p} {q} e f g = let k = doubles a b m h e in rw (k .0, k .1, double-back p f, double-back q g) refl
+  on-doubles : {p q : Float} → (valueOf a ≡ ofDouble p) × (valueOf b ≡ ofDouble q) → T (fits binary64 p) → T (fits binary64 q)
+      → gives (o .doubles double p q) ≡ numericOf o (valueOf a) (valueOf b)
+  on-doubles {p} {q} v f g = rw (v .0, v .1, double-back p f, double-back q g) refl
 
 abbrev NoNumbers : List ℕ
 NoNumbers = 0 ∷ 4 ∷ 5 ∷ 6 ∷ 7 ∷ []
 
-no-numbers-by : (o : Numeric) (x y : Scalar) (s t : List ℕ) (m : Pair) → AsPair x y m → OneOf NoNumbers (tagOf P.the-type m) → wrong ≡ alike (numericBy o) (valueBeside x s) (valueBeside y t)
+no-numbers-by : (o : Numeric) (x y : Scalar) (s t : List ℕ) (m : Pair) → AsPair x y m → OneOf NoNumbers (tagOf P.the-type m) → wrong ≡ numericOf o (valueBeside x s) (valueBeside y t)
 no-numbers-by o x y s t (Bools p q) h k = rw (h .0, h .1) refl
 no-numbers-by o x y s t (Ints p q) h k = absurd (miss NoNumbers 1 tt k)
 no-numbers-by o x y s t (Doubles p q) h k = absurd (miss NoNumbers 2 tt k)
@@ -160,56 +162,54 @@ no-numbers-by o x y s t (Longs p q) h k = absurd (miss NoNumbers 3 tt k)
 no-numbers-by o x y s t Strings h k = rw (h .0, h .1) refl
 no-numbers-by o x y s t Raws h k = rw (h .0, h .1) refl
 no-numbers-by o x y s t Voids h k = rw (h .0, h .1) refl
-no-numbers-by o x y s t Unlike h k = unlike (numericBy o) x y s t h
+no-numbers-by o x y s t Unlike h k = unlike (λ b. numericBy o (basicType b .arithmetic) b) x y s t h
+
+module _ (a b : Operand) where
+  abbrev Both : Value → Value → Type 0
+  Both x y = (valueOf a ≡ x) × (valueOf b ≡ y)
+
+  pub add-integers : (n : ℕ) (u : Width) → basicType n .arithmetic ≡ integral u → {p q r : ℤ} → Both (value n (wrapped u p)) (value n (wrapped u q))
+      → SFits u p → SFits u q → r ≡ wrap u (p +ℤ q) → gives (value n (wrapped u r)) ≡ addOf (valueOf a) (valueOf b)
+  unfolding addOf
+  add-integers n u k {p} {q} v f g e = rw (e, wrapped-wrap u (p +ℤ q)) (on-integers adding a b n u k v f g)
+
+  pub add-doubles : (p q : Float) → Both (ofDouble p) (ofDouble q) → T (fits binary64 p) → T (fits binary64 q)
+      → gives (ofDouble (Ieee.add binary64 p q)) ≡ addOf (valueOf a) (valueOf b)
+  unfolding addOf
+  add-doubles p q v f g = on-doubles adding a b v f g
+
+  pub subtract-integers : (n : ℕ) (u : Width) → basicType n .arithmetic ≡ integral u → {p q r : ℤ} → Both (value n (wrapped u p)) (value n (wrapped u q))
+      → SFits u p → SFits u q → r ≡ wrap u (p -ℤ q) → gives (value n (wrapped u r)) ≡ subtractOf (valueOf a) (valueOf b)
+  unfolding subtractOf
+  subtract-integers n u k {p} {q} v f g e = rw (e, wrapped-wrap u (p -ℤ q)) (on-integers subtracting a b n u k v f g)
+
+  pub subtract-doubles : (p q : Float) → Both (ofDouble p) (ofDouble q) → T (fits binary64 p) → T (fits binary64 q)
+      → gives (ofDouble (Ieee.sub binary64 p q)) ≡ subtractOf (valueOf a) (valueOf b)
+  unfolding subtractOf
+  subtract-doubles p q v f g = on-doubles subtracting a b v f g
+
+  pub less-integers : (n : ℕ) (u : Width) → basicType n .arithmetic ≡ integral u → {p q : ℤ} {t : B.Bool} → Both (value n (wrapped u p)) (value n (wrapped u q))
+      → SFits u p → SFits u q → t ≡ ltZ p q → gives (ofBool t) ≡ lessOf (valueOf a) (valueOf b)
+  unfolding lessOf
+  less-integers n u k v f g e = rw e (on-integers comparing a b n u k v f g)
+
+  pub less-doubles : (p q : Float) {t : B.Bool} → Both (ofDouble p) (ofDouble q) → T (fits binary64 p) → T (fits binary64 q) → t ≡ Ieee.lt p q
+      → gives (ofBool t) ≡ lessOf (valueOf a) (valueOf b)
+  unfolding lessOf
+  less-doubles p q v f g k = rw k (on-doubles comparing a b v f g)
 
 module _ (a b : Operand) (m : Pair) (h : AsPair (a .scalar) (b .scalar) m) where
-  no-numbers : (o : Numeric) → OneOf NoNumbers (tagOf P.the-type m) → wrong ≡ alike (numericBy o) (valueOf a) (valueOf b)
+  no-numbers : (o : Numeric) → OneOf NoNumbers (tagOf P.the-type m) → wrong ≡ numericOf o (valueOf a) (valueOf b)
   unfolding valueOf
   no-numbers o k = no-numbers-by o (a .scalar) (b .scalar) (beside a) (beside b) m h k
-
-  pub add-ints : {p q r : ℤ} → m ≡ Ints p q → SFits w32 p → SFits w32 q → r ≡ wrap w32 (p +ℤ q) → answerOf (Gives (Int r)) ≡ addOf (valueOf a) (valueOf b)
-  unfolding answerOf addOf
-  add-ints {p} {q} e f g k = rw (k, wrapped-wrap w32 (p +ℤ q)) (on-ints adding a b m h e f g)
-
-  pub add-longs : {p q r : ℤ} → m ≡ Longs p q → SFits w64 p → SFits w64 q → r ≡ wrap w64 (p +ℤ q) → answerOf (Gives (Long r)) ≡ addOf (valueOf a) (valueOf b)
-  unfolding answerOf addOf
-  add-longs {p} {q} e f g k = rw (k, wrapped-wrap w64 (p +ℤ q)) (on-longs adding a b m h e f g)
-
-  pub add-doubles : {p q : Float} → m ≡ Doubles p q → T (fits binary64 p) → T (fits binary64 q) → answerOf (Gives (Double (Ieee.add binary64 p q))) ≡ addOf (valueOf a) (valueOf b)
-  unfolding answerOf addOf
-  add-doubles e f g = on-doubles adding a b m h e f g
 
   pub add-other : OneOf NoNumbers (tagOf P.the-type m) → answerOf Wrong ≡ addOf (valueOf a) (valueOf b)
   unfolding answerOf addOf
   add-other k = no-numbers adding k
 
-  pub subtract-ints : {p q r : ℤ} → m ≡ Ints p q → SFits w32 p → SFits w32 q → r ≡ wrap w32 (p -ℤ q) → answerOf (Gives (Int r)) ≡ subtractOf (valueOf a) (valueOf b)
-  unfolding answerOf subtractOf
-  subtract-ints {p} {q} e f g k = rw (k, wrapped-wrap w32 (p -ℤ q)) (on-ints subtracting a b m h e f g)
-
-  pub subtract-longs : {p q r : ℤ} → m ≡ Longs p q → SFits w64 p → SFits w64 q → r ≡ wrap w64 (p -ℤ q) → answerOf (Gives (Long r)) ≡ subtractOf (valueOf a) (valueOf b)
-  unfolding answerOf subtractOf
-  subtract-longs {p} {q} e f g k = rw (k, wrapped-wrap w64 (p -ℤ q)) (on-longs subtracting a b m h e f g)
-
-  pub subtract-doubles : {p q : Float} → m ≡ Doubles p q → T (fits binary64 p) → T (fits binary64 q) → answerOf (Gives (Double (Ieee.sub binary64 p q))) ≡ subtractOf (valueOf a) (valueOf b)
-  unfolding answerOf subtractOf
-  subtract-doubles e f g = on-doubles subtracting a b m h e f g
-
   pub subtract-other : OneOf NoNumbers (tagOf P.the-type m) → answerOf Wrong ≡ subtractOf (valueOf a) (valueOf b)
   unfolding answerOf subtractOf
   subtract-other k = no-numbers subtracting k
-
-  pub less-ints : {p q : ℤ} {t : B.Bool} → m ≡ Ints p q → SFits w32 p → SFits w32 q → t ≡ ltZ p q → answerOf (Gives (Bool t)) ≡ lessOf (valueOf a) (valueOf b)
-  unfolding answerOf lessOf
-  less-ints e f g k = rw k (on-ints comparing a b m h e f g)
-
-  pub less-longs : {p q : ℤ} {t : B.Bool} → m ≡ Longs p q → SFits w64 p → SFits w64 q → t ≡ ltZ p q → answerOf (Gives (Bool t)) ≡ lessOf (valueOf a) (valueOf b)
-  unfolding answerOf lessOf
-  less-longs e f g k = rw k (on-longs comparing a b m h e f g)
-
-  pub less-doubles : {p q : Float} {t : B.Bool} → m ≡ Doubles p q → T (fits binary64 p) → T (fits binary64 q) → t ≡ Ieee.lt p q → answerOf (Gives (Bool t)) ≡ lessOf (valueOf a) (valueOf b)
-  unfolding answerOf lessOf
-  less-doubles e f g k = rw k (on-doubles comparing a b m h e f g)
 
   pub less-other : OneOf NoNumbers (tagOf P.the-type m) → answerOf Wrong ≡ lessOf (valueOf a) (valueOf b)
   unfolding answerOf lessOf
@@ -252,6 +252,12 @@ no-equals-by x y s t Raws h k = absurd (miss NoEquals 5 tt k)
 no-equals-by x y s t Voids h k = rw (h .0, h .1) refl
 no-equals-by x y s t Unlike h k = unlike equalBy x y s t h
 
+module _ (a b : Operand) where
+  pub equal-integers : (n : ℕ) (u : Width) → eqb n void ≡ false → eqb n double ≡ false → {p q : ℤ} → (valueOf a ≡ value n (wrapped u p)) × (valueOf b ≡ value n (wrapped u q))
+      → SFits u p → SFits u q → gives (ofBool (eqb (ofZ u p) (ofZ u q))) ≡ equalOf (valueOf a) (valueOf b)
+  unfolding equalOf
+  equal-integers n u o d {p} {q} v f g = rw (v .0, v .1, eq-eqb n n refl, o, d, same-wrapped u p q f g) refl
+
 module _ (a b : Operand) (m : Pair) (h : AsPair (a .scalar) (b .scalar) m) where
   pub and-bools : {p q t : B.Bool} → m ≡ Bools p q → t ≡ (p && q) → answerOf (Gives (Bool t)) ≡ andOf (valueOf a) (valueOf b)
   unfolding answerOf andOf
@@ -264,14 +270,6 @@ module _ (a b : Operand) (m : Pair) (h : AsPair (a .scalar) (b .scalar) m) where
   pub equal-bools : {p q : B.Bool} → m ≡ Bools p q → answerOf (Gives (Bool (Bool·beq p q))) ≡ equalOf (valueOf a) (valueOf b)
   unfolding answerOf equalOf
   equal-bools {p} {q} e = let v = bools a b m h e in rw (v .0, v .1, same-bit p q) refl
-
-  pub equal-ints : {p q : ℤ} → m ≡ Ints p q → SFits w32 p → SFits w32 q → answerOf (Gives (Bool (eqb (ofZ w32 p) (ofZ w32 q)))) ≡ equalOf (valueOf a) (valueOf b)
-  unfolding answerOf equalOf
-  equal-ints {p} {q} e f g = let v = ints a b m h e in rw (v .0, v .1, same-wrapped w32 p q f g) refl
-
-  pub equal-longs : {p q : ℤ} → m ≡ Longs p q → SFits w64 p → SFits w64 q → answerOf (Gives (Bool (eqb (ofZ w64 p) (ofZ w64 q)))) ≡ equalOf (valueOf a) (valueOf b)
-  unfolding answerOf equalOf
-  equal-longs {p} {q} e f g = let v = longs a b m h e in rw (v .0, v .1, same-wrapped w64 p q f g) refl
 
   pub equal-doubles : {p q : Float} {t : B.Bool} → m ≡ Doubles p q → T (fits binary64 p) → T (fits binary64 q) → t ≡ Ieee.eq p q → answerOf (Gives (Bool t)) ≡ equalOf (valueOf a) (valueOf b)
   unfolding answerOf equalOf

@@ -1,5 +1,5 @@
 -- Values read from a slice and written to one: what each way out of `read` and `write` gives.
-use Prim.Native.Nat.{ℕ, _+_, _*_, _≤_, _<_}
+use Prim.Native.Nat.{ℕ, _+_, _*_, _/_, _≤_, _<_}
 use native.Mathlib.Omega.{arith}
 use mathlib.Core.Path.{_≡_, refl, sym, ap, _∙_, subst}
 use mathlib.Core.Bool.{true, false}
@@ -13,16 +13,17 @@ use lib.Dec.{eqb}
 use lib.IntN.{ℤ}
 use lib.Ieee.{Float, binary64, ofBits, toBits}
 use native.Mathlib.Numerals.{add-one}
-use mir.Syntax.{w32, w64}
-use mir.Val.{SFits, toZ, ofZ}
+use mir.Syntax.{Width, w32, w64}
+use mir.Val.{bits, SFits, toZ, ofZ}
 use Rattle.integer.specs.WrapLaws.{pattern-exact}
 use Rattle.wire.specs.Wire.{byteAt, u32At, u64At, putU32, putU64, part, withPart}
 use Rattle.wire.specs.WireLaws.{length-part}
 use Rattle.scalar.specs.declared.Scalar.{Scalar}
 use Rattle.scalar.specs.declared.Scalar.the-variants.{Bool, Int, Double, Long, String, Raw, Void}
 use Rattle.scalar.specs.declared.Operand.{Operand}
-use Rattle.scalar.specs.Value.{Value, value, bytesOf, number, isValue}
-use Rattle.scalar.specs.ValueLaws.{number-8, number-32, number-64, bool-bytes, int-bytes, double-bytes, long-bytes, string-bytes, raw-bytes, void-bytes}
+use Rattle.scalar.specs.Value.{Value, value, bytesOf, number, isValue, integral, basicType}
+use Rattle.scalar.specs.Basic.{bool, int, double, long, string, raw, void}
+use Rattle.scalar.specs.ValueLaws.{number-8, number-32, number-64, bool-bytes, integer-bytes, double-bytes, string-bytes, raw-bytes, void-bytes}
 use Rattle.scalar.specs.Operator.{littleEndian, bit, signed, wrapped, doubleOf}
 use Rattle.scalar.specs.NumberLaws.{part-bytes, wrapped-signed, double-same, length-littleEndian, put-32, put-64}
 use Rattle.scalar.specs.Scalar.{valueBeside, valueOf, beside}
@@ -47,30 +48,30 @@ module _ (s : List ℕ) (at b n : ℕ) (l : at + n ≤ length s) (h : isValue b 
   long-enough : length (part s at n) ≡ n
   long-enough = length-part s at n l
 
-  pub read-bool : {x : ℕ} {v : Value} → b ≡ 0 → x ≡ byteAt s at → v ≡ valueBeside (Bool (eqb x 1)) [] → v ≡ value b (part s at n)
+  pub read-bool : {x : ℕ} {v : Value} → b ≡ bool → x ≡ byteAt s at → v ≡ valueBeside (Bool (eqb x 1)) [] → v ≡ value b (part s at n)
   read-bool {x} e q r =
       let k = bool-bytes b (part s at n) h e in
       let z : n ≡ 1 = sym long-enough ∙ k .0 in
       let y : number (part s at n) ≡ x = ap (λ (m : ℕ). number (part s at m)) z ∙ number-8 s at (omega arith) ∙ sym q in
       r ∙ rw (e, ← one-byte (part s at n) (k .0), y, bit-is x (eqb x 1) refl (omega (arith, k .1))) refl
 
-  pub read-int : {x : ℕ} {z : ℤ} {v : Value} → b ≡ 1 → x ≡ u32At s at → z ≡ toZ w32 x → v ≡ valueBeside (Int z) [] → v ≡ value b (part s at n)
-  read-int {x} e q f r =
-      let k = int-bytes b (part s at n) h e in
-      let m : n ≡ 4 = sym long-enough ∙ k in
-      let y : x ≡ number (part s at n) = q ∙ sym (ap (λ (i : ℕ). number (part s at i)) m ∙ number-32 s at (omega arith)) in
-      let w : wrapped w32 (signed w32 (part s at n)) ≡ part s at n = wrapped-signed w32 (part-bytes s at n bytes l) k in
-      r ∙ rw (e, f, y, w) refl
+  -- One law for int and long: x is the number of the value's bytes, of which there are as many as the width has.
+  pub read-integer : (u : Width) {x : ℕ} {z : ℤ} {v : Value} → basicType b .arithmetic ≡ integral u → (n ≡ bits u / 8 → x ≡ number (part s at n)) → z ≡ toZ u x
+      → v ≡ value b (wrapped u z) → v ≡ value b (part s at n)
+  read-integer u e q f r =
+      let k = integer-bytes b u (part s at n) e h in
+      let w : wrapped u (signed u (part s at n)) ≡ part s at n = wrapped-signed u (part-bytes s at n bytes l) k in
+      r ∙ rw (f, q (sym long-enough ∙ k), w) refl
 
-  pub read-long : {x : ℕ} {z : ℤ} {v : Value} → b ≡ 3 → x ≡ u64At s at → z ≡ toZ w64 x → v ≡ valueBeside (Long z) [] → v ≡ value b (part s at n)
-  read-long {x} e q f r =
-      let k = long-bytes b (part s at n) h e in
-      let m : n ≡ 8 = sym long-enough ∙ k in
-      let y : x ≡ number (part s at n) = q ∙ sym (ap (λ (i : ℕ). number (part s at i)) m ∙ number-64 s at (omega arith)) in
-      let w : wrapped w64 (signed w64 (part s at n)) ≡ part s at n = wrapped-signed w64 (part-bytes s at n bytes l) k in
-      r ∙ rw (e, f, y, w) refl
+  pub read-int : {x : ℕ} {z : ℤ} {v : Value} → b ≡ int → x ≡ u32At s at → z ≡ toZ w32 x → v ≡ valueBeside (Int z) [] → v ≡ value b (part s at n)
+  read-int e q f r =
+      read-integer w32 (rw e refl) (λ m. q ∙ sym (ap (λ (i : ℕ). number (part s at i)) m ∙ number-32 s at (omega arith))) f (r ∙ rw e refl)
 
-  pub read-double : {x : ℕ} {z : Float} {v : Value} → b ≡ 2 → x ≡ u64At s at → z ≡ ofBits binary64 x → v ≡ valueBeside (Double z) [] → v ≡ value b (part s at n)
+  pub read-long : {x : ℕ} {z : ℤ} {v : Value} → b ≡ long → x ≡ u64At s at → z ≡ toZ w64 x → v ≡ valueBeside (Long z) [] → v ≡ value b (part s at n)
+  read-long e q f r =
+      read-integer w64 (rw e refl) (λ m. q ∙ sym (ap (λ (i : ℕ). number (part s at i)) m ∙ number-64 s at (omega arith))) f (r ∙ rw e refl)
+
+  pub read-double : {x : ℕ} {z : Float} {v : Value} → b ≡ double → x ≡ u64At s at → z ≡ ofBits binary64 x → v ≡ valueBeside (Double z) [] → v ≡ value b (part s at n)
   read-double {x} e q f r =
       let k = double-bytes b (part s at n) h e in
       let m : n ≡ 8 = sym long-enough ∙ k .0 in
@@ -78,19 +79,19 @@ module _ (s : List ℕ) (at b n : ℕ) (l : at + n ≤ length s) (h : isValue b 
       let w : littleEndian 8 (toBits binary64 (doubleOf (part s at n))) ≡ part s at n = double-same (part-bytes s at n bytes l) (k .0) (k .1) in
       r ∙ rw (e, f, y, w) refl
 
-  pub read-string : {v : Value} → b ≡ 4 → v ≡ valueBeside String (part s at n) → v ≡ value b (part s at n)
+  pub read-string : {v : Value} → b ≡ string → v ≡ valueBeside String (part s at n) → v ≡ value b (part s at n)
   read-string e r = r ∙ rw e refl
 
-  pub read-raw : {v : Value} → b ≡ 5 → v ≡ valueBeside Raw (part s at n) → v ≡ value b (part s at n)
+  pub read-raw : {v : Value} → b ≡ raw → v ≡ valueBeside Raw (part s at n) → v ≡ value b (part s at n)
   read-raw e r = r ∙ rw e refl
 
-  pub read-void : {v : Value} → 6 ≤ b → v ≡ valueBeside Void [] → v ≡ value b (part s at n)
+  pub read-void : {v : Value} → void ≤ b → v ≡ valueBeside Void [] → v ≡ value b (part s at n)
   read-void e r = let k = void-bytes b (part s at n) h e in r ∙ rw (k .0, k .1) refl
 
-  pub string-short : b ≡ 4 → n ≤ 16
+  pub string-short : b ≡ string → n ≤ 16
   string-short e = omega (arith, string-bytes b (part s at n) h e, long-enough)
 
-  pub raw-short : b ≡ 5 → n ≤ 16
+  pub raw-short : b ≡ raw → n ≤ 16
   raw-short e = omega (arith, raw-bytes b (part s at n) h e, long-enough)
 
 -- ---- write
@@ -104,11 +105,10 @@ module _ (x : Operand) where
   pub bool-written : {p : B.Bool} → x .scalar ≡ Bool p → bytesOf (valueOf x) ≡ bit p ∷ []
   bool-written e = ap bytesOf (value-is e)
 
-  pub int-written : {p : ℤ} → x .scalar ≡ Int p → SFits w32 p → bytesOf (valueOf x) ≡ littleEndian 4 (ofZ w32 p)
-  int-written {p} e f = ap bytesOf (value-is e) ∙ ap (littleEndian 4) (pattern-exact w32 p f)
-
-  pub long-written : {p : ℤ} → x .scalar ≡ Long p → SFits w64 p → bytesOf (valueOf x) ≡ littleEndian 8 (ofZ w64 p)
-  long-written {p} e f = ap bytesOf (value-is e) ∙ ap (littleEndian 8) (pattern-exact w64 p f)
+  -- One law for int and long.
+  pub integer-written : (n : ℕ) (u : Width) {k : Scalar} (p : ℤ) → x .scalar ≡ k → valueBeside k (beside x) ≡ value n (wrapped u p) → SFits u p
+      → bytesOf (valueOf x) ≡ littleEndian (bits u / 8) (ofZ u p)
+  integer-written n u p e q f = ap bytesOf (value-is e ∙ q) ∙ ap (littleEndian (bits u / 8)) (pattern-exact u p f)
 
   pub double-written : {p : Float} → x .scalar ≡ Double p → bytesOf (valueOf x) ≡ littleEndian 8 (toBits binary64 p)
   double-written e = ap bytesOf (value-is e)

@@ -12,7 +12,7 @@ use lib.Dec.{T, eqb, leb}
 use lib.IntN.{ℤ}
 use lib.Ieee.{Float, nan, inf, fin, binary64, isNan, nanBits, fits, ofBits, toBits, ofFields}
 use lib.Ieee.Bits.{ofBits-toBits, toBits-ofBits, toBits-lt, nanBits-is, nanBits-above}
-use borrow.Author.Tests.{le-leb, le-ltb, ltb-false, leb-true, leb-false, eqb-true}
+use borrow.Author.Tests.{le-leb, le-ltb, ltb-false, leb-true, leb-false, eqb-true, eq-eqb}
 use mir.Syntax.{Width, w8, w16, w32, w64, w128}
 use mir.Val.{bits, toZ, SFits, Fits}
 use mir.ValLaws.{ofZ-toZ, toZ-fits}
@@ -20,9 +20,10 @@ use Rattle.wire.specs.Wire.{byteAt, putU16, putU32, putU64, part, withPart}
 use Rattle.wire.specs.WireLaws.{agree-byte, part-agrees, byte-past, length-part}
 use Rattle.integer.specs.Wrap.{pattern, wrap}
 use Rattle.integer.specs.WrapLaws.{pattern-fits, pattern-exact, wrap-exact, wrap-fits, wrap-pattern}
-use Rattle.scalar.specs.Basic.{bool, int, double, long}
-use Rattle.scalar.specs.Value.{number, isValue, isDouble, theNan, Sound}
-use Rattle.scalar.specs.Operator.{littleEndian, signed, wrapped, ofBool, ofInt, ofLong, doubleOf, ofDouble}
+use Rattle.scalar.specs.Basic.{bool}
+use Rattle.scalar.specs.Value.{value, number, isValue, isDouble, theNan, Sound, integral, floating, noArithmetic, basicType}
+use Rattle.scalar.specs.Operator.{littleEndian, bit, signed, wrapped, rounded, ofBool, doubleOf}
+use Rattle.scalar.specs.ValueLaws.{every, integer-rule}
 
 -- ---- little-endian bytes
 
@@ -155,20 +156,41 @@ unfolding isValue number
 sound-bool true = record { basic = refl; rule = refl }
 sound-bool false = record { basic = refl; rule = refl }
 
-pub sound-int : (z : ℤ) → Sound int (ofInt z)
-unfolding isValue
-sound-int z = record { basic = refl; rule = rw (length-littleEndian 4 (pattern w32 z)) refl }
-
-pub sound-long : (z : ℤ) → Sound long (ofLong z)
-unfolding isValue
-sound-long z = record { basic = refl; rule = rw (length-littleEndian 8 (pattern w64 z)) refl }
-
-pub sound-double : (x : Float) → T (fits binary64 x) → Sound double (ofDouble x)
-unfolding isValue
-sound-double x f = record {
+-- An integer written at the width of its basic type is a value of it.
+pub sound-integer : (b : ℕ) (u : Width) (z : ℤ) → basicType b .arithmetic ≡ integral u → Sound b (value b (wrapped u z))
+sound-integer b u z e = record {
   basic = refl;
-  rule = rw (length-littleEndian 8 (toBits binary64 x), number-littleEndian 8 (toBits binary64 x) (toBits-lt binary64 x f)) (double-pattern x f);
+  rule = integer-rule b u (wrapped u z) e ∙ eq-eqb _ _ (length-littleEndian (bits u / 8) (pattern u z));
 }
+
+-- A double written is a value of the basic type of doubles.
+pub sound-floating : (b : ℕ) (x : Float) → basicType b .arithmetic ≡ floating → T (fits binary64 x) → Sound b (value b (rounded x))
+unfolding isValue
+sound-floating b x e f = record {
+  basic = refl;
+  rule = every (λ t. t .arithmetic ≡ floating → t .rule (rounded x) ≡ true)
+      (λ e. other e) (λ e. integer e)
+      (λ e. rw (length-littleEndian 8 (toBits binary64 x), number-littleEndian 8 (toBits binary64 x) (toBits-lt binary64 x f)) (double-pattern x f))
+      (λ e. integer e) (λ e. other e) (λ e. other e) (λ e. other e) (λ e. other e) b e;
+}
+  where
+    other : {A : Type 0} → noArithmetic ≡ floating → A
+    other e = let z : _≡_ {A = ℕ} 0 1 = cc in absurd (omega arith)
+
+    integer : {A : Type 0} {u : Width} → integral u ≡ floating → A
+    integer e = let z : _≡_ {A = ℕ} 0 1 = cc in absurd (omega arith)
+
+-- The bytes that are written are bytes.
+pub small-littleEndian : (n x k : ℕ) → byteAt (littleEndian n x) k < 256
+unfolding littleEndian
+small-littleEndian zero x k = omega arith
+small-littleEndian (suc n) x zero = omega arith
+small-littleEndian (suc n) x (suc k) = small-littleEndian n (x / 256) k
+
+pub small-bit : (t : Bool) (k : ℕ) → byteAt (bit t ∷ []) k < 256
+small-bit true zero = omega arith
+small-bit false zero = omega arith
+small-bit t (suc k) = omega arith
 
 -- ---- numbers stored in a slice, as the bytes of a value
 

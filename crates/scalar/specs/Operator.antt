@@ -13,7 +13,7 @@ use mir.Syntax.{Width, w32, w64}
 use mir.Val.{bits, toZ}
 use Rattle.integer.specs.Wrap.{pattern}
 use Rattle.scalar.specs.Basic.{bool, int, double, long, void}
-use Rattle.scalar.specs.Value.{Value, value, number, pick}
+use Rattle.scalar.specs.Value.{Value, value, number, pick, Arithmetic, integral, floating, noArithmetic, basicType}
 
 -- What an operator gives: a value, or that its operands are of the wrong kind.
 pub data Answer : Type 0 where
@@ -46,14 +46,8 @@ signed w v = toZ w (number v)
 abbrev pub wrapped : Width → ℤ → List ℕ
 wrapped w z = littleEndian (bits w / 8) (pattern w z)
 
-abbrev pub intOf : List ℕ → ℤ
-intOf v = signed w32 v
-
 abbrev pub ofInt : ℤ → Value
 ofInt z = value int (wrapped w32 z)
-
-abbrev pub longOf : List ℕ → ℤ
-longOf v = signed w64 v
 
 abbrev pub ofLong : ℤ → Value
 ofLong z = value long (wrapped w64 z)
@@ -62,8 +56,20 @@ ofLong z = value long (wrapped w64 z)
 abbrev pub doubleOf : List ℕ → Float
 doubleOf v = ofBits binary64 (number v)
 
+abbrev pub rounded : Float → List ℕ
+rounded x = littleEndian 8 (toBits binary64 x)
+
 abbrev pub ofDouble : Float → Value
-ofDouble x = value double (littleEndian 8 (toBits binary64 x))
+ofDouble x = value double (rounded x)
+
+-- "int, long or double": the basic types with arithmetic.
+abbrev pub isNumeric : Arithmetic → Bool
+isNumeric (integral u) = true
+isNumeric floating = true
+isNumeric noArithmetic = false
+
+abbrev pub isNumber : ℕ → Bool
+isNumber b = isNumeric (basicType b .arithmetic)
 
 -- ---- operators of one operand
 
@@ -74,15 +80,14 @@ notBy b v = pick (eqb b bool) (gives (ofBool (not (boolOf v)))) wrong
 unfoldable pub notOf : Value → Answer
 notOf (value b v) = notBy b v
 
--- "Negate .. : int, long or double". A double's sign is turned, also of a zero; a NaN stays the one NaN.
-abbrev pub negateBy : ℕ → List ℕ → Answer
-negateBy b v =
-    pick (eqb b int) (gives (ofInt (negℤ (intOf v))))
-    (pick (eqb b long) (gives (ofLong (negℤ (longOf v))))
-    (pick (eqb b double) (gives (ofDouble (Ieee.neg (doubleOf v)))) wrong))
+-- "Negate .. : int, long or double": said once for every width. A double's sign is turned, also of a zero; a NaN stays the one NaN.
+abbrev pub negateBy : Arithmetic → ℕ → List ℕ → Answer
+negateBy (integral u) b v = gives (value b (wrapped u (negℤ (signed u v))))
+negateBy floating b v = gives (value b (rounded (Ieee.neg (doubleOf v))))
+negateBy noArithmetic b v = wrong
 
 unfoldable pub negateOf : Value → Answer
-negateOf (value b v) = negateBy b v
+negateOf (value b v) = negateBy (basicType b .arithmetic) b v
 
 -- ---- operators of two operands, "both alike": of one basic type
 
@@ -96,49 +101,45 @@ andBy b v w = pick (eqb b bool) (gives (ofBool (boolOf v && boolOf w))) wrong
 unfoldable pub andOf : Value → Value → Answer
 andOf = alike andBy
 
--- "add, subtract, less: int, long or double": an operator by what it does to two ints, two longs and two doubles.
+-- "add, subtract, less: int, long or double": an operator by what it does to two integers of a width and to two doubles, of the basic
+-- type b.
 pub record Numeric : Type 0 where
-  pub ints : ℤ → ℤ → Value
-  pub longs : ℤ → ℤ → Value
-  pub doubles : Float → Float → Value
+  pub integers : ℕ → Width → ℤ → ℤ → Value
+  pub doubles : ℕ → Float → Float → Value
 
-abbrev pub numericBy : Numeric → ℕ → List ℕ → List ℕ → Answer
-numericBy o b v w =
-    pick (eqb b int) (gives (o .ints (intOf v) (intOf w)))
-    (pick (eqb b long) (gives (o .longs (longOf v) (longOf w)))
-    (pick (eqb b double) (gives (o .doubles (doubleOf v) (doubleOf w))) wrong))
+abbrev pub numericBy : Numeric → Arithmetic → ℕ → List ℕ → List ℕ → Answer
+numericBy o (integral u) b v w = gives (o .integers b u (signed u v) (signed u w))
+numericBy o floating b v w = gives (o .doubles b (doubleOf v) (doubleOf w))
+numericBy o noArithmetic b v w = wrong
+
+abbrev pub numericOf : Numeric → Value → Value → Answer
+numericOf o = alike (λ b. numericBy o (basicType b .arithmetic) b)
 
 -- Exact sums, wrapped; "a double sum is rounded once".
 abbrev pub adding : Numeric
 adding = record {
-  ints = λ x y. ofInt (x +ℤ y);
-  longs = λ x y. ofLong (x +ℤ y);
-  doubles = λ x y. ofDouble (Ieee.add binary64 x y);
+  integers = λ b u x y. value b (wrapped u (x +ℤ y));
+  doubles = λ b x y. value b (rounded (Ieee.add binary64 x y));
 }
 
 unfoldable pub addOf : Value → Value → Answer
-addOf = alike (numericBy adding)
+addOf = numericOf adding
 
 abbrev pub subtracting : Numeric
 subtracting = record {
-  ints = λ x y. ofInt (x -ℤ y);
-  longs = λ x y. ofLong (x -ℤ y);
-  doubles = λ x y. ofDouble (Ieee.sub binary64 x y);
+  integers = λ b u x y. value b (wrapped u (x -ℤ y));
+  doubles = λ b x y. value b (rounded (Ieee.sub binary64 x y));
 }
 
 unfoldable pub subtractOf : Value → Value → Answer
-subtractOf = alike (numericBy subtracting)
+subtractOf = numericOf subtracting
 
 -- No double is less than a NaN, and no NaN than a double.
 abbrev pub comparing : Numeric
-comparing = record {
-  ints = λ x y. ofBool (ltZ x y);
-  longs = λ x y. ofBool (ltZ x y);
-  doubles = λ x y. ofBool (Ieee.lt x y);
-}
+comparing = record { integers = λ b u x y. ofBool (ltZ x y); doubles = λ b x y. ofBool (Ieee.lt x y) }
 
 unfoldable pub lessOf : Value → Value → Answer
-lessOf = alike (numericBy comparing)
+lessOf = numericOf comparing
 
 -- Are the bytes the same?
 abbrev pub sameBytes : List ℕ → List ℕ → Bool

@@ -3,36 +3,69 @@
 use mathlib.Core.Path.{_≡_, refl, sym, ap, _∙_}
 use mathlib.Core.List.{List}
 use mathlib.Core.Bool.{Bool, true, false, not, _&&_, _||_}
-use Prim.Native.Nat.{ℕ}
+use Prim.Native.Nat.{ℕ, zero, suc, _/_, _<_}
 use native.Mathlib.Omega.{arith}
-use lib.Dec.{eqb}
-use lib.IntN.{pos, negsuc}
+use lib.ListN.{List·getD-eq-default}
+use lib.Dec.{T, eqb}
+use lib.IntN.{ℤ, pos, negsuc, negℤ, _+ℤ_, _-ℤ_}
 use lib.Signed.{ltZ}
-use lib.Ieee.{binary64, add, lt, eq, ofBits, toBits, ofFields, sum, round, size, units, odd, span, climb}
+use lib.Ieee.{Float, binary64, fits, neg, add, sub, lt, eq, ofBits, toBits, ofFields, sum, round, size, units, odd, span, climb}
 use lib.Ieee.Fits.{add-fits, sub-fits, neg-fits}
 use lib.Ieee.Bits.{ofBits-fits}
 use lib.Count.{trailingZeros}
-use borrow.Author.Tests.{eqb-true}
+use borrow.Author.Tests.{ne-eqb}
+use mir.Syntax.{Width}
+use mir.Val.{bits}
+use Rattle.wire.specs.Wire.{byteAt}
 use Rattle.integer.specs.Wrap.{pattern, modulo}
-use Rattle.scalar.specs.Basic.{bool, int, double, long, void}
-use Rattle.scalar.specs.Value.{Value, value, basicOf, number, pick, Sound}
-use Rattle.scalar.specs.Operator.{Answer, wrong, gives, littleEndian, boolOf, ofBool, ofInt, intOf, longOf, doubleOf, sameBytes}
-use Rattle.scalar.specs.Operator.{alike, Numeric, numericBy, adding, subtracting, comparing, andBy, equalBy}
+use Rattle.scalar.specs.Basic.{bool, int, double, long, void, lastBasic}
+use Rattle.scalar.specs.Value.{Value, value, basicOf, bytesOf, number, pick, Sound, Arithmetic, integral, floating, noArithmetic, BasicType, basicTypes, noType, basicType}
+use Rattle.scalar.specs.Operator.{Answer, wrong, gives, littleEndian, boolOf, ofBool, signed, wrapped, rounded, ofInt, doubleOf, sameBytes, isNumeric, isNumber}
+use Rattle.scalar.specs.Operator.{alike, negateBy, Numeric, numericBy, numericOf, adding, subtracting, comparing, andBy, equalBy}
 use Rattle.scalar.specs.Operator.{notOf, negateOf, andOf, addOf, subtractOf, lessOf, equalOf}
-use Rattle.scalar.specs.NumberLaws.{sound-bool, sound-int, sound-long, sound-double}
+use Rattle.scalar.specs.NumberLaws.{sound-bool, sound-integer, sound-floating, small-littleEndian, small-bit}
+
+number-past : (b : ℕ) → lastBasic < b → isNumber b ≡ (eqb b int || (eqb b long || eqb b double))
+number-past b h =
+    ap (λ (t : BasicType). isNumeric (t .arithmetic)) (List·getD-eq-default basicTypes noType {n = b} (omega arith))
+    ∙ rw (ne-eqb b int (λ e. omega arith), ne-eqb b long (λ e. omega arith), ne-eqb b double (λ e. omega arith)) refl
 
 -- "int, long or double"
-abbrev pub isNumber : ℕ → Bool
-isNumber b = eqb b int || (eqb b long || eqb b double)
+pub number-is : (b : ℕ) → isNumber b ≡ (eqb b int || (eqb b long || eqb b double))
+number-is zero = refl
+number-is (suc zero) = refl
+number-is (suc (suc zero)) = refl
+number-is (suc (suc (suc zero))) = refl
+number-is (suc (suc (suc (suc zero)))) = refl
+number-is (suc (suc (suc (suc (suc zero))))) = refl
+number-is (suc (suc (suc (suc (suc (suc zero)))))) = refl
+number-is (suc (suc (suc (suc (suc (suc (suc b))))))) = number-past (suc (suc (suc (suc (suc (suc (suc b))))))) (omega arith)
 
--- The answer is a value, of the basic type b and by the value rule.
+-- The answer is a value, of the basic type b, by the value rule and of bytes.
 pub record Gives (b : ℕ) (a : Answer) : Type 0 where
   pub result : Value
   pub is : a ≡ gives result
   pub sound : Sound b result
+  pub octets : (k : ℕ) → byteAt (bytesOf result) k < 256
 
-gives-it : (b : ℕ) (x : Value) → Sound b x → Gives b (gives x)
-gives-it b x s = record { result = x; is = refl; sound = s }
+gives-bool : (t : Bool) → Gives bool (gives (ofBool t))
+gives-bool t = record { result = ofBool t; is = refl; sound = sound-bool t; octets = small-bit t }
+
+gives-integer : (b : ℕ) (u : Width) (z : ℤ) → basicType b .arithmetic ≡ integral u → Gives b (gives (value b (wrapped u z)))
+gives-integer b u z e = record {
+  result = value b (wrapped u z);
+  is = refl;
+  sound = sound-integer b u z e;
+  octets = small-littleEndian (bits u / 8) (pattern u z);
+}
+
+gives-double : (b : ℕ) (x : Float) → basicType b .arithmetic ≡ floating → T (fits binary64 x) → Gives b (gives (value b (rounded x)))
+gives-double b x e f = record {
+  result = value b (rounded x);
+  is = refl;
+  sound = sound-floating b x e f;
+  octets = small-littleEndian 8 (toBits binary64 x);
+}
 
 -- What holds of what is picked.
 pick-yes : (P : Answer → Type 0) (t : Bool) (x y : Answer) → t ≡ true → P x → P (pick t x y)
@@ -74,31 +107,11 @@ alike-wrong : (f : ℕ → List ℕ → List ℕ → Answer) (P : ℕ → Bool)
 alike-wrong f P h (value b v) (value c w) e =
     pick-wrong (eqb b c) (f b v w) (λ q. h b v w (left-fails (P b) (eqb b c) e q))
 
--- ---- int, long or double, by which of the three it is
-
-module _ (k : ℕ → ℕ) (b : ℕ) (x y z : Answer)
-    (hx : Gives (k int) x) (hy : Gives (k long) y) (hz : Gives (k double) z) where
-  number-by : (p q r : Bool) → eqb b int ≡ p → eqb b long ≡ q → eqb b double ≡ r → (p || (q || r)) ≡ true
-      → Gives (k b) (pick p x (pick q y (pick r z wrong)))
-  number-by true q r e f g h = rw (eqb-true b int e) hx
-  number-by false true r e f g h = rw (eqb-true b long f) hy
-  number-by false false true e f g h = rw (eqb-true b double g) hz
-  number-by false false false e f g h = let z : _≡_ {A = ℕ} 0 1 = cc in absurd (omega arith)
-
-  number-gives : isNumber b ≡ true → Gives (k b) (pick (eqb b int) x (pick (eqb b long) y (pick (eqb b double) z wrong)))
-  number-gives h = number-by (eqb b int) (eqb b long) (eqb b double) refl refl refl h
-
-number-wrong-by : (p q r : Bool) (x y z : Answer) → (p || (q || r)) ≡ false → pick p x (pick q y (pick r z wrong)) ≡ wrong
-number-wrong-by true q r x y z h = let z : _≡_ {A = ℕ} 0 1 = cc in absurd (omega arith)
-number-wrong-by false true r x y z h = let z : _≡_ {A = ℕ} 0 1 = cc in absurd (omega arith)
-number-wrong-by false false true x y z h = let z : _≡_ {A = ℕ} 0 1 = cc in absurd (omega arith)
-number-wrong-by false false false x y z h = refl
-
 -- ---- not, and: bool
 
 pub not-gives : (x : Value) → eqb (basicOf x) bool ≡ true → Gives bool (notOf x)
 unfolding notOf
-not-gives (value b v) e = pick-yes (Gives bool) (eqb b bool) _ wrong e (gives-it bool _ (sound-bool (not (boolOf v))))
+not-gives (value b v) e = pick-yes (Gives bool) (eqb b bool) _ wrong e (gives-bool (not (boolOf v)))
 
 pub not-wrong : (x : Value) → eqb (basicOf x) bool ≡ false → notOf x ≡ wrong
 unfolding notOf
@@ -107,7 +120,7 @@ not-wrong (value b v) e = pick-no (eqb b bool) _ wrong e
 pub and-gives : (x y : Value) → (eqb (basicOf x) bool && eqb (basicOf x) (basicOf y)) ≡ true → Gives bool (andOf x y)
 unfolding andOf
 and-gives = alike-gives andBy (λ b. bool) (λ b. eqb b bool)
-    (λ b v w e. pick-yes (Gives bool) (eqb b bool) _ wrong e (gives-it bool _ (sound-bool (boolOf v && boolOf w))))
+    (λ b v w e. pick-yes (Gives bool) (eqb b bool) _ wrong e (gives-bool (boolOf v && boolOf w)))
 
 pub and-wrong : (x y : Value) → (eqb (basicOf x) bool && eqb (basicOf x) (basicOf y)) ≡ false → andOf x y ≡ wrong
 unfolding andOf
@@ -115,56 +128,87 @@ and-wrong = alike-wrong andBy (λ b. eqb b bool) (λ b v w e. pick-no (eqb b boo
 
 -- ---- negate, add, subtract, less: int, long or double, both alike
 
+negate-by : (a : Arithmetic) (b : ℕ) (v : List ℕ) → basicType b .arithmetic ≡ a → isNumeric a ≡ true → Gives b (negateBy a b v)
+negate-by (integral u) b v e h = gives-integer b u (negℤ (signed u v)) e
+negate-by floating b v e h = gives-double b (neg (doubleOf v)) e (neg-fits binary64 (doubleOf v) (ofBits-fits binary64 (number v)))
+negate-by noArithmetic b v e h = let z : _≡_ {A = ℕ} 0 1 = cc in absurd (omega arith)
+
 pub negate-gives : (x : Value) → isNumber (basicOf x) ≡ true → Gives (basicOf x) (negateOf x)
 unfolding negateOf
-negate-gives (value b v) e =
-    number-gives (λ k. k) b _ _ _ (gives-it int _ (sound-int _)) (gives-it long _ (sound-long _))
-    (gives-it double _ (sound-double _ (neg-fits binary64 (doubleOf v) (ofBits-fits binary64 (number v))))) e
+negate-gives (value b v) e = negate-by (basicType b .arithmetic) b v refl e
+
+negate-wrong-by : (a : Arithmetic) (b : ℕ) (v : List ℕ) → isNumeric a ≡ false → negateBy a b v ≡ wrong
+negate-wrong-by (integral u) b v h = let z : _≡_ {A = ℕ} 0 1 = cc in absurd (omega arith)
+negate-wrong-by floating b v h = let z : _≡_ {A = ℕ} 0 1 = cc in absurd (omega arith)
+negate-wrong-by noArithmetic b v h = refl
 
 pub negate-wrong : (x : Value) → isNumber (basicOf x) ≡ false → negateOf x ≡ wrong
 unfolding negateOf
-negate-wrong (value b v) e = number-wrong-by (eqb b int) (eqb b long) (eqb b double) _ _ _ e
+negate-wrong (value b v) e = negate-wrong-by (basicType b .arithmetic) b v e
 
-numeric-wrong : (o : Numeric) (b : ℕ) (v w : List ℕ) → isNumber b ≡ false → numericBy o b v w ≡ wrong
-numeric-wrong o b v w e = number-wrong-by (eqb b int) (eqb b long) (eqb b double) _ _ _ e
+-- An operator that gives a value of the basic type k b, on integers of a width and on doubles.
+pub record GivesNumbers (o : Numeric) (k : ℕ → ℕ) : Type 0 where
+  pub integers : (b : ℕ) (u : Width) (x y : ℤ) → basicType b .arithmetic ≡ integral u → Gives (k b) (gives (o .integers b u x y))
+  pub doubles : (b : ℕ) (x y : Float) → basicType b .arithmetic ≡ floating → Gives (k b) (gives (o .doubles b x y))
+
+module _ (o : Numeric) where
+  numeric-by : (k : ℕ → ℕ) (h : GivesNumbers o k) (a : Arithmetic) (b : ℕ) (v w : List ℕ) → basicType b .arithmetic ≡ a → isNumeric a ≡ true
+      → Gives (k b) (numericBy o a b v w)
+  numeric-by k h (integral u) b v w e t = h .integers b u (signed u v) (signed u w) e
+  numeric-by k h floating b v w e t = h .doubles b (doubleOf v) (doubleOf w) e
+  numeric-by k h noArithmetic b v w e t = let z : _≡_ {A = ℕ} 0 1 = cc in absurd (omega arith)
+
+  numeric-wrong-by : (a : Arithmetic) (b : ℕ) (v w : List ℕ) → isNumeric a ≡ false → numericBy o a b v w ≡ wrong
+  numeric-wrong-by (integral u) b v w t = let z : _≡_ {A = ℕ} 0 1 = cc in absurd (omega arith)
+  numeric-wrong-by floating b v w t = let z : _≡_ {A = ℕ} 0 1 = cc in absurd (omega arith)
+  numeric-wrong-by noArithmetic b v w t = refl
+
+  numeric-gives : (k : ℕ → ℕ) (h : GivesNumbers o k) (x y : Value) → (isNumber (basicOf x) && eqb (basicOf x) (basicOf y)) ≡ true
+      → Gives (k (basicOf x)) (numericOf o x y)
+  numeric-gives k h = alike-gives (λ b. numericBy o (basicType b .arithmetic) b) k isNumber (λ b v w e. numeric-by k h (basicType b .arithmetic) b v w refl e)
+
+  numeric-wrong : (x y : Value) → (isNumber (basicOf x) && eqb (basicOf x) (basicOf y)) ≡ false → numericOf o x y ≡ wrong
+  numeric-wrong = alike-wrong (λ b. numericBy o (basicType b .arithmetic) b) isNumber (λ b v w e. numeric-wrong-by (basicType b .arithmetic) b v w e)
 
 pub add-gives : (x y : Value) → (isNumber (basicOf x) && eqb (basicOf x) (basicOf y)) ≡ true → Gives (basicOf x) (addOf x y)
 unfolding addOf
-add-gives = alike-gives (numericBy adding) (λ b. b) isNumber
-    (λ b v w e. number-gives (λ k. k) b _ _ _ (gives-it int _ (sound-int _)) (gives-it long _ (sound-long _))
-    (gives-it double _ (sound-double _ (add-fits binary64 (doubleOf v) (doubleOf w)))) e)
+add-gives = numeric-gives adding (λ b. b) (record {
+  integers = λ b u x y e. gives-integer b u (x +ℤ y) e;
+  doubles = λ b x y e. gives-double b (add binary64 x y) e (add-fits binary64 x y);
+})
 
 pub add-wrong : (x y : Value) → (isNumber (basicOf x) && eqb (basicOf x) (basicOf y)) ≡ false → addOf x y ≡ wrong
 unfolding addOf
-add-wrong = alike-wrong (numericBy adding) isNumber (numeric-wrong adding)
+add-wrong = numeric-wrong adding
 
 pub subtract-gives : (x y : Value) → (isNumber (basicOf x) && eqb (basicOf x) (basicOf y)) ≡ true → Gives (basicOf x) (subtractOf x y)
 unfolding subtractOf
-subtract-gives = alike-gives (numericBy subtracting) (λ b. b) isNumber
-    (λ b v w e. number-gives (λ k. k) b _ _ _ (gives-it int _ (sound-int _)) (gives-it long _ (sound-long _))
-    (gives-it double _ (sound-double _ (sub-fits binary64 (doubleOf v) (doubleOf w)))) e)
+subtract-gives = numeric-gives subtracting (λ b. b) (record {
+  integers = λ b u x y e. gives-integer b u (x -ℤ y) e;
+  doubles = λ b x y e. gives-double b (sub binary64 x y) e (sub-fits binary64 x y);
+})
 
 pub subtract-wrong : (x y : Value) → (isNumber (basicOf x) && eqb (basicOf x) (basicOf y)) ≡ false → subtractOf x y ≡ wrong
 unfolding subtractOf
-subtract-wrong = alike-wrong (numericBy subtracting) isNumber (numeric-wrong subtracting)
+subtract-wrong = numeric-wrong subtracting
 
 pub less-gives : (x y : Value) → (isNumber (basicOf x) && eqb (basicOf x) (basicOf y)) ≡ true → Gives bool (lessOf x y)
 unfolding lessOf
-less-gives = alike-gives (numericBy comparing) (λ b. bool) isNumber
-    (λ b v w e. number-gives (λ k. bool) b _ _ _
-    (gives-it bool _ (sound-bool (ltZ (intOf v) (intOf w)))) (gives-it bool _ (sound-bool (ltZ (longOf v) (longOf w))))
-    (gives-it bool _ (sound-bool (lt (doubleOf v) (doubleOf w)))) e)
+less-gives = numeric-gives comparing (λ b. bool) (record {
+  integers = λ b u x y e. gives-bool (ltZ x y);
+  doubles = λ b x y e. gives-bool (lt x y);
+})
 
 pub less-wrong : (x y : Value) → (isNumber (basicOf x) && eqb (basicOf x) (basicOf y)) ≡ false → lessOf x y ≡ wrong
 unfolding lessOf
-less-wrong = alike-wrong (numericBy comparing) isNumber (numeric-wrong comparing)
+less-wrong = numeric-wrong comparing
 
 -- ---- equal: alike, not void
 
 equal-by : (p q : Bool) (s t : Bool) → p ≡ false → Gives bool (pick p wrong (pick q (gives (ofBool s)) (gives (ofBool t))))
 equal-by true q s t e = let z : _≡_ {A = ℕ} 0 1 = cc in absurd (omega arith)
-equal-by false true s t e = gives-it bool _ (sound-bool s)
-equal-by false false s t e = gives-it bool _ (sound-bool t)
+equal-by false true s t e = gives-bool s
+equal-by false false s t e = gives-bool t
 
 not-is : (t s : Bool) → not t ≡ s → t ≡ not s
 not-is true s e = ap not e

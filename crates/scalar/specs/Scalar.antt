@@ -7,13 +7,14 @@ use Prim.Native.Nat.{ℕ}
 use lib.ListN.{take}
 use lib.Dec.{eqb}
 use Rattle.scalar.specs.Basic.{bool, int, double, long, string, raw, void}
-use Rattle.scalar.specs.Value.{Value, value}
+use Rattle.scalar.specs.Value.{Value, value, number, pick}
 use Rattle.scalar.specs.Operator.{Answer, wrong, gives, ofBool, ofInt, ofLong, ofDouble}
 use Rattle.scalar.specs.declared.Scalar.{Scalar}
 use Rattle.scalar.specs.declared.Scalar.the-variants.{Bool, Int, Double, Long, String, Raw, Void}
 use Rattle.scalar.specs.declared.Operand.{Operand}
 use Rattle.scalar.specs.declared.Pair.{Pair}
 use Rattle.scalar.specs.declared.Pair.the-variants.{Bools, Ints, Doubles, Longs, Strings, Raws, Voids, Unlike}
+use Rattle.scalar.specs.declared.Truth.{Truth}
 use Rattle.scalar.specs.declared.Computed.{Computed}
 use Rattle.scalar.specs.declared.Computed.the-variants.{Wrong, Gives}
 
@@ -60,3 +61,7 @@ AsPair x y Strings = (x ≡ String) × (y ≡ String)
 AsPair x y Raws = (x ≡ Raw) × (y ≡ Raw)
 AsPair x y Voids = (x ≡ Void) × (y ≡ Void)
 AsPair x y Unlike = eqb (kindOf x) (kindOf y) ≡ false
+
+-- What a value says as a condition: "bool one byte 0 or 1"; another value is of the wrong kind.
+unfoldable pub truthOf : Value → Truth
+truthOf (value b v) = pick (eqb b bool) (pick (eqb (number v) 1) Truth.True Truth.False) Truth.Wrong

@@ -1,18 +1,96 @@
 -- Laws of values: bytes that stand in a slice as numbers, and what `isValue` says at each basic type.
-use mathlib.Core.Path.{_≡_, refl, sym, _∙_}
+use mathlib.Core.Path.{_≡_, refl, sym, ap, _∙_}
 use mathlib.Core.List.{List, [], _∷_}
 use mathlib.Core.Bool.{Bool, true, false, _&&_}
 use mathlib.Core.Logic.{_⊎_, ⊎-elim}
-use Prim.Native.Nat.{ℕ, zero, suc, _+_, _*_, _%_, _≤_, _<_}
+use Prim.Native.Nat.{ℕ, zero, suc, _+_, _*_, _/_, _%_, _≤_, _<_}
 use native.Mathlib.Nat.{add-zero, add-suc, eq-or-lt-of-le}
 use native.Mathlib.Omega.{arith}
-use lib.ListN.{length, take, drop, getD}
+use lib.ListN.{length, take, drop, getD, List·getD-eq-default}
 use lib.Seq.{drop-cons}
 use lib.Dec.{eqb, leb}
-use borrow.Author.Tests.{ne-eqb, le-leb, lt-leb, eqb-true, leb-true}
+use borrow.Author.Tests.{ne-eqb, le-leb, lt-leb, eqb-true, leb-true, leb-false}
+use mir.Syntax.{Width, w32, w64}
+use mir.Val.{bits}
 use Rattle.wire.specs.Wire.{byteAt, u16At, u32At, u64At, part}
 use Rattle.wire.specs.WireLaws.{length-part}
-use Rattle.scalar.specs.Value.{number, isValue, isDouble, pick}
+use Rattle.scalar.specs.Basic.{bool, double, long, string, raw, void, lastBasic}
+use Rattle.scalar.specs.Value.{number, isValue, isDouble, BasicType, boolType, intType, doubleType, longType, stringType, rawType, voidType, noType, basicTypes, basicType, integral, noArithmetic}
+
+-- ---- every basic type
+
+-- What holds of each basic type, and of what the table says past its end, holds at every number.
+pub every : (P : BasicType → Type 0) → P boolType → P intType → P doubleType → P longType → P stringType → P rawType → P voidType → P noType
+    → (b : ℕ) → P (basicType b)
+every P a i d l s r v n zero = a
+every P a i d l s r v n (suc zero) = i
+every P a i d l s r v n (suc (suc zero)) = d
+every P a i d l s r v n (suc (suc (suc zero))) = l
+every P a i d l s r v n (suc (suc (suc (suc zero)))) = s
+every P a i d l s r v n (suc (suc (suc (suc (suc zero))))) = r
+every P a i d l s r v n (suc (suc (suc (suc (suc (suc zero)))))) = v
+every P a i d l s r v n (suc (suc (suc (suc (suc (suc (suc b))))))) = n
+
+pub past-table : (b : ℕ) (v : List ℕ) → lastBasic < b → isValue b v ≡ false
+unfolding isValue
+past-table b v h = ap (λ (t : BasicType). t .rule v) (List·getD-eq-default basicTypes noType {n = b} (omega arith))
+
+-- A number with a value is a basic type's.
+pub value-basic : (b : ℕ) (v : List ℕ) → isValue b v ≡ true → b ≤ lastBasic
+value-basic b v e = by (leb b lastBasic) refl
+  where
+    by : (t : Bool) → leb b lastBasic ≡ t → b ≤ lastBasic
+    by true q = leb-true b lastBasic q
+    by false q = let z : _≡_ {A = ℕ} 0 1 = cc (past-table b v (leb-false b lastBasic q)) in absurd (omega arith)
+
+both : (s t : Bool) → (s && t) ≡ true → (s ≡ true) × (t ≡ true)
+both true t e = (refl, e)
+both false t e = let z : _≡_ {A = ℕ} 0 1 = cc in absurd (omega arith)
+
+-- A value has at most 16 bytes.
+pub value-size : (b : ℕ) (v : List ℕ) → isValue b v ≡ true → length v ≤ 16
+unfolding isValue
+value-size b v =
+    every (λ t. t .rule v ≡ true → length v ≤ 16)
+    (λ e. omega (arith, eqb-true (length v) 1 (both (eqb (length v) 1) (leb (number v) 1) e .0)))
+    (λ e. omega (arith, eqb-true (length v) 4 e))
+    (λ e. omega (arith, eqb-true (length v) 8 (both (eqb (length v) 8) (isDouble (number v)) e .0)))
+    (λ e. omega (arith, eqb-true (length v) 8 e))
+    (leb-true (length v) 16)
+    (leb-true (length v) 16)
+    (λ e. omega (arith, eqb-true (length v) 0 e))
+    (λ e. let z : _≡_ {A = ℕ} 0 1 = cc in absurd (omega arith)) b
+
+-- What is none is not another.
+apart : {A : Type 0} {u : Width} → noArithmetic ≡ integral u → A
+apart e = let z : _≡_ {A = ℕ} 0 1 = cc in absurd (omega arith)
+
+-- The value rule of every integer type: as many bytes as its width has.
+pub integer-rule : (b : ℕ) (u : Width) (v : List ℕ) → basicType b .arithmetic ≡ integral u → isValue b v ≡ eqb (length v) (bits u / 8)
+unfolding isValue
+integer-rule b u v =
+    every (λ t. t .arithmetic ≡ integral u → t .rule v ≡ eqb (length v) (bits u / 8))
+    apart
+    (λ e. let q : u ≡ w32 = cc in rw q refl)
+    (λ e. let z : _≡_ {A = ℕ} 0 1 = cc in absurd (omega arith))
+    (λ e. let q : u ≡ w64 = cc in rw q refl)
+    apart apart apart apart b
+
+-- A value of an integer type has the bytes of its width.
+pub integer-bytes : (b : ℕ) (u : Width) (v : List ℕ) → basicType b .arithmetic ≡ integral u → isValue b v ≡ true → length v ≡ bits u / 8
+integer-bytes b u v e h = eqb-true (length v) (bits u / 8) (sym (integer-rule b u v e) ∙ h)
+
+-- The least value of a basic type is a value of it.
+pub least-value : (b : ℕ) → b ≤ lastBasic → isValue b (basicType b .least) ≡ true
+unfolding isValue number
+least-value zero h = refl
+least-value (suc zero) h = refl
+least-value (suc (suc zero)) h = refl
+least-value (suc (suc (suc zero))) h = refl
+least-value (suc (suc (suc (suc zero)))) h = refl
+least-value (suc (suc (suc (suc (suc zero))))) h = refl
+least-value (suc (suc (suc (suc (suc (suc zero)))))) h = refl
+least-value (suc (suc (suc (suc (suc (suc (suc b))))))) h = absurd (omega arith)
 
 -- ---- the number of some bytes of a slice
 
@@ -50,119 +128,99 @@ module _ (s : List ℕ) (at b n : ℕ) (h : at + n ≤ length s) where
   abbrev Says : Bool → Type 0
   Says t = t ≡ isValue b (take n (drop at s))
 
-  pub bool-value : (x : ℕ) → b ≡ 0 → n ≡ 1 → x ≡ byteAt s at → Says (leb x 1)
+  pub bool-value : (x : ℕ) → b ≡ bool → n ≡ 1 → x ≡ byteAt s at → Says (leb x 1)
   unfolding isValue
   bool-value x e k q =
       let z : number (take 1 (drop at s)) ≡ x = number-8 s at (omega arith) ∙ sym q in
       rw (e, length-part s at n h, k, z) refl
 
-  pub bool-long : b ≡ 0 → (n ≡ 1 → ⊥) → Says false
+  pub bool-long : b ≡ bool → (n ≡ 1 → ⊥) → Says false
   unfolding isValue
   bool-long e k = rw (e, length-part s at n h, ne-eqb n 1 k) refl
 
-  pub int-value : b ≡ 1 → Says (eqb n 4)
-  unfolding isValue
-  int-value e = rw (e, length-part s at n h) refl
+  pub integer-value : (u : Width) → basicType b .arithmetic ≡ integral u → Says (eqb n (bits u / 8))
+  integer-value u e = sym (integer-rule b u (take n (drop at s)) e ∙ ap (λ (k : ℕ). eqb k (bits u / 8)) (length-part s at n h))
 
-  pub double-plain : (x : ℕ) → b ≡ 2 → n ≡ 8 → x ≡ u64At s at → x % 0x8000000000000000 ≤ 0x7FF0000000000000 → Says true
+  pub double-plain : (x : ℕ) → b ≡ double → n ≡ 8 → x ≡ u64At s at → x % 0x8000000000000000 ≤ 0x7FF0000000000000 → Says true
   unfolding isValue
   double-plain x e k q l =
       let z : number (take 8 (drop at s)) ≡ x = number-64 s at (omega arith) ∙ sym q in
       rw (e, length-part s at n h, k, z, le-leb (x % 0x8000000000000000) 0x7FF0000000000000 l) refl
 
-  pub double-nan : (x : ℕ) → b ≡ 2 → n ≡ 8 → x ≡ u64At s at → 0x7FF0000000000000 < x % 0x8000000000000000 → Says (eqb x 0x7FF8000000000000)
+  pub double-nan : (x : ℕ) → b ≡ double → n ≡ 8 → x ≡ u64At s at → 0x7FF0000000000000 < x % 0x8000000000000000 → Says (eqb x 0x7FF8000000000000)
   unfolding isValue
   double-nan x e k q l =
       let z : number (take 8 (drop at s)) ≡ x = number-64 s at (omega arith) ∙ sym q in
       rw (e, length-part s at n h, k, z, lt-leb (x % 0x8000000000000000) 0x7FF0000000000000 l) refl
 
-  pub double-long : b ≡ 2 → (n ≡ 8 → ⊥) → Says false
+  pub double-long : b ≡ double → (n ≡ 8 → ⊥) → Says false
   unfolding isValue
   double-long e k = rw (e, length-part s at n h, ne-eqb n 8 k) refl
 
-  pub long-value : b ≡ 3 → Says (eqb n 8)
-  unfolding isValue
-  long-value e = rw (e, length-part s at n h) refl
-
-  string-value : b ≡ 4 → Says (leb n 16)
+  string-value : b ≡ string → Says (leb n 16)
   unfolding isValue
   string-value e = rw (e, length-part s at n h) refl
 
-  raw-value : b ≡ 5 → Says (leb n 16)
+  raw-value : b ≡ raw → Says (leb n 16)
   unfolding isValue
   raw-value e = rw (e, length-part s at n h) refl
 
-  pub text-value : 3 < b → b < 6 → Says (leb n 16)
-  text-value e l = let m : b ≤ 5 = omega arith in ⊎-elim raw-value (λ k. string-value (omega arith)) (eq-or-lt-of-le m)
+  pub text-value : long < b → b < void → Says (leb n 16)
+  text-value e l = let m : b ≤ raw = omega arith in ⊎-elim raw-value (λ k. string-value (omega arith)) (eq-or-lt-of-le m)
 
-  pub void-value : b ≡ 6 → Says (eqb n 0)
+  pub void-value : b ≡ void → Says (eqb n 0)
   unfolding isValue
   void-value e = rw (e, length-part s at n h) refl
 
-  pub no-value : 6 < b → Says false
-  unfolding isValue
-  no-value e = simp (
-    ne-eqb b 0 (omega arith),
-    ne-eqb b 1 (omega arith),
-    ne-eqb b 2 (omega arith),
-    ne-eqb b 3 (omega arith),
-    ne-eqb b 4 (omega arith),
-    ne-eqb b 5 (omega arith),
-    ne-eqb b 6 (omega arith),
-  )
+  pub no-value : lastBasic < b → Says false
+  no-value e = sym (past-table b (take n (drop at s)) e)
 
 -- ---- what the value rule tells of the bytes
 
-both : (s t : Bool) → (s && t) ≡ true → (s ≡ true) × (t ≡ true)
-both true t e = (refl, e)
-both false t e = let z : _≡_ {A = ℕ} 0 1 = cc in absurd (omega arith)
-
 module _ (b : ℕ) (v : List ℕ) (h : isValue b v ≡ true) where
-  pub bool-bytes : b ≡ 0 → (length v ≡ 1) × (number v ≤ 1)
+  pub bool-bytes : b ≡ bool → (length v ≡ 1) × (number v ≤ 1)
   unfolding isValue
   bool-bytes e =
       let k = both (eqb (length v) 1) (leb (number v) 1) (rw e at h) in
       (eqb-true (length v) 1 (k .0), leb-true (number v) 1 (k .1))
 
-  pub int-bytes : b ≡ 1 → length v ≡ 4
-  unfolding isValue
-  int-bytes e = eqb-true (length v) 4 (rw e at h)
-
-  pub double-bytes : b ≡ 2 → (length v ≡ 8) × (isDouble (number v) ≡ true)
+  pub double-bytes : b ≡ double → (length v ≡ 8) × (isDouble (number v) ≡ true)
   unfolding isValue
   double-bytes e =
       let k = both (eqb (length v) 8) (isDouble (number v)) (rw e at h) in
       (eqb-true (length v) 8 (k .0), k .1)
 
-  pub long-bytes : b ≡ 3 → length v ≡ 8
-  unfolding isValue
-  long-bytes e = eqb-true (length v) 8 (rw e at h)
-
-  pub string-bytes : b ≡ 4 → length v ≤ 16
+  pub string-bytes : b ≡ string → length v ≤ 16
   unfolding isValue
   string-bytes e = leb-true (length v) 16 (rw e at h)
 
-  pub raw-bytes : b ≡ 5 → length v ≤ 16
+  pub raw-bytes : b ≡ raw → length v ≤ 16
   unfolding isValue
   raw-bytes e = leb-true (length v) 16 (rw e at h)
 
-  pub void-bytes : 6 ≤ b → (b ≡ 6) × (v ≡ [])
+  pub void-bytes : void ≤ b → (b ≡ void) × (v ≡ [])
   unfolding isValue
-  void-bytes e =
-      let k = simp (
-        ne-eqb b 0 (λ q. omega arith),
-        ne-eqb b 1 (λ q. omega arith),
-        ne-eqb b 2 (λ q. omega arith),
-        ne-eqb b 3 (λ q. omega arith),
-        ne-eqb b 4 (λ q. omega arith),
-        ne-eqb b 5 (λ q. omega arith),
-      ) at h in
-      void-by (eqb b 6) refl k
+  void-bytes k =
+      let e : b ≡ void = omega (arith, value-basic b v h) in
+      (e, empty v (eqb-true (length v) 0 (rw e at h)))
     where
       empty : (u : List ℕ) → length u ≡ 0 → u ≡ []
       empty [] e = refl
       empty (a ∷ u) e = absurd (omega arith)
 
-      void-by : (t : Bool) → eqb b 6 ≡ t → pick t (eqb (length v) 0) false ≡ true → (b ≡ 6) × (v ≡ [])
-      void-by true q r = (eqb-true b 6 q, empty v (eqb-true (length v) 0 r))
-      void-by false q r = let z : _≡_ {A = ℕ} 0 1 = cc in absurd (omega arith)
+-- ---- values of one basic type
+
+pub void-empty : (v : List ℕ) → isValue void v ≡ true → v ≡ []
+void-empty v e = void-bytes void v e (omega arith) .1
+
+pub empty-void : isValue void [] ≡ true
+unfolding isValue
+empty-void = refl
+
+pub raw-short : (v : List ℕ) → length v ≤ 16 → isValue raw v ≡ true
+unfolding isValue
+raw-short v h = le-leb (length v) 16 h
+
+pub string-short : (v : List ℕ) → length v ≤ 16 → isValue string v ≡ true
+unfolding isValue
+string-short v h = le-leb (length v) 16 h

@@ -5,10 +5,28 @@ ghost use mathlib.Core.List.{[]};
 ghost use Prim.Native.Nat.{_+_, _≤_, min};
 ghost use lib.ListN.{length, take, drop};
 ghost use lib.Ieee.{binary64, ofBits, toBits, nanBits, lt, eq};
-ghost use Rattle.scalar.specs.Value.{value, bytesOf, isValue};
+ghost use Rattle.scalar.specs.Value.{value, bytesOf, isValue, wordOf, Sound};
 ghost use Rattle.wire.specs.Wire.{part, withPart};
-ghost use Rattle.scalar.specs.Operator.{notOf, negateOf, andOf, addOf, subtractOf, lessOf, equalOf, sameBytes, bit};
-ghost use Rattle.scalar.specs.Scalar.{valueOf, valueBeside, answerOf, beside, AsPair};
+ghost use Rattle.scalar.specs.Operator.{notOf, negateOf, andOf, addOf, subtractOf, lessOf, equalOf, sameBytes, bit, isNumber};
+ghost use Rattle.scalar.specs.Scalar.{valueOf, valueBeside, answerOf, beside, AsPair, truthOf};
+
+// The numbers of the basic types.
+pub const BOOL: u8 = 0;
+
+pub const INT: u8 = 1;
+
+pub const DOUBLE: u8 = 2;
+
+pub const LONG: u8 = 3;
+
+pub const STRING: u8 = 4;
+
+pub const RAW: u8 = 5;
+
+pub const VOID: u8 = 6;
+
+// The largest number of a basic type.
+pub const LAST_BASIC: u8 = VOID;
 
 // A value of a basic type. The bytes of a string or a raw stand beside it.
 pub enum Scalar {
@@ -46,20 +64,33 @@ pub enum Computed {
     Gives(Scalar),
 }
 
+// What a value says as a condition; wrong where it is no bool.
+pub enum Truth {
+    True,
+    False,
+    Wrong,
+}
+
+// The word of a basic type: the first `len` bytes.
+pub struct Word {
+    pub bytes: [u8; 6],
+    pub len: usize,
+}
+
 // Are the `len` bytes at `at` a value of the basic type?
 pub fn value_ok(s: &[u8], at: usize, basic: u8, len: usize) -> bool
     requires { ⌜ at + len ≤ length (now s) ⌝ }
     ensures { λ r. ⌜ r ≡ isValue basic (take len (drop at (now (s .entry)))) ⌝ }
 {
     match basic {
-        0 => {
+        BOOL => {
             if len == 1 {
                 return wire::byte_at(s, at) <= 1;
             }
             false
         }
-        1 => len == 4,
-        2 => {
+        INT => len == 4,
+        DOUBLE => {
             if len == 8 {
                 let n = wire::u64_at(s, at);
                 if n % 0x8000000000000000 <= 0x7FF0000000000000 {
@@ -69,9 +100,9 @@ pub fn value_ok(s: &[u8], at: usize, basic: u8, len: usize) -> bool
             }
             false
         }
-        3 => len == 8,
-        4 | 5 => len <= 16,
-        6 => len == 0,
+        LONG => len == 8,
+        STRING | RAW => len <= 16,
+        VOID => len == 0,
         _ => false,
     }
 }
@@ -323,12 +354,12 @@ pub fn read(s: &[u8], at: usize, basic: u8, len: usize) -> Operand
     ensures { λ r. ⌜ valueOf r ≡ value basic (part (now (s .entry)) at len) ⌝ }
 {
     match basic {
-        0 => plain(Scalar::Bool(wire::byte_at(s, at) == 1)),
-        1 => plain(Scalar::Int(integer::int_of(wire::u32_at(s, at)))),
-        2 => plain(Scalar::Double(double_of(wire::u64_at(s, at)))),
-        3 => plain(Scalar::Long(integer::long_of(wire::u64_at(s, at)))),
-        4 => with_bytes(Scalar::String, s, at, len),
-        5 => with_bytes(Scalar::Raw, s, at, len),
+        BOOL => plain(Scalar::Bool(wire::byte_at(s, at) == 1)),
+        INT => plain(Scalar::Int(integer::int_of(wire::u32_at(s, at)))),
+        DOUBLE => plain(Scalar::Double(double_of(wire::u64_at(s, at)))),
+        LONG => plain(Scalar::Long(integer::long_of(wire::u64_at(s, at)))),
+        STRING => with_bytes(Scalar::String, s, at, len),
+        RAW => with_bytes(Scalar::Raw, s, at, len),
         _ => plain(Scalar::Void),
     }
 }
@@ -380,5 +411,89 @@ pub fn write(out: &mut [u8], at: usize, x: Operand) -> usize
         Scalar::String => write_beside(out, at, x),
         Scalar::Raw => write_beside(out, at, x),
         Scalar::Void => 0,
+    }
+}
+
+// What a value says as a condition.
+pub fn truth_of(v: Operand) -> Truth
+    ensures { λ c. ⌜ c ≡ truthOf (valueOf v) ⌝ }
+{
+    let k = v.scalar;
+    match k {
+        Scalar::Bool(p) => {
+            if p {
+                return Truth::True;
+            }
+            Truth::False
+        }
+        _ => Truth::Wrong,
+    }
+}
+
+// The basic type of a value.
+pub fn basic_of(v: Operand) -> u8
+    ensures { λ b. ⌜ Sound b (valueOf v) ⌝ }
+{
+    let k = v.scalar;
+    match k {
+        Scalar::Bool(_) => BOOL,
+        Scalar::Int(_) => INT,
+        Scalar::Double(_x) => DOUBLE,
+        Scalar::Long(_) => LONG,
+        Scalar::String => STRING,
+        Scalar::Raw => RAW,
+        Scalar::Void => VOID,
+    }
+}
+
+// "int, long or double"
+pub fn is_number(basic: u8) -> bool
+    ensures { λ t. ⌜ t ≡ isNumber basic ⌝ }
+{
+    match basic {
+        INT | DOUBLE | LONG => true,
+        _ => false,
+    }
+}
+
+// The word of a basic type.
+pub fn word_of(basic: u8) -> Word
+    ensures { λ w. ⌜ (take (w .len) (w .bytes) ≡ wordOf basic) × (w .len ≤ 6) ⌝ }
+{
+    if LAST_BASIC < basic {
+        return Word {
+            bytes: [0, 0, 0, 0, 0, 0],
+            len: 0,
+        };
+    }
+    match basic {
+        BOOL => Word {
+            bytes: [98, 111, 111, 108, 0, 0],
+            len: 4,
+        },
+        INT => Word {
+            bytes: [105, 110, 116, 0, 0, 0],
+            len: 3,
+        },
+        DOUBLE => Word {
+            bytes: [100, 111, 117, 98, 108, 101],
+            len: 6,
+        },
+        LONG => Word {
+            bytes: [108, 111, 110, 103, 0, 0],
+            len: 4,
+        },
+        STRING => Word {
+            bytes: [115, 116, 114, 105, 110, 103],
+            len: 6,
+        },
+        RAW => Word {
+            bytes: [114, 97, 119, 0, 0, 0],
+            len: 3,
+        },
+        _ => Word {
+            bytes: [118, 111, 105, 100, 0, 0],
+            len: 4,
+        },
     }
 }

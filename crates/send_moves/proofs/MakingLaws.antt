@@ -2,7 +2,7 @@
 use mathlib.Core.Path.{_≡_, refl, sym, ap, subst, _∙_}
 use mathlib.Core.Bool.{Bool, true, false, not, _&&_}
 use mathlib.Core.List.{List, [], _∷_, _++_}
-use Prim.Native.Nat.{ℕ, _+_, _*_, _%_, _≤_, _<_}
+use Prim.Native.Nat.{ℕ, _+_, _%_, _≤_, _<_}
 use native.Mathlib.Omega.{arith}
 use native.Mathlib.Decide.{ℕ-discrete}
 use types.Run.{OneOf, miss}
@@ -11,8 +11,8 @@ use lib.ListN.{length, take, drop, length-take}
 use lib.Seq.{take-all}
 use borrow.Author.Tests.{eq-eqb, ne-eqb}
 use Rattle.forest.specs.Forest.{Tree, tree}
-use Rattle.scalar.specs.Value.{Value, value, pick}
-use Rattle.tree.specs.Encode.{encode, rooted, empty, Encodes, Message, treeDeep, treeMany}
+use Rattle.scalar.specs.Value.{Value, pick}
+use Rattle.tree.specs.Encode.{empty, Encodes, Message, treeDeep, treeMany}
 use Rattle.tree.specs.EncodeLaws.{and-left}
 use Rattle.tree_edit.specs.Wrote.{Wrote}
 use Rattle.tree_edit.specs.WroteLaws.{wrote-all, wrote-all-of}
@@ -23,42 +23,43 @@ use Rattle.refusal.specs.declared.Verdict.the-variants.{Done, Refused}
 use Rattle.refusal.specs.declared.Outcome.{Outcome}
 use Rattle.refusal.specs.Refusal.{doneWith, refusedBy}
 use Rattle.wire.specs.Wire.{withPart}
-use Rattle.wire.specs.WireLaws.{length-withPart}
-use Rattle.syntax.specs.Syntax.{Network, Operation, Optional, none, some}
+use Rattle.syntax.specs.Syntax.{Network, Operation, Optional}
 use Rattle.subtyping.specs.Own.{fits}
 use Rattle.network.specs.Form.{WellFormed}
 use Rattle.network.specs.Layout.{typeCount, expressionCount, behaviourCount, operationCount}
 use Rattle.network.specs.Rows.{operationService, operationLocation, requestType}
 use Rattle.network.specs.RowLaws.{operation-kept}
 use Rattle.network.specs.Decode.{typeOf, expressionOf, operationOf, behaviourOf, networkOf}
-use Rattle.network.specs.Meets.{inFile, metInput}
+use Rattle.syntax.specs.Meets.{inFile, metInput}
 use Rattle.network.specs.TestLaws.{apart, not-true, not-false}
-use Rattle.state.specs.Session.{ReplyTo, Progress, advance, Session, Slot, live, State, setSlot}
-use Rattle.state.specs.Bytes.{messageBytes, progressBytes, slotBytes, stateBytes, readSession}
+use Rattle.state.specs.Places.{slotSize, slotStart}
+use Rattle.state.specs.Session.{ReplyTo, Progress, advance, Session, withQueue, withProgress, Slot, live, State, setSlot}
+use Rattle.state.specs.Bytes.{messageBytes, slotBytes, stateBytes, readSession}
 use Rattle.state.specs.Shape.{behaviourIn, WellMade}
-use Rattle.state.specs.SizeLaws.{message-size, progress-size}
+use Rattle.state.specs.SizeLaws.{message-size}
 use Rattle.state.specs.ChangeLaws.{set-same, set-other}
-use Rattle.state.specs.KeepLaws.{advance-past}
-use Rattle.moves.specs.Evaluation.{evaluate}
+use Rattle.state.specs.KeepLaws.{made-row}
+use Rattle.moves.specs.Evaluation.{Evaluation, missing, wrongKind, given, evaluate}
 use Rattle.moves.specs.Targets as definition
 use Rattle.moves.specs.Readiness.{reach}
-use Rattle.moves.specs.Moves.{Result, refused, moved, notAllowed, require, onTree, onLive, onOperation, withProgress, withQueue, allowed, started}
+use Rattle.moves.specs.Moves.{Result, refused, moved, notAllowed, require, onTree, onLive, onOperation, allowed, started}
 use Rattle.moves.specs.Moves.{deliver, isMessageTree, mustFit, goneOn, sendInside, sendOutside, sendBy, sendAt, sendReached, sendMove}
 use Rattle.moves.specs.Step.{finish}
 use Rattle.slots.specs.Slots.{treeIn}
 use Rattle.slots.specs.SlotLaws.{living-tree, row-set}
 use Rattle.slots.specs.Living.{Living}
 use Rattle.evaluation.specs.declared.Evaluated.{Evaluated}
-use Rattle.evaluation.specs.Evaluated.{StandsFor, Evaluates}
-use Rattle.evaluation.specs.Writing.{Writes}
+use Rattle.evaluation.specs.declared.Written.{Written}
+use Rattle.evaluation.specs.Evaluated.{Evaluates}
+use Rattle.evaluation.specs.Writing.{WrittenAs, Writes}
 use Rattle.readiness.specs.declared.Reached as rows
 use Rattle.readiness.proofs.Reached as reached
 use Rattle.readiness.specs.Reaching.{reachedAs, Reaches}
 use Rattle.readiness.specs.ReachedLaws.{reached-row}
-use Rattle.targets.specs.declared.Met.{Met}
+use Rattle.operations.specs.declared.Met.{Met}
 use Rattle.targets.specs.declared.Target.{Target}
-use Rattle.targets.specs.Meeting.{operationMet}
-use Rattle.targets.specs.MeetingLaws.{met-exists}
+use Rattle.operations.specs.Meeting.{operationMet}
+use Rattle.operations.specs.MeetingLaws.{met-exists}
 use Rattle.targets.specs.Answers.{Targets}
 use Rattle.moving.specs.declared.Running.{Running}
 use Rattle.moving.specs.Made.{StateOf, MadeOut, InSession, Runs, RunsAt}
@@ -66,46 +67,24 @@ use Rattle.moving.specs.MadeLaws.{in-session, running, refused-step, made-out-r
 use Rattle.delivery.specs.Delivery.{Holding, onVerdict, Allowed, MustFit, startWithin, StartsWithin, Delivers}
 use Rattle.delivery.specs.DeliveryLaws.{stands-holding, holding-set, tree-message, Known, target-known}
 use Rattle.send_moves.specs.declared.Sending.{Sending}
-use Rattle.send_moves.specs.declared.Written.{Written}
-use Rattle.send_moves.specs.Sending.{afterSending, replyBack, sendingAs, RowsExist, SendingAt, WrittenAs, WritesMessage, SendsOutside}
+use Rattle.send_moves.specs.Sending.{afterSending, replyBack, sendingAs, RowsExist, SendingAt, WritesMessage, SendsOutside}
 use Rattle.send_moves.specs.Sending.{SendsInside, SendsBy}
+use Rattle.progress.specs.Stored.{rowStored}
+use Rattle.progress.specs.StateLaws.{row-stored-length}
 
 -- ---- `write_message`
 
-encoded : (u : Tree Value) → 0 < length (encode (rooted u))
-unfolding encode
-encoded (tree (value b v) k) = omega arith
+pub message-written : (file s : List ℕ) (slot e : ℕ) {t : List ℕ} {x : Evaluated} {o o′ : List ℕ} {y : Written} → t ≡ treeIn s slot → Evaluates file t e x
+    → Writes t x o o′ y → length o′ ≡ length o → WritesMessage file s slot e o′ y
+message-written file s slot e {t} {x} {o} {o′} {y} q v h k = record {
+  tells = λ w l S i.
+      let m : Encodes treeDeep treeMany t (tree empty (S .tree)) = record { bytes = q ∙ living-tree i; good = i .made .bounded } in
+      h .tells (S .tree) (evaluate (S .tree) (expressionOf file e)) m (v .tells (S .tree) m w l);
+  inside = omega (arith, h .inside, k);
+}
 
-no-length : {n : ℕ} {A : Type 0} → Written.Stuck ≡ Written.Message n → A
-no-length e = absurd (let z : _≡_ {A = ℕ} 0 1 = cc in omega arith)
-
-module _ (file s : List ℕ) (slot e : ℕ) {t : List ℕ} {x : Evaluated} (q : t ≡ treeIn s slot) (v : Evaluates file t e x) {o o′ : List ℕ} {n : ℕ}
-    (h : Writes t x o o′ n) where
-  encodes : (S : Session) → Living s slot S → Encodes treeDeep treeMany t (tree empty (S .tree))
-  encodes S k = record { bytes = q ∙ living-tree k; good = k .made .bounded }
-
-  stuck-by : n ≡ 0 → (S : Session) → Living s slot S → (y : Optional (Tree Value)) → StandsFor t x y → y ≡ none
-  stuck-by z S k none g = refl
-  stuck-by z S k (some u) g = absurd (omega (arith, z, h .tells (S .tree) u (encodes S k) g .size, encoded u))
-
-  written-by : (n ≡ 0 → ⊥) → (S : Session) → Living s slot S → (y : Optional (Tree Value)) → StandsFor t x y → WrittenAs o′ (Written.Message n) y
-  written-by z S k none g = absurd (z (h .nothing g))
-  written-by z S k (some u) g = (u, refl, record { bytes = h .tells (S .tree) u (encodes S k) g .holds; good = h .good u g })
-
-  pub message-stuck : n ≡ 0 → WritesMessage file s slot e o′ Written.Stuck
-  message-stuck z = record {
-    tells = λ w l S k. stuck-by z S k (evaluate (S .tree) (expressionOf file e)) (v .tells (S .tree) (encodes S k) w l);
-    inside = λ m f. no-length f;
-  }
-
-  pub message-written : (n ≡ 0 → ⊥) → n ≤ length o′ → WritesMessage file s slot e o′ (Written.Message n)
-  message-written z i = record {
-    tells = λ w l S k. written-by z S k (evaluate (S .tree) (expressionOf file e)) (v .tells (S .tree) (encodes S k) w l);
-    inside = λ m f. let y : n ≡ m = cc in omega (arith, y, i);
-  }
-
-pub message-inside : {file s : List ℕ} {slot e : ℕ} {o : List ℕ} {x : Written} {n : ℕ} → WritesMessage file s slot e o x → x ≡ Written.Message n → n ≤ length o
-message-inside {n = n} h e = h .inside n e
+pub message-inside : {file s : List ℕ} {slot e : ℕ} {o : List ℕ} {x : Written} {n : ℕ} → WritesMessage file s slot e o x → x ≡ Written.Tree n → n ≤ length o
+message-inside h e = rw e at (h .inside)
 
 pub part-length : (m : List ℕ) (n : ℕ) → n ≤ length m → n ≡ length (take n m)
 part-length m n h = simp length-take (omega arith)
@@ -128,19 +107,14 @@ abbrev going : Session → ℕ → Progress → Session
 going S r after = withProgress S (advance (S .progress) r after)
 
 going-made : {S : Session} (r : ℕ) (after : Progress) → r < 256 → WellMade S → WellMade (going S r after)
-going-made {S} r after l w = record {
-  bounded = w .bounded;
-  upToFour = w .upToFour;
-  messages = w .messages;
-  noRowsPast = advance-past (S .progress) r after l (w .noRowsPast);
-}
+going-made r after l w = made-row w r after l
 
 module _ {file s s₁ : List ℕ} {G : State} {q n slot b : ℕ} (st : StateOf file s G) (h : InSession file s G q n slot b) (to r : ℕ) (after : Progress)
-    (l : r < 256) (e : s₁ ≡ withPart s (slot + 2416 + 6 * r) (progressBytes after)) where
+    (l : r < 256) (e : s₁ ≡ rowStored s slot r after) where
   gone-holding : Holding s₁ (goneOn (networkOf file) G q n (h .session) to r after)
   gone-holding =
       let x = live (going (h .session) r after) in
-      let z : s₁ ≡ withPart s (4096 * (4 * q + n)) (slotBytes x) =
+      let z : s₁ ≡ withPart s (slotStart q n) (slotBytes x) =
       e ∙ (row-set (h .living) r after l ∙ ap (λ (j : ℕ). withPart s j (slotBytes x)) (h .place)) in
       subst (λ (y : List ℕ). Holding y (setSlot G q n x)) (sym z)
       (holding-set (stands-holding st) q n x (h .service) (h .number) (going-made r after l (h .living .made)))
@@ -209,36 +183,43 @@ module _ (file s : List ℕ) (slot i o e to : ℕ) (after : Progress) (out : Lis
   }
 
   module _ (zero : to ≡ 0) {buf : List ℕ} {x : Written} (k : WritesMessage file s slot e buf x) where
-    evaluated : (G : State) (q n : ℕ) (S : Session) (y : Optional (Tree Value)) → evaluate (S .tree) (expressionOf file e) ≡ y
+    evaluated : (G : State) (q n : ℕ) (S : Session) (y : Evaluation (Tree Value)) → evaluate (S .tree) (expressionOf file e) ≡ y
         → sendOutside (networkOf file) G q n S to i (operationOf file o) (expressionOf file e) after ≡ onTree y (sends G q n S)
     evaluated G q n S y f =
         ap (λ (x : Bool). require x MoveNotAllowed (onTree (evaluate (S .tree) (expressionOf file e)) (sends G q n S))) (eq-eqb to 0 zero)
-        ∙ ap (λ (l : Optional (Tree Value)). onTree l (sends G q n S)) f
+        ∙ ap (λ (l : Evaluation (Tree Value)). onTree l (sends G q n S)) f
 
-    pub outside-stuck : {a : Outcome} → x ≡ Written.Stuck → a ≡ refusedBy Stuck → SendsOutside file s slot i o e to after s out out a
-    outside-stuck f g = record {
+    pub outside-missing : {a : Outcome} → x ≡ Written.Missing → a ≡ refusedBy Stuck → SendsOutside file s slot i o e to after s out out a
+    outside-missing f g = record {
       tells = λ w lo le G st q n b h j.
-          refused-step g (evaluated G q n (h .session) none
+          refused-step g (evaluated G q n (h .session) missing
           (subst (λ (y : Written). WrittenAs buf y (evaluate (h .session .tree) (expressionOf file e))) f (k .tells w le (h .session) (h .living))));
     }
 
-    module _ {n : ℕ} (f : x ≡ Written.Message n) (m : List ℕ) (t : m ≡ take n buf) {y : ℕ} (r : y ≡ requestType file o)
+    pub outside-wrong : {a : Outcome} → x ≡ Written.Wrong → a ≡ refusedBy Stuck → SendsOutside file s slot i o e to after s out out a
+    outside-wrong f g = record {
+      tells = λ w lo le G st q n b h j.
+          refused-step g (evaluated G q n (h .session) wrongKind
+          (subst (λ (y : Written). WrittenAs buf y (evaluate (h .session .tree) (expressionOf file e))) f (k .tells w le (h .session) (h .living))));
+    }
+
+    module _ {n : ℕ} (f : x ≡ Written.Tree n) (m : List ℕ) (t : m ≡ take n buf) {y : ℕ} (r : y ≡ requestType file o)
         {u : Bool} (g : MustFit m file y u) where
       message : WellFormed file → e < expressionCount file → (S : Session) → Living s slot S
-          → (t : Tree Value) × (evaluate (S .tree) (expressionOf file e) ≡ some t) × Encodes treeDeep treeMany m t
+          → (t : Tree Value) × (evaluate (S .tree) (expressionOf file e) ≡ given t) × Encodes treeDeep treeMany m t
       message w le S h =
           let z = subst (λ (y : Written). WrittenAs buf y (evaluate (S .tree) (expressionOf file e))) f (k .tells w le S h) in
           (z .0, z .1, subst (λ (y : List ℕ). Encodes treeDeep treeMany y (z .0)) (sym t) (z .2))
 
       module _ (w : WellFormed file) (lo : o < operationCount file) (le : e < expressionCount file)
           {G : State} {q j b : ℕ} (h : InSession file s G q j slot b) where
-        abbrev z : (t : Tree Value) × (evaluate (h .session .tree) (expressionOf file e) ≡ some t) × Encodes treeDeep treeMany m t
+        abbrev z : (t : Tree Value) × (evaluate (h .session .tree) (expressionOf file e) ≡ given t) × Encodes treeDeep treeMany m t
         z = message w le (h .session) (h .living)
 
         outside-is : (c : Bool) → u ≡ c → sendOutside (networkOf file) G q j (h .session) to i (operationOf file o) (expressionOf file e) after
             ≡ require c MessageMisfit (moved (goneOn (networkOf file) G q j (h .session) to i after) (messageBytes (z .0)))
         outside-is c p =
-            evaluated G q j (h .session) (some (z .0)) (z .1)
+            evaluated G q j (h .session) (given (z .0)) (z .1)
             ∙ ap (λ (v : Bool). require v MessageMisfit (moved (goneOn (networkOf file) G q j (h .session) to i after) (messageBytes (z .0))))
             (sym (must-is file o g r w lo (z .0) (z .2)) ∙ p)
 
@@ -255,7 +236,7 @@ module _ (file s : List ℕ) (slot i o e to : ℕ) (after : Progress) (out : Lis
         }
 
         pub outside-done : {s₁ out′ : List ℕ} {v : ℕ} {a : Outcome} → n ≡ length m → i < 256
-            → s₁ ≡ withPart s (slot + 2416 + 6 * i) (progressBytes after) → Wrote out out′ 0 v n (take n (drop 0 m)) → a ≡ doneWith v
+            → s₁ ≡ rowStored s slot i after → Wrote out out′ 0 v n (take n (drop 0 m)) → a ≡ doneWith v
             → SendsOutside file s slot i o e to after s₁ out out′ a
         outside-done {s₁} {out′} {v} {a} ln l c wr₀ d = record {
           tells = λ w lo le G st q j b h len.
@@ -280,10 +261,10 @@ module _ (file s : List ℕ) (slot i o e to : ℕ) (after : Progress) (out : Lis
 -- ---- `send_inside`
 
 -- The state with the sender gone on is as long as before.
-pub put-length : (s : List ℕ) (slot i : ℕ) (after : Progress) {s₁ : List ℕ} → length s ≡ 65536 → slot + 4096 ≤ 65536 → i < 256
-    → s₁ ≡ withPart s (slot + 2416 + 6 * i) (progressBytes after) → length s₁ ≡ 65536
+pub put-length : (s : List ℕ) (slot i : ℕ) (after : Progress) {s₁ : List ℕ} → length s ≡ 65536 → slot + slotSize ≤ 65536 → i < 256
+    → s₁ ≡ rowStored s slot i after → length s₁ ≡ 65536
 put-length s slot i after l k j e =
-    ap length e ∙ (length-withPart s (slot + 2416 + 6 * i) (progressBytes after) (omega (arith, l, k, j, progress-size after)) ∙ l)
+    ap length e ∙ (row-stored-length s slot i after (omega (arith, l, k)) j ∙ l)
 
 service-is : (file : List ℕ) (k : ℕ) → operationService file k ≡ operationOf file k .service
 unfolding operationOf
@@ -297,7 +278,7 @@ module _ (file s : List ℕ) (slot i k e to : ℕ) (after : Progress) (back : Re
   abbrev delivered : State → ℕ → ℕ → Session → Tree Value → Result
   delivered G q n S m = deliver (goneOn (networkOf file) G q n S to i after) op to (definition.target (networkOf file) G op to) back m
 
-  abbrev next : State → ℕ → ℕ → Session → Optional (Tree Value) → Result
+  abbrev next : State → ℕ → ℕ → Session → Evaluation (Tree Value) → Result
   next G q n S y = onTree y (λ m. mustFit m (op .request) (delivered G q n S m))
 
   verdict-is : WellFormed file → (G : State) → StateOf file s G → (r : Result) → onVerdict v r
@@ -319,35 +300,42 @@ module _ (file s : List ℕ) (slot i k e to : ℕ) (after : Progress) (back : Re
     passed : WellFormed file → (G : State) → StateOf file s G → (r : Result) → r ≡ allowed (op .service) (definition.target (networkOf file) G op to) r
     passed w G st r = sym (ap (λ (u : Verdict). onVerdict u r) d) ∙ verdict-is w G st r
 
-    evaluated-in : WellFormed file → (G : State) → StateOf file s G → (q n : ℕ) (S : Session) (y : Optional (Tree Value))
+    evaluated-in : WellFormed file → (G : State) → StateOf file s G → (q n : ℕ) (S : Session) (y : Evaluation (Tree Value))
         → evaluate (S .tree) (expressionOf file e) ≡ y
         → sendInside (networkOf file) G q n S to i (expressionOf file e) after back op ≡ next G q n S y
     evaluated-in w G st q n S y f = sym (passed w G st (next G q n S (evaluate (S .tree) (expressionOf file e)))) ∙ ap (next G q n S) f
 
-    pub inside-stuck : {a : Outcome} → x ≡ Written.Stuck → a ≡ refusedBy Stuck → SendsInside file s slot i k e to after back s a
-    inside-stuck f g = record {
+    pub inside-missing : {a : Outcome} → x ≡ Written.Missing → a ≡ refusedBy Stuck → SendsInside file s slot i k e to after back s a
+    inside-missing f g = record {
       tells = λ w lo le G st q n b h out.
-          refused-step g (evaluated-in w G st q n (h .session) none
+          refused-step g (evaluated-in w G st q n (h .session) missing
           (subst (λ (y : Written). WrittenAs buf y (evaluate (h .session .tree) (expressionOf file e))) f (wm .tells w le (h .session) (h .living))));
     }
 
-    module _ {n : ℕ} (f : x ≡ Written.Message n) (m : List ℕ) (tm : m ≡ take n buf) {y : ℕ} (r : y ≡ requestType file k)
+    pub inside-wrong : {a : Outcome} → x ≡ Written.Wrong → a ≡ refusedBy Stuck → SendsInside file s slot i k e to after back s a
+    inside-wrong f g = record {
+      tells = λ w lo le G st q n b h out.
+          refused-step g (evaluated-in w G st q n (h .session) wrongKind
+          (subst (λ (y : Written). WrittenAs buf y (evaluate (h .session .tree) (expressionOf file e))) f (wm .tells w le (h .session) (h .living))));
+    }
+
+    module _ {n : ℕ} (f : x ≡ Written.Tree n) (m : List ℕ) (tm : m ≡ take n buf) {y : ℕ} (r : y ≡ requestType file k)
         {u : Bool} (g : MustFit m file y u) where
       message-in : WellFormed file → e < expressionCount file → (S : Session) → Living s slot S
-          → (t : Tree Value) × (evaluate (S .tree) (expressionOf file e) ≡ some t) × Encodes treeDeep treeMany m t
+          → (t : Tree Value) × (evaluate (S .tree) (expressionOf file e) ≡ given t) × Encodes treeDeep treeMany m t
       message-in w le S h =
           let z = subst (λ (y : Written). WrittenAs buf y (evaluate (S .tree) (expressionOf file e))) f (wm .tells w le S h) in
           (z .0, z .1, subst (λ (y : List ℕ). Encodes treeDeep treeMany y (z .0)) (sym tm) (z .2))
 
       module _ (w : WellFormed file) (lo : k < operationCount file) (le : e < expressionCount file) {G : State} (st : StateOf file s G) {q j b : ℕ}
           (h : InSession file s G q j slot b) where
-        abbrev zi : (t : Tree Value) × (evaluate (h .session .tree) (expressionOf file e) ≡ some t) × Encodes treeDeep treeMany m t
+        abbrev zi : (t : Tree Value) × (evaluate (h .session .tree) (expressionOf file e) ≡ given t) × Encodes treeDeep treeMany m t
         zi = message-in w le (h .session) (h .living)
 
         inside-is : (c : Bool) → u ≡ c → sendInside (networkOf file) G q j (h .session) to i (expressionOf file e) after back op
             ≡ require c MessageMisfit (delivered G q j (h .session) (zi .0))
         inside-is c p =
-            evaluated-in w G st q j (h .session) (some (zi .0)) (zi .1)
+            evaluated-in w G st q j (h .session) (given (zi .0)) (zi .1)
             ∙ ap (λ (v : Bool). require v MessageMisfit (delivered G q j (h .session) (zi .0))) (sym (must-is file k g r w lo (zi .0) (zi .2)) ∙ p)
 
       pub inside-misfit : {a : Outcome} → not u ≡ true → a ≡ refusedBy MessageMisfit → SendsInside file s slot i k e to after back s a
@@ -360,7 +348,7 @@ module _ (file s : List ℕ) (slot i k e to : ℕ) (after : Progress) (back : Re
         within-is : (w : WellFormed file) (lo : k < operationCount file) (G : State) → StateOf file s G → (m₁ : Tree Value) → Message m m₁
             → startWithin (definition.target (networkOf file) G op to) back m₁ ≡ g₂
         within-is w lo G st m₁ h =
-            sym (sw .tells w (tg .exists w) G op to (target-is tg w st) back m₁ h
+            sym (sw .tells w (tg .exists w) back m₁ h
             ∙ ap (λ (T : definition.Target). startWithin T back m₁) (target-is tg w st))
 
         pub inside-past : {a : Outcome} → not g₂ ≡ true → a ≡ refusedBy Stuck → SendsInside file s slot i k e to after back s a
@@ -372,7 +360,7 @@ module _ (file s : List ℕ) (slot i k e to : ℕ) (after : Progress) (back : Re
               (within-is w lo G st (d .0) (is-message w lo (d .0) (d .2)) ∙ not-true g₂ c));
         }
 
-        pub inside-sent : {s₁ s′ : List ℕ} {a : Outcome} → not g₂ ≡ false → i < 256 → s₁ ≡ withPart s (slot + 2416 + 6 * i) (progressBytes after)
+        pub inside-sent : {s₁ s′ : List ℕ} {a : Outcome} → not g₂ ≡ false → i < 256 → s₁ ≡ rowStored s slot i after
             → Delivers file k to t back m s₁ s′ a → SendsInside file s slot i k e to after back s′ a
         inside-sent {s₁} {s′} {a} c l eb dl = record {
           tells = λ w lo le G st q j b h out.
@@ -453,16 +441,16 @@ module _ (file s out : List ℕ) (q n r to : ℕ) where
 
     module _ {slot b : ℕ} (e : x ≡ Running.Session slot b) {y : rows.Reached} (k : Reaches file (readSession s slot .progress) r b y) where
       reaching : (w : WellFormed file) (G : State) (st : StateOf file s G) → reachedAs file y
-          ≡ reach (running h e w G st .session .progress) 0 r (behaviourOf file b)
+          ≡ reach (running h e w G st .session .progress) r (behaviourOf file b)
       reaching w G st =
           let i = running h e w G st in
-          k .tells w (i .row) ∙ ap (λ (S : Session). reach (S .progress) 0 r (behaviourOf file b)) (i .reads)
+          k .tells w (i .row) ∙ ap (λ (S : Session). reach (S .progress) r (behaviourOf file b)) (i .reads)
 
       move-is : (w : WellFormed file) (G : State) (st : StateOf file s G)
           → makes (networkOf file) G ≡ sendReached (networkOf file) G q n (running h e w G st .session) to (reachedAs file y)
       move-is w G st =
           let i = running h e w G st in
-          in-session i (λ B S. sendReached (networkOf file) G q n S to (reach (S .progress) 0 r B))
+          in-session i (λ B S. sendReached (networkOf file) G q n S to (reach (S .progress) r B))
           ∙ ap (sendReached (networkOf file) G q n (i .session) to) (sym (reaching w G st))
 
       pub move-unreached : {a : Outcome} → OneOf (0 ∷ 2 ∷ []) (tagOf reached.the-type y) → a ≡ refusedBy MoveNotAllowed → MadeOut file makes s s out out a
@@ -509,3 +497,7 @@ module _ (file s out : List ℕ) (q n r to : ℕ) where
               ∙ (ap (λ (t : Progress). finish s out (send t back)) ea ∙ (ap (λ (t : ReplyTo). finish s out (send (afterSending two) t)) eback
               ∙ ap (finish s out) (sym (move-row w G st ∙ ap (λ (t : Sending). sendingAs file N G q n (j .session) to i t) f))));
         }
+
+pub ruleset message-laws = (message-inside, part-length)
+
+pub ruleset outside-laws = (outside-short, outside-target, outside-missing, outside-wrong, outside-misfit, outside-long, outside-done)

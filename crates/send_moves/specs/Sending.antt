@@ -3,41 +3,24 @@ use mathlib.Core.Path.{_≡_}
 use mathlib.Core.Bool.{Bool, true, false}
 use mathlib.Core.List.{List}
 use Prim.Native.Nat.{ℕ, _<_, _≤_}
-use lib.ListN.{length, take}
-use Rattle.forest.specs.Forest.{Tree}
-use Rattle.scalar.specs.Value.{Value}
-use Rattle.tree.specs.Encode.{Encodes, treeDeep, treeMany}
+use lib.ListN.{length}
 use Rattle.refusal.specs.declared.Outcome.{Outcome}
-use Rattle.syntax.specs.Syntax.{Network, Optional, none, some}
+use Rattle.refusal.specs.declared.Refusal.the-variants.{MoveNotAllowed}
+use Rattle.typing.specs.Rules.{permits}
+use Rattle.syntax.specs.Syntax.{Network, output}
 use Rattle.network.specs.Form.{WellFormed}
 use Rattle.network.specs.Layout.{expressionCount, behaviourCount, operationCount}
 use Rattle.network.specs.Decode.{expressionOf, operationOf, behaviourOf, networkOf}
-use Rattle.rows.specs.declared.BehaviourRow.{BehaviourRow}
 use Rattle.state.specs.Session.{ReplyTo, nobody, waitingRow, Progress, done, waits, Session, State}
 use Rattle.state.specs.Bytes.{readSession}
 use Rattle.moves.specs.Evaluation.{evaluate}
-use Rattle.moves.specs.Moves.{Result, notAllowed, sendInside, sendOutside, sendBy, sendAt}
+use Rattle.moves.specs.Moves.{Result, notAllowed, require, ifUndone, sendInside, sendOutside, sendBy, sendAt}
 use Rattle.moves.specs.Step.{Step, finish}
+use Rattle.evaluation.specs.declared.Written.{Written}
+use Rattle.evaluation.specs.Writing.{bytesWritten, WrittenAs}
 use Rattle.moving.specs.Made.{StateOf, InSession}
 use Rattle.slots.specs.Living.{Living}
 use Rattle.send_moves.specs.declared.Sending.{Sending}
-use Rattle.send_moves.specs.declared.Written.{Written}
-
--- B: "3 notification (operation a, expression b); 4 solicit-response (a, b, into c)".
-abbrev pub outputOf : BehaviourRow → Sending
-outputOf BehaviourRow.Nil = Sending.Nothing
-outputOf (BehaviourRow.OneWay o p) = Sending.Nothing
-outputOf (BehaviourRow.RequestResponse o p c d) = Sending.Nothing
-outputOf (BehaviourRow.Notification o e) = Sending.Row o e false
-outputOf (BehaviourRow.SolicitResponse o e p) = Sending.Row o e true
-outputOf (BehaviourRow.If e a b) = Sending.Nothing
-outputOf (BehaviourRow.While e b) = Sending.Nothing
-outputOf (BehaviourRow.Sequence a b) = Sending.Nothing
-outputOf (BehaviourRow.Parallel a b) = Sending.Nothing
-outputOf (BehaviourRow.Assign p e) = Sending.Nothing
-outputOf (BehaviourRow.Choice first n) = Sending.Nothing
-outputOf (BehaviourRow.Branch a b) = Sending.Nothing
-outputOf BehaviourRow.Unknown = Sending.Nothing
 
 -- The sender's row once sent: "A solicit-response then waits." Where the reply goes: to that row; to a notification there is none.
 abbrev pub afterSending : Bool → Progress
@@ -59,6 +42,18 @@ abbrev pub RowsExist : List ℕ → Sending → Type 0
 RowsExist file Sending.Nothing = Unit {0}
 RowsExist file (Sending.Row o e two) = (o < operationCount file) × (e < expressionCount file)
 
+-- What row i sends if it is undone and 6 passes its operation; or 15.
+abbrev pub readyAs : List ℕ → Network → State → ℕ → ℕ → Session → ℕ → ℕ → Sending → Result
+readyAs file N G q n S to i Sending.Nothing = notAllowed
+readyAs file N G q n S to i (Sending.Row o e two) =
+    ifUndone (S .progress i) (require (permits q output two (operationOf file o)) MoveNotAllowed (sendingAs file N G q n S to i (Sending.Row o e two)))
+
+-- B row i, if it is an output.
+pub record OutputAt (file : List ℕ) (i : ℕ) (x : Sending) : Type 0 where
+  pub tells : WellFormed file → i < behaviourCount file → (N : Network) (G : State) (q n : ℕ) (S : Session) (to : ℕ)
+      → sendAt N G q n S to (behaviourOf file i) ≡ readyAs file N G q n S to i x
+  pub exists : WellFormed file → i < behaviourCount file → RowsExist file x
+
 -- Row i of the session of service q in the slot.
 pub record SendingAt (file s : List ℕ) (slot q i : ℕ) (x : Sending) : Type 0 where
   pub tells : WellFormed file → i < behaviourCount file → (N : Network) (G : State) (n to : ℕ)
@@ -66,15 +61,10 @@ pub record SendingAt (file s : List ℕ) (slot q i : ℕ) (x : Sending) : Type 0
   pub exists : WellFormed file → i < behaviourCount file → RowsExist file x
   pub small : (o e : ℕ) (two : Bool) → x ≡ Sending.Row o e two → i < 256
 
--- The value's tree alone in the first bytes of o; or that there is none.
-abbrev pub WrittenAs : List ℕ → Written → Optional (Tree Value) → Type 0
-WrittenAs o Written.Stuck l = l ≡ none
-WrittenAs o (Written.Message n) l = (t : Tree Value) × (l ≡ some t) × Encodes treeDeep treeMany (take n o) t
-
 -- The value of E row e in the tree of the session in the slot.
 pub record WritesMessage (file s : List ℕ) (slot e : ℕ) (o : List ℕ) (x : Written) : Type 0 where
   pub tells : WellFormed file → e < expressionCount file → (S : Session) → Living s slot S → WrittenAs o x (evaluate (S .tree) (expressionOf file e))
-  pub inside : (n : ℕ) → x ≡ Written.Message n → n ≤ length o
+  pub inside : bytesWritten x ≤ length o
 
 -- A message of E row e by O row o to a location outside, by row i of the session in the slot.
 pub record SendsOutside (file s : List ℕ) (slot i o e to : ℕ) (after : Progress) (s′ out out′ : List ℕ) (a : Outcome) : Type 0 where

@@ -3,13 +3,15 @@
 ghost use mathlib.Core.Path.{_≡_};
 ghost use Prim.Native.Nat.{_+_, _%_, _≤_, _<_};
 ghost use lib.ListN.{length};
-ghost use Rattle.rows.specs.Readers.{behaviourRowOf};
 ghost use Rattle.progress.specs.Meaning.{meaning};
 ghost use Rattle.queues.specs.Queue.{replyOf};
 ghost use Rattle.moves.specs.Moves.{sendMove};
 ghost use Rattle.moving.specs.Made.{MadeOut};
-ghost use Rattle.send_moves.specs.Sending.{outputOf, afterSending, replyBack, SendingAt, WritesMessage, SendsOutside, SendsInside, SendsBy};
+ghost use Rattle.send_moves.specs.Sending.{afterSending, replyBack, OutputAt, SendingAt, WritesMessage, SendsOutside, SendsInside, SendsBy};
+ghost use Rattle.state.specs.Places.{slotSize, treeRoom};
+use evaluation::Written;
 use moving::Running;
+use operations::Met;
 use progress::Progress;
 use queues::ReplyTo;
 use readiness::Reached;
@@ -17,7 +19,6 @@ use refusal::Outcome;
 use refusal::Refusal;
 use refusal::Verdict;
 use rows::BehaviourRow;
-use targets::Met;
 
 // What a row sends: its operation (O row), its message (E row) and whether it is two-way; or that it sends nothing.
 pub enum Sending {
@@ -25,15 +26,9 @@ pub enum Sending {
     Row(u16, u16, bool),
 }
 
-// The length of a message that was written, or that its value is stuck.
-pub enum Written {
-    Message(usize),
-    Stuck,
-}
-
 // B row i, if it is an output.
 fn output_at(file: &[u8], i: u16) -> Sending
-    ensures { λ x. ⌜ x ≡ outputOf (behaviourRowOf (now (file .entry)) i) ⌝ }
+    ensures { λ x. ⌜ OutputAt (now (file .entry)) i x ⌝ }
 {
     match rows::behaviour_row(file, i) {
         BehaviourRow::Notification(o, e) => Sending::Row(o, e, false),
@@ -84,15 +79,11 @@ fn reply_back(twoway: bool, q: u16, n: u16, i: u16) -> ReplyTo
 
 // Writes the value of E row e in the session's tree to the start of out, as a tree alone.
 fn write_message(out: &mut [u8], file: &[u8], state: &[u8], slot: usize, e: u16) -> Written
-    requires { ⌜ (slot + 4096 ≤ length (now state)) × (1024 ≤ length (now out)) ⌝ }
+    requires { ⌜ (slot + slotSize ≤ length (now state)) × (treeRoom ≤ length (now out)) ⌝ }
     ensures { λ x. ⌜ WritesMessage (now (file .entry)) (now (state .entry)) slot e (now (out .exit)) x ⌝ }
 {
     let s = slots::tree_of(state, slot);
-    let n = evaluation::write_value(out, s, evaluation::evaluate(file, s, e));
-    if n == 0 {
-        return Written::Stuck;
-    }
-    Written::Message(n)
+    evaluation::write_value(out, s, evaluation::evaluate(file, s, e))
 }
 
 // Row i of the session in the slot sends the value of E row e by O row o to a location outside.
@@ -107,7 +98,7 @@ fn send_outside(
     to: u16,
     after: Progress,
 ) -> Outcome
-    requires { ⌜ (slot + 4096 ≤ length (now state)) × (i < 256) ⌝ }
+    requires { ⌜ (slot + slotSize ≤ length (now state)) × (i < 256) ⌝ }
     ensures { λ a. ⌜ SendsOutside (now (file .entry)) (now (state .entry)) slot i o e to (meaning after) (now (state .exit))
         (now (out .entry)) (now (out .exit)) a ⌝ }
 {
@@ -118,18 +109,21 @@ fn send_outside(
         return refusal::refused(Refusal::MoveNotAllowed);
     }
     let mut m = [0u8; 1024];
-    let Written::Message(n) = write_message(&mut m, file, state, slot, e) else {
-        return refusal::refused(Refusal::Stuck);
-    };
-    if !delivery::must_fit(&m[..n], file, rows::request_type(file, o)) {
-        return refusal::refused(Refusal::MessageMisfit);
+    match write_message(&mut m, file, state, slot, e) {
+        Written::Tree(n) => {
+            if !delivery::must_fit(&m[..n], file, rows::request_type(file, o)) {
+                return refusal::refused(Refusal::MessageMisfit);
+            }
+            if 512 < n {
+                return refusal::refused(Refusal::MessageMisfit);
+            }
+            progress::put_row(state, slot, i, after);
+            let w = tree_edit::append(out, 0, &m[..n], 0, n);
+            refusal::done(w)
+        }
+        Written::Missing => refusal::refused(Refusal::Stuck),
+        Written::Wrong => refusal::refused(Refusal::Stuck),
     }
-    if 512 < n {
-        return refusal::refused(Refusal::MessageMisfit);
-    }
-    progress::put_row(state, slot, i, after);
-    let w = tree_edit::append(out, 0, &m[..n], 0, n);
-    refusal::done(w)
 }
 
 // Row i of the session in the slot sends the value of E row e to session `to` by the input of O row k.
@@ -144,7 +138,7 @@ fn send_inside(
     after: Progress,
     back: ReplyTo,
 ) -> Outcome
-    requires { ⌜ (length (now state) ≡ 65536) × (slot + 4096 ≤ 65536) × (i < 256) ⌝ }
+    requires { ⌜ (length (now state) ≡ 65536) × (slot + slotSize ≤ 65536) × (i < 256) ⌝ }
     ensures { λ a. ⌜ SendsInside (now (file .entry)) (now (state .entry)) slot i k e to (meaning after) (replyOf back) (now (state .exit)) a ⌝ }
 {
     let target = targets::target_of(file, state, k, to);
@@ -160,17 +154,20 @@ fn send_inside(
         };
     };
     let mut m = [0u8; 1024];
-    let Written::Message(n) = write_message(&mut m, file, state, slot, e) else {
-        return refusal::refused(Refusal::Stuck);
-    };
-    if !delivery::must_fit(&m[..n], file, rows::request_type(file, k)) {
-        return refusal::refused(Refusal::MessageMisfit);
+    match write_message(&mut m, file, state, slot, e) {
+        Written::Tree(n) => {
+            if !delivery::must_fit(&m[..n], file, rows::request_type(file, k)) {
+                return refusal::refused(Refusal::MessageMisfit);
+            }
+            if !delivery::starts_within(file, target, &m[..n]) {
+                return refusal::refused(Refusal::Stuck);
+            }
+            progress::put_row(state, slot, i, after);
+            delivery::deliver(file, state, k, to, target, back, &m[..n])
+        }
+        Written::Missing => refusal::refused(Refusal::Stuck),
+        Written::Wrong => refusal::refused(Refusal::Stuck),
     }
-    if !delivery::starts_within(file, target, &m[..n]) {
-        return refusal::refused(Refusal::Stuck);
-    }
-    progress::put_row(state, slot, i, after);
-    delivery::deliver(file, state, k, to, target, back, &m[..n])
 }
 
 // Row i of the session in the slot sends the value of E row e by O row o.
@@ -186,14 +183,14 @@ fn send_by(
     after: Progress,
     back: ReplyTo,
 ) -> Outcome
-    requires { ⌜ (length (now state) ≡ 65536) × (slot + 4096 ≤ 65536) × (i < 256) ⌝ }
+    requires { ⌜ (length (now state) ≡ 65536) × (slot + slotSize ≤ 65536) × (i < 256) ⌝ }
     ensures { λ a. ⌜ SendsBy (now (file .entry)) (now (state .entry)) slot i o e to (meaning after) (replyOf back) (now (state .exit))
         (now (out .entry)) (now (out .exit)) a ⌝ }
 {
-    if !targets::in_file(file, rows::operation_location(file, o)) {
+    if !operations::in_file(file, rows::operation_location(file, o)) {
         return send_outside(file, state, out, slot, i, o, e, to, after);
     }
-    let Met::Input(k) = targets::met_input(file, o) else {
+    let Met::Input(k) = operations::met_input(file, o) else {
         return refusal::refused(Refusal::MoveNotAllowed);
     };
     send_inside(file, state, slot, i, k, e, to, after, back)

@@ -1,9 +1,9 @@
 // A session's tree with a change, written to a scratch buffer, and whether it keeps to its limits. 01: "assign sets one root value and keeps
 // children. Writing makes missing steps void."; receive "replaces the subtree"; 18: "would take a tree past 48 nodes or 6 levels".
-ghost use mathlib.Core.Path.{_≡_};
 ghost use Prim.Native.Nat.{_+_, _≤_};
 ghost use lib.ListN.{length};
 ghost use Rattle.session_trees.specs.Changing.{Replaces, Assigns, Kept};
+ghost use Rattle.state.specs.Places.{slotSize};
 use tree_edit::Grown;
 
 // The changed tree's length in the scratch buffer, or that it passes the limits.
@@ -29,7 +29,7 @@ fn grown(v: Grown) -> Change
 
 // The tree of the session in the slot with the subtree at the path replaced by the tree of m.
 pub fn replace(out: &mut [u8], state: &[u8], slot: usize, ids: [u16; 4], m: &[u8]) -> Change
-    requires { ⌜ (slot + 4096 ≤ length (now state)) × (2304 ≤ length (now out)) ⌝ }
+    requires { ⌜ (slot + slotSize ≤ length (now state)) × (2304 ≤ length (now out)) ⌝ }
     ensures { λ x. ⌜ Replaces (now (state .entry)) slot ids (now (m .entry)) (now (out .exit)) x ⌝ }
 {
     let s = slots::tree_of(state, slot);
@@ -53,7 +53,7 @@ pub fn replace(out: &mut [u8], state: &[u8], slot: usize, ids: [u16; 4], m: &[u8
 
 // The tree of the session in the slot with the value of the leaf m set at the path.
 pub fn assign(out: &mut [u8], state: &[u8], slot: usize, ids: [u16; 4], m: &[u8]) -> Change
-    requires { ⌜ (slot + 4096 ≤ length (now state)) × (2304 ≤ length (now out)) ⌝ }
+    requires { ⌜ (slot + slotSize ≤ length (now state)) × (2304 ≤ length (now out)) ⌝ }
     ensures { λ x. ⌜ Assigns (now (state .entry)) slot ids (now (m .entry)) (now (out .exit)) x ⌝ }
 {
     let s = slots::tree_of(state, slot);

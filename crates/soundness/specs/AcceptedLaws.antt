@@ -1,40 +1,36 @@
 -- What the checker's acceptance of a file gives: all that property 3 asks of its network.
-use mathlib.Core.Path.{_≡_, refl, sym, ap, subst, _∙_}
+use mathlib.Core.Path.{_≡_, refl, sym, subst}
 use Prim.Native.Nat.{ℕ, zero, suc, _+_}
 use mathlib.Core.Bool.{Bool, true, false}
 use mathlib.Core.List.{List, [], _∷_}
 use native.Mathlib.Omega.{arith}
 use lib.Dec.{T, eqb, leb}
 use borrow.Author.Tests.{ne-eqb}
-use Rattle.forest.specs.Compare.{of-T, and-l, and-r}
 use Rattle.forest.specs.Forest.{end, tree}
 use Rattle.scalar.specs.Value.{pick}
-use Rattle.syntax.specs.Syntax.{Types, MessageType, Optional, none, some, Service, Network, Operation, Direction, input, output, Behaviour, nil}
-use Rattle.syntax.specs.Syntax.{oneWay, requestResponse, notification, solicitResponse, ifThenElse, whileDo, sequence, parallel, assign, choice}
-use Rattle.syntax.specs.Syntax.{branch, lastBranch, waiting, answering}
+use Rattle.syntax.specs.Syntax.{Types, MessageType, Optional, none, some, Service, Network, Operation, output, Behaviour}
+use Rattle.syntax.specs.Syntax.{Branches, lastBranch, branch}
 use Rattle.network.specs.Layout.{behaviourCount}
 use Rattle.network.specs.Form.{WellFormed}
 use Rattle.network.specs.Decode.{networkOf, rowOperation}
-use Rattle.network.specs.Meets.{locationOf, inFile, metInput}
-use Rattle.syntax.specs.Rows.{entry}
-use Rattle.network.specs.MeetsLaws.{Met, met-input, met-entry, met-once, in-file}
-use Rattle.network.specs.Shapes.{MessageTypeShape, FileBehaviour, IfAny, Role, asStarter, asClient, isChoiceBehaviour, alone, inChoice, AsInFile}
+use Rattle.syntax.specs.Meets.{inFile, metInput}
+use Rattle.syntax.specs.Rows.{isThere, Choice, choiceOf, entry}
+use Rattle.network.specs.Shapes.{MessageTypeShape, FileBehaviour, IfAny, Role, asStarter, asClient, isChoiceBehaviour}
 use Rattle.network.specs.Shapes.{NetworkShape, behaviourIn as inRole}
 use Rattle.network.specs.RowLaws.{counts-kept}
-use Rattle.network.specs.TestLaws.{eq-of}
 use Rattle.network.specs.NetworkLaws.{service-length, service-of-entry, topRow, top-of, network-shape}
-use Rattle.typing.specs.Rules.{sameBool, sameDirection, permits, Derives}
-use Rattle.typing.specs.NetworkRules.{branchesOf, DerivesEach, DerivesStarter, DerivesClient, IfThere, Environments, DerivesServices, Meets, MeetsOne}
-use Rattle.typing.specs.NetworkRules.{first, later, MeetsAt, OutputsMeet, DerivesNetwork}
+use Rattle.typing.specs.Rules.{Derives}
+use Rattle.typing.specs.NetworkRules.{sequencesOf, ofChoice, branchesOf, DerivesEach, DerivesStarter, DerivesClient, IfThere, Environments}
+use Rattle.typing.specs.NetworkRules.{DerivesServices, Agrees, AgreesWith, OutputsMeet, DerivesNetwork}
 use Rattle.typing.specs.Result.{passed}
 use Rattle.checking.specs.FileChecker.{checkFile}
 use Rattle.checking.specs.FileCheckerLaws.{accepted-derived}
 use Rattle.tree.specs.Encode.{Octets}
 use Rattle.state.specs.Shape.{behaviourIn, serviceAt, clientOf, starterOf}
 use Rattle.soundness.specs.Parts.{branchAt}
-use Rattle.soundness.specs.Accepted.{MadeOf, SmallType, OperationFits, BehaviourFits, Agree, DerivedStarter, Accepted}
+use Rattle.soundness.specs.Accepted.{MadeOf, SmallType, OperationFits, BehaviourFits, DerivedStarter, Accepted}
 use Rattle.soundness.specs.FilePartsLaws.{behaviour-made}
-use Rattle.soundness.specs.MadeLaws.{some-inj, not-some}
+use Rattle.syntax.specs.ViewLaws.{some-inj, none-some, choice-is}
 
 -- Operations ------------------------------------------------------------------------------------------------------------------------------
 
@@ -60,14 +56,14 @@ record Runs (N : Network) (q : ℕ) (x : Role) (B : Behaviour) : Type 0 where
   runs : inRole x service ≡ some B
 
 client-runs : (N : Network) (q : ℕ) (B : Behaviour) (v : Optional Service) → serviceAt (N .services) q ≡ v → clientOf v ≡ some B → Runs N q asClient B
-client-runs N q B none e h = absurd (not-some h)
+client-runs N q B none e h = absurd (none-some h)
 client-runs N q B (some v) e h = record { service = v; there = e; runs = h }
 
 starter-runs : (N : Network) (q : ℕ) (B : Behaviour) (t : Bool) (v : Optional Service) → serviceAt (N .services) q ≡ v
     → pick t (starterOf v) none ≡ some B → Runs N q asStarter B
-starter-runs N q B true none e h = absurd (not-some h)
+starter-runs N q B true none e h = absurd (none-some h)
 starter-runs N q B true (some v) e h = record { service = v; there = e; runs = h }
-starter-runs N q B false v e h = absurd (not-some h)
+starter-runs N q B false v e h = absurd (none-some h)
 
 abbrev roleOf : ℕ → Role
 roleOf zero = asClient
@@ -105,7 +101,7 @@ record DerivedService (q : ℕ) (v : Service) : Type 0 where
 service-derived : (l : List Service) (p : ℕ) (Es : List Environments) → DerivesServices p l Es → (q : ℕ) (v : Service) → entry q l ≡ some v
     → DerivedService (p + q) v
 unfolding DerivesServices entry
-service-derived [] p Es d q v e = absurd (not-some e)
+service-derived [] p Es d q v e = absurd (none-some e)
 service-derived (u ∷ l) p Es d zero v e =
     let z : p ≡ p + 0 = omega arith in
     let a : u ≡ v = some-inj e in
@@ -116,7 +112,7 @@ service-derived (u ∷ l) p Es d (suc q) v e =
     subst (λ (j : ℕ). DerivedService j v) z (service-derived l (suc p) (d .1) (d .4) q v e)
 
 if-there : (D : Behaviour → Types → Type 0) (B : Optional Behaviour) (E : Optional Types) (C : Behaviour) → B ≡ some C → IfThere D B E → (Γ : Types) × D C Γ
-if-there D none E C e h = absurd (not-some e)
+if-there D none E C e h = absurd (none-some e)
 if-there D (some B) E C e h = let a : B ≡ C = some-inj e in (h .0, subst (λ (z : Behaviour). D z (h .0)) a (h .1))
 
 derived-at : (N : Network) (Es : List Environments) → DerivesNetwork N Es → (q : ℕ) (v : Service) → entry q (N .services) ≡ some v → DerivedService q v
@@ -125,110 +121,35 @@ derived-at N Es d q v e =
     subst (λ (j : ℕ). DerivedService j v) z (service-derived (N .services) 0 Es (d .services) q v e)
 
 -- The branches of a starter.
-branch-derived : (q : ℕ) (m : Behaviour) (Γs : List Types) → AsInFile inChoice m → DerivesEach q (branchesOf m) Γs → (k : ℕ)
-    → (Δ : Types) × Derives q (branchAt k m) end Δ
-unfolding AsInFile branchesOf DerivesEach branchAt
-branch-derived q (nil r) Γs a d k = absurd a
-branch-derived q (oneWay r o x) Γs a d k = absurd a
-branch-derived q (requestResponse r o x c e) Γs a d k = absurd a
-branch-derived q (notification r o e) Γs a d k = absurd a
-branch-derived q (solicitResponse r o e x) Γs a d k = absurd a
-branch-derived q (ifThenElse r e x y) Γs a d k = absurd a
-branch-derived q (whileDo r e x) Γs a d k = absurd a
-branch-derived q (sequence r x y) Γs a d k = absurd a
-branch-derived q (parallel r x y) Γs a d k = absurd a
-branch-derived q (assign r x e) Γs a d k = absurd a
-branch-derived q (choice r m) Γs a d k = absurd a
-branch-derived q (branch r x y m) Γs a d zero = (d .0, d .2)
-branch-derived q (branch r x y m) Γs a d (suc k) = branch-derived q m (d .1) (a .3) (d .3) k
-branch-derived q (lastBranch r x y) Γs a d k = (d .0, d .2)
-branch-derived q (waiting r o x) Γs a d k = absurd a
-branch-derived q (answering r o c e) Γs a d k = absurd a
+branch-derived : (q : ℕ) (m : Branches) (Γs : List Types) → DerivesEach q (sequencesOf m) Γs → (k : ℕ) → (Δ : Types) × Derives q (branchAt k m) end Δ
+unfolding sequencesOf DerivesEach branchAt
+branch-derived q (lastBranch r x y) Γs d k = (d .0, d .2)
+branch-derived q (branch r x y m) Γs d zero = (d .0, d .2)
+branch-derived q (branch r x y m) Γs d (suc k) = branch-derived q m (d .1) (d .3) k
 
-starter-derived : (q : ℕ) (B : Behaviour) (Γ : Types) → T (isChoiceBehaviour B) → AsInFile alone B → DerivesStarter q B Γ → DerivedStarter q B
-unfolding AsInFile branchesOf
-starter-derived q (nil r) Γ t a d = absurd t
-starter-derived q (oneWay r o x) Γ t a d = absurd t
-starter-derived q (requestResponse r o x c e) Γ t a d = absurd t
-starter-derived q (notification r o e) Γ t a d = absurd t
-starter-derived q (solicitResponse r o e x) Γ t a d = absurd t
-starter-derived q (ifThenElse r e x y) Γ t a d = absurd t
-starter-derived q (whileDo r e x) Γ t a d = absurd t
-starter-derived q (sequence r x y) Γ t a d = absurd t
-starter-derived q (parallel r x y) Γ t a d = absurd t
-starter-derived q (assign r x e) Γ t a d = absurd t
-starter-derived q (choice r m) Γ t a d = record { row = r; options = m; isChoice = refl; branches = branch-derived q m (d .0) a (d .1) }
-starter-derived q (branch r x y m) Γ t a d = absurd t
-starter-derived q (lastBranch r x y) Γ t a d = absurd t
-starter-derived q (waiting r o x) Γ t a d = absurd t
-starter-derived q (answering r o c e) Γ t a d = absurd t
+starter-derived : (q : ℕ) (B : Behaviour) (Γ : Types) → T (isChoiceBehaviour B) → DerivesStarter q B Γ → DerivedStarter q B
+unfolding branchesOf
+starter-derived q B Γ t d = go (choiceOf B) refl t (d .1)
+  where
+    go : (c : Optional Choice) → choiceOf B ≡ c → T (isThere c) → DerivesEach q (ofChoice c) (d .0) → DerivedStarter q B
+    go none e t g = absurd t
+    go (some c) e t g =
+        record { row = c .row; options = c .branches; isChoice = choice-is B c e; branches = branch-derived q (c .branches) (d .0) g }
 
 -- Outputs ---------------------------------------------------------------------------------------------------------------------------------
 
-output-meets : (ss : List Service) (os l : List Operation) → OutputsMeet ss os l → (w : ℕ) (o : Operation) → entry w l ≡ some o → o .direction ≡ output
-    → MeetsAt os o 0 ss
+-- What the rule says of an output, given by its row.
+output-meets : (N : Network) (l : List Operation) → OutputsMeet N l → (w : ℕ) (o : Operation) → entry w l ≡ some o → o .direction ≡ output
+    → T (inFile N (o .location)) → AgreesWith o (metInput N o)
 unfolding OutputsMeet entry
-output-meets ss os [] m w o e d = absurd (not-some e)
-output-meets ss os (x ∷ l) m zero o e d =
-    subst (λ (z : Operation). z .direction ≡ output → MeetsAt os z 0 ss) (some-inj e) (m .0) d
-output-meets ss os (x ∷ l) m (suc w) o e d = output-meets ss os l (m .1) w o e d
+output-meets N [] m w o e d t = absurd (none-some e)
+output-meets N (x ∷ l) m zero o e d t =
+    subst (λ (z : Operation). z .direction ≡ output → T (inFile N (z .location)) → AgreesWith z (metInput N z)) (some-inj e) (m .0) d t
+output-meets N (x ∷ l) m (suc w) o e d t = output-meets N l (m .1) w o e d t
 
-meets-at : (os : List Operation) (o : Operation) (ss : List Service) (p : ℕ) → MeetsAt os o p ss → (q : ℕ) (v : Service) → entry q ss ≡ some v
-    → v .location ≡ o .location → MeetsOne (p + q) o os
-unfolding MeetsAt entry
-meets-at os o [] p m q v e h = absurd (not-some e)
-meets-at os o (u ∷ ss) p m zero v e h =
-    let z : p ≡ p + 0 = omega arith in
-    subst (λ (j : ℕ). MeetsOne j o os) z (m .0 (ap (λ (x : Service). x .location) (some-inj e) ∙ h))
-meets-at os o (u ∷ ss) p m (suc q) v e h =
-    let z : suc p + q ≡ p + suc q = omega arith in
-    subst (λ (j : ℕ). MeetsOne j o os) z (meets-at os o ss (suc p) (m .1) q v e h)
-
-record MetAt (q : ℕ) (o : Operation) (os : List Operation) : Type 0 where
-  number : ℕ
-  incoming : Operation
-  there : entry number os ≡ some incoming
-  meets : Meets q o incoming
-
-met-at : (q : ℕ) (o : Operation) (os : List Operation) → MeetsOne q o os → MetAt q o os
-unfolding entry
-met-at q o (i ∷ os) (first m) = record { number = 0; incoming = i; there = refl; meets = m }
-met-at q o (i ∷ os) (later m) = let h = met-at q o os m in record { number = suc (h .number); incoming = h .incoming; there = h .there; meets = h .meets }
-
-input-of : (d : Direction) → T (sameDirection d input) → d ≡ input
-input-of input t = refl
-input-of output t = absurd t
-
-kind-of : (a b : Bool) → T (sameBool a b) → a ≡ b
-kind-of true b t = sym (of-T b t)
-kind-of false true t = absurd t
-kind-of false false t = refl
-
--- An input that the rule asks for is one that the output meets.
-met-of : (N : Network) (q : ℕ) (v : Service) (o i : Operation) → entry q (N .services) ≡ some v → v .location ≡ o .location → Meets q o i → Met N o i
-unfolding permits
-met-of N q v o i e l m =
-    let p = and-r (eqb (i .service) q) _ (m .there) in
-    let a : i .service ≡ q = eq-of (i .service) q (of-T (eqb (i .service) q) (and-l (eqb (i .service) q) _ (m .there))) in
-    record {
-      incoming = input-of (i .direction) (and-l (sameDirection (i .direction) input) _ p);
-      there = ap (λ (j : ℕ). locationOf (entry j (N .services))) a ∙ (ap locationOf e ∙ l);
-      sameId = m .sameId;
-      sameWay = kind-of (i .twoWay) (o .twoWay) (and-r (sameDirection (i .direction) input) _ p);
-    }
-
-outputs-agree : (f : ℕ → Operation) (N : Network) → NetworkShape f N → OutputsMeet (N .services) (N .operations) (N .operations)
-    → (w : ℕ) (o i : Operation) → entry w (N .operations) ≡ some o → o .direction ≡ output → T (inFile N (o .location)) → metInput N o ≡ some i → Agree o i
-outputs-agree f N h m w o i e d t g =
-    let v = in-file (N .services) (o .location) (of-T (inFile N (o .location)) t) in
-    let one = meets-at (N .operations) o (N .services) 0 (output-meets (N .services) (N .operations) (N .operations) m w o e d) (v .0) (v .1) (v .2) (v .3) in
-    let z : 0 + v .0 ≡ v .0 = omega arith in
-    let k = met-at (v .0) o (N .operations) (subst (λ (j : ℕ). MeetsOne j o (N .operations)) z one) in
-    let u = met-entry N o i g in
-    let its = met-of N (v .0) (v .1) o (k .incoming) (v .2) (v .3) (k .meets) in
-    let j = met-once f N h o (k .incoming) i (k .number) (u .0) (k .there) (u .1) its (met-input N o i g) in
-    let same : k .incoming ≡ i = some-inj (sym (k .there) ∙ (ap (λ (r : ℕ). entry r (N .operations)) j ∙ u .1)) in
-    subst (Agree o) same (record { requests = k .meets .requests; replies = k .meets .replies })
+outputs-agree : (N : Network) → OutputsMeet N (N .operations) → (w : ℕ) (o i : Operation) → entry w (N .operations) ≡ some o → o .direction ≡ output
+    → T (inFile N (o .location)) → metInput N o ≡ some i → Agrees o i
+outputs-agree N m w o i e d t g = subst (AgreesWith o) g (output-meets N (N .operations) m w o e d t)
 
 -- Acceptance ------------------------------------------------------------------------------------------------------------------------------
 
@@ -247,8 +168,8 @@ accepted s Es b e = record {
       let u = if-there (DerivesStarter q) (r .service .starter) _ B (r .runs) (derived-at (networkOf s) Es d q (r .service) (r .there) .starter) in
       starter-derived q B (u .0)
       (if-any (λ B. T (isChoiceBehaviour B)) (r .service .starter) B (r .runs) (h .starters q (r .service) (r .there)))
-      (behaviour-fits s b w q asStarter B r .standing) (u .1);
-  outputs = λ r o i g. outputs-agree (rowOperation s) (networkOf s) h (d .outputs) r o i g;
+      (u .1);
+  outputs = λ r o i g. outputs-agree (networkOf s) (d .outputs) r o i g;
 }
   where
     w : WellFormed s

@@ -8,7 +8,7 @@ use Rattle.forest.specs.Compare.{and-l, and-r}
 use Rattle.forest.specs.Forest.{Rising}
 use Rattle.forest.specs.Path.{Path}
 use Rattle.syntax.specs.Syntax.{Types, Operation, Behaviour, nil, oneWay, requestResponse, notification, solicitResponse, ifThenElse, whileDo}
-use Rattle.syntax.specs.Syntax.{sequence, parallel, assign, choice, branch, lastBranch, waiting, answering}
+use Rattle.syntax.specs.Syntax.{sequence, parallel, assign, choice, waiting, answering}
 use Rattle.typing.specs.Occurs.{isRoot, occurs}
 use Rattle.typing.specs.OccursLaws.{or-l, or-r}
 use Rattle.typing.specs.Rules.{WellSorted}
@@ -28,8 +28,6 @@ finished (sequence r a b) = finished a && finished b
 finished (parallel r a b) = finished a && finished b
 finished (assign r x e) = false
 finished (choice r m) = false
-finished (branch r a b m) = false
-finished (lastBranch r a b) = false
 finished (waiting r o x) = false
 finished (answering r o c d) = false
 
@@ -69,53 +67,34 @@ active-sorted (onRight p) w s = (s .0, active-sorted p w (s .1))
 active-sorted (inBody p) w s = (s .0, active-sorted p w (s .1))
 
 module _ (q : ℕ) where
-  pub finished-same : (B : Behaviour) (Γ Δ : Types) → T (finished B) → Typed q B Γ Δ → Γ ≡ Δ
+  -- What is finished changes nothing, and can stand in any environment.
+  finished-typed : (B : Behaviour) (Γ Δ : Types) → T (finished B) → Typed q B Γ Δ → (Γ ≡ Δ) × ((Θ : Types) → Typed q B Θ Θ)
   unfolding finished Typed
-  finished-same (nil r) Γ Δ t h = h
-  finished-same (oneWay r o x) Γ Δ t h = absurd t
-  finished-same (requestResponse r o x c d) Γ Δ t h = absurd t
-  finished-same (notification r o e) Γ Δ t h = absurd t
-  finished-same (solicitResponse r o e x) Γ Δ t h = absurd t
-  finished-same (ifThenElse r e a b) Γ Δ t h = absurd t
-  finished-same (whileDo r e b) Γ Δ t h = absurd t
-  finished-same (sequence r a b) Γ Δ t h =
-      finished-same a Γ (h .0) (and-l (finished a) (finished b) t) (h .1) ∙ finished-same b (h .0) Δ (and-r (finished a) (finished b) t) (h .2)
-  finished-same (parallel r a b) Γ Δ t h =
-      finished-same a Γ (h .1) (and-l (finished a) (finished b) t) (h .2) ∙ finished-same b (h .1) Δ (and-r (finished a) (finished b) t) (h .3)
-  finished-same (assign r x e) Γ Δ t h = absurd t
-  finished-same (choice r m) Γ Δ t h = absurd t
-  finished-same (branch r a b m) Γ Δ t h = absurd t
-  finished-same (lastBranch r a b) Γ Δ t h = absurd t
-  finished-same (waiting r o x) Γ Δ t h = absurd t
-  finished-same (answering r o c d) Γ Δ t h = absurd t
+  finished-typed (nil r) Γ Δ t h = (h, λ Θ. refl)
+  finished-typed (oneWay r o x) Γ Δ t h = absurd t
+  finished-typed (requestResponse r o x c d) Γ Δ t h = absurd t
+  finished-typed (notification r o e) Γ Δ t h = absurd t
+  finished-typed (solicitResponse r o e x) Γ Δ t h = absurd t
+  finished-typed (ifThenElse r e a b) Γ Δ t h = absurd t
+  finished-typed (whileDo r e b) Γ Δ t h = absurd t
+  finished-typed (sequence r a b) Γ Δ t h =
+      let u = finished-typed a Γ (h .0) (and-l (finished a) (finished b) t) (h .1) in
+      let v = finished-typed b (h .0) Δ (and-r (finished a) (finished b) t) (h .2) in
+      (u .0 ∙ v .0, λ Θ. (Θ, u .1 Θ, v .1 Θ))
+  finished-typed (parallel r a b) Γ Δ t h =
+      let u = finished-typed a Γ (h .1) (and-l (finished a) (finished b) t) (h .2) in
+      let v = finished-typed b (h .1) Δ (and-r (finished a) (finished b) t) (h .3) in
+      (u .0 ∙ v .0, λ Θ. (h .0, Θ, u .1 Θ, v .1 Θ))
+  finished-typed (assign r x e) Γ Δ t h = absurd t
+  finished-typed (choice r m) Γ Δ t h = absurd t
+  finished-typed (waiting r o x) Γ Δ t h = absurd t
+  finished-typed (answering r o c d) Γ Δ t h = absurd t
 
-  -- What is finished can stand in any environment.
+  pub finished-same : (B : Behaviour) (Γ Δ : Types) → T (finished B) → Typed q B Γ Δ → Γ ≡ Δ
+  finished-same B Γ Δ t h = finished-typed B Γ Δ t h .0
+
   pub finished-anywhere : (B : Behaviour) (Γ Δ : Types) → T (finished B) → Typed q B Γ Δ → (Θ : Types) → Typed q B Θ Θ
-  unfolding finished Typed
-  finished-anywhere (nil r) Γ Δ t h Θ = refl
-  finished-anywhere (oneWay r o x) Γ Δ t h Θ = absurd t
-  finished-anywhere (requestResponse r o x c d) Γ Δ t h Θ = absurd t
-  finished-anywhere (notification r o e) Γ Δ t h Θ = absurd t
-  finished-anywhere (solicitResponse r o e x) Γ Δ t h Θ = absurd t
-  finished-anywhere (ifThenElse r e a b) Γ Δ t h Θ = absurd t
-  finished-anywhere (whileDo r e b) Γ Δ t h Θ = absurd t
-  finished-anywhere (sequence r a b) Γ Δ t h Θ = (
-    Θ,
-    finished-anywhere a Γ (h .0) (and-l (finished a) (finished b) t) (h .1) Θ,
-    finished-anywhere b (h .0) Δ (and-r (finished a) (finished b) t) (h .2) Θ,
-  )
-  finished-anywhere (parallel r a b) Γ Δ t h Θ = (
-    h .0,
-    Θ,
-    finished-anywhere a Γ (h .1) (and-l (finished a) (finished b) t) (h .2) Θ,
-    finished-anywhere b (h .1) Δ (and-r (finished a) (finished b) t) (h .3) Θ,
-  )
-  finished-anywhere (assign r x e) Γ Δ t h Θ = absurd t
-  finished-anywhere (choice r m) Γ Δ t h Θ = absurd t
-  finished-anywhere (branch r a b m) Γ Δ t h Θ = absurd t
-  finished-anywhere (lastBranch r a b) Γ Δ t h Θ = absurd t
-  finished-anywhere (waiting r o x) Γ Δ t h Θ = absurd t
-  finished-anywhere (answering r o c d) Γ Δ t h Θ = absurd t
+  finished-anywhere B Γ Δ t h = finished-typed B Γ Δ t h .1
 
   -- The active part is typed in Γ itself, and whatever leads to the same environment may stand there.
   pub record Hole (L L2 R2 : Behaviour) (Γ Γ2 : Types) : Type 0 where

@@ -9,28 +9,28 @@ use lib.ListN.{length}
 use Rattle.forest.specs.Forest.{Tree, tree, end, RisingTree}
 use Rattle.forest.specs.Path.{Path}
 use Rattle.scalar.specs.Value.{Value, pick}
-use Rattle.syntax.specs.Syntax.{Types, MessageType, Optional, none, some, Service, Network, Operation, input, Behaviour, nil, oneWay, requestResponse}
-use Rattle.syntax.specs.Syntax.{notification, solicitResponse, ifThenElse, whileDo, sequence, parallel, assign, choice, branch, lastBranch, waiting}
-use Rattle.syntax.specs.Syntax.{answering}
-use Rattle.syntax.specs.Rows.{rowOf, hasRow, entry}
-use Rattle.network.specs.Shapes.{alone}
-use Rattle.network.specs.Meets.{firstOf}
+use Rattle.syntax.specs.Syntax.{Types, MessageType, Optional, none, some, Service, Network, Operation, input, Behaviour, oneWay, requestResponse}
+use Rattle.syntax.specs.Syntax.{sequence, choice, Branches}
+use Rattle.syntax.specs.Rows.{rowOf, hasRow, hasRowIn, Response, Input, fromInput, choiceOf, entry}
+use Rattle.network.specs.Shapes.{EachRowOnce}
+use Rattle.syntax.specs.Meets.{firstOf}
 use Rattle.subtyping.specs.Own.{Fits}
 use Rattle.subtyping.specs.OwnLaws.{tree-within}
 use Rattle.typing.specs.EnvironmentLaws.{sums, maxima}
 use Rattle.typing.specs.Rules.{Derives}
 use Rattle.tree.specs.Encode.{WellFormed, messageDeep, messageMany}
-use Rattle.state.specs.Session.{ReplyTo, Progresses, undone, done, received, taken, advance, Queued, Session, Slot, free, live, State, setSlot}
+use Rattle.state.specs.Session.{ReplyTo, Progresses, undone, done, received, taken, advance, Queued, Session, withQueue, withProgress, newSession, Slot, free, live, State, setSlot}
 use Rattle.state.specs.Shape.{serviceAt, clientOf, starterOf, behaviourIn, operationAt, suitsOperation, branches}
-use Rattle.moves.specs.Targets.{Target, noTarget, queueFull, queued, starts, isInputOf, startFrom, targetOf, onBehaviour, target}
-use Rattle.moves.specs.Moves.{Result, moved, withQueue, saveWithin, permitsInput, allowed, startedBy, started, deliver}
+use Rattle.moves.specs.Targets.{Target, noTarget, queueFull, queued, starts, startFrom, startOf, targetOf, onBehaviour, target}
+use Rattle.moves.specs.Moves.{Result, moved, saveWithin, permitsInput, allowed, startedBy, started, deliver}
 use Rattle.soundness.specs.GoodTrees.{GoodTree}
-use Rattle.soundness.specs.Parts.{branchAt, Once, Reaches, atSelf, atFirst, atBranch}
+use Rattle.soundness.specs.Parts.{branchAt, Reaches, atSelf, atFirst, atBranch}
 use Rattle.soundness.specs.RowLaws.{in-first, branch-rows}
 use Rattle.soundness.specs.Accepted.{OfFile, MadeOf, SmallType, Accepted, DerivedStarter}
-use Rattle.soundness.specs.MadeLaws.{made-at, reaches-atRow, row-own, some-inj}
+use Rattle.soundness.specs.MadeLaws.{made-at, plain-request, reaches-atRow}
+use Rattle.syntax.specs.ViewLaws.{own-row, some-inj}
 use Rattle.soundness.specs.Invariant.{Destination, Answers, QueuedSound, AllQueued, SessionSound, Sound}
-use Rattle.soundness.specs.SessionLaws.{advance-same, advance-below, once-of, made-of, oneWay-sound, request-sound, queue-sound}
+use Rattle.soundness.specs.SessionLaws.{advance-same, advance-below-branches, once-of, made-of, oneWay-sound, request-sound, queue-sound}
 use Rattle.soundness.specs.StartLaws.{StartedBy, FoundStart, startFrom-found, start-sound}
 use Rattle.soundness.specs.ResultLaws.{Keeps, goes-keeps, keeps-15, allowed-16, by-require, by-live, sound-set, live-inj}
 use Rattle.soundness.specs.LocalLaws.{permits-two, save-goes, suits-destination}
@@ -82,10 +82,10 @@ behaviour-place N q n B e = go (eqb n 0) refl (leb n 3) refl (serviceAt (N .serv
     go false ea false eb s es h = absurd (no-behaviour h)
 
 -- What a target says.
-pub record Starting (N : Network) (q n w c k : ℕ) (a : Behaviour) : Type 0 where
+pub record Starting (N : Network) (q n w c k : ℕ) (a : Input) : Type 0 where
   pub before : ℕ
   pub number : n ≡ suc before
-  pub options : Behaviour
+  pub options : Branches
   pub runs : behaviourIn N q n ≡ some (choice c options)
   pub found : StartedBy w c k a 0 options
   pub derived : DerivedStarter q (choice c options)
@@ -106,23 +106,22 @@ module _ (N : Network) (rows : ℕ) (acc : Accepted N rows) where
   start-target P false t f g = g
 
   pub target-info : (G : State) (i : Operation) (n : ℕ) → TargetInfo N G i n (target N G i n)
-  unfolding startFrom Once
+  unfolding startFrom EachRowOnce
   target-info G i n = go n refl (behaviourIn N (i .service) n) refl (G (i .service) n) refl
     where
       w : ℕ
       w = i .row
 
       start : (n2 : ℕ) (B : Behaviour) → n ≡ suc n2 → behaviourIn N (i .service) n ≡ some B → DerivedStarter (i .service) B
-          → TargetInfo N G i n (startFrom w 0 0 B)
+          → TargetInfo N G i n (startOf w (choiceOf B))
       start n2 B en eb d =
           let c = d .row in
           let m = d .options in
           let eb2 : behaviourIn N (i .service) n ≡ some (choice c m) = eb ∙ ap some (d .isChoice) in
-          let on = once-of N rows acc (i .service) n (choice c m) eb2 in
-          subst (λ (z : Behaviour). TargetInfo N G i n (startFrom w 0 0 z)) (sym (d .isChoice))
-          (go2 (startFrom w c 0 m) (startFrom-found w c m 0 (on .1)) eb2 (subst (DerivedStarter (i .service)) (d .isChoice) d))
+          subst (λ (z : Behaviour). TargetInfo N G i n (startOf w (choiceOf z))) (sym (d .isChoice))
+          (go2 (startFrom w c 0 m) (startFrom-found w c m 0) eb2 (subst (DerivedStarter (i .service)) (d .isChoice) d))
         where
-          go2 : {c : ℕ} {m : Behaviour} (t : Target) → FoundStart w c 0 m t → behaviourIn N (i .service) n ≡ some (choice c m)
+          go2 : {c : ℕ} {m : Branches} (t : Target) → FoundStart w c 0 m t → behaviourIn N (i .service) n ≡ some (choice c m)
               → DerivedStarter (i .service) (choice c m) → TargetInfo N G i n t
           go2 noTarget f e d = tt
           go2 queueFull f e d = absurd f
@@ -137,9 +136,9 @@ module _ (N : Network) (rows : ℕ) (acc : Accepted N rows) where
       go n1 en (some B) eb (live S) ex =
           queue-target (TargetInfo N G i n) (ltb (length (S .queue)) 4)
           (λ t S2 e2. subst (λ (z : Session). length (z .queue) < 4) (live-inj (sym ex ∙ e2)) (ltb→lt (length (S .queue)) 4 t)) tt
-      go zero en (some B) eb free ex = subst (λ (z : ℕ). TargetInfo N G i n (pick (eqb z 0) noTarget (startFrom w 0 0 B))) (sym en) tt
+      go zero en (some B) eb free ex = subst (λ (z : ℕ). TargetInfo N G i n (pick (eqb z 0) noTarget (startOf w (choiceOf B)))) (sym en) tt
       go (suc n2) en (some B) eb free ex =
-          start-target (TargetInfo N G i n) (eqb n 0) (startFrom w 0 0 B) tt
+          start-target (TargetInfo N G i n) (eqb n 0) (startOf w (choiceOf B)) tt
           (start n2 B en eb (acc .starters (i .service) n2 B (ap (behaviourIn N (i .service)) (sym en) ∙ eb)))
 
   -- A message of the input i that may arrive, with where its reply goes.
@@ -167,26 +166,26 @@ module _ (N : Network) (rows : ℕ) (acc : Accepted N rows) where
   abbrev begun : ℕ → ℕ → Progresses
   begun c k = advance (λ i. undone) c (taken k)
 
-  choice-same : {c c2 : ℕ} {m m2 : Behaviour} → choice c m ≡ choice c2 m2 → m ≡ m2
+  choice-same : {c c2 : ℕ} {m m2 : Branches} → choice c m ≡ choice c2 m2 → m ≡ m2
   choice-same e = cc
 
-  begins : (q n c k : ℕ) (m : Behaviour) → behaviourIn N q (suc n) ≡ some (choice c m) → T (ltb k (branches m)) → DerivedStarter q (choice c m)
-      → SessionSound N rows q (suc n) (record { tree = end; queue = []; progress = begun c k })
+  begins : (q n c k : ℕ) (m : Branches) → behaviourIn N q (suc n) ≡ some (choice c m) → T (ltb k (branches m)) → DerivedStarter q (choice c m)
+      → SessionSound N rows q (suc n) (withProgress newSession (begun c k))
   begins q n c k m e small d =
       start-sound N rows acc q n c k m e small
-      (λ j. subst (λ (z : Behaviour). (Δ : Types) × Derives q (branchAt j z) end Δ) (sym (choice-same (d .isChoice))) (d .branches j))
+      (λ j. subst (λ (z : Branches). (Δ : Types) × Derives q (branchAt j z) end Δ) (sym (choice-same (d .isChoice))) (d .branches j))
 
-  input-way : (c k l : ℕ) (m a b : Behaviour) → branchAt k m ≡ sequence l a b → Reaches (begun c k) a (choice c m)
+  input-way : (c k l : ℕ) (m : Branches) (a b : Behaviour) → branchAt k m ≡ sequence l a b → Reaches (begun c k) a (choice c m)
   input-way c k l m a b e = atBranch k (advance-same (λ i. undone) c (taken k)) (subst (λ (z : Behaviour). Reaches (begun c k) a z) (sym e) (atFirst atSelf))
 
-  input-undone : (c k l : ℕ) (m a b : Behaviour) → Once alone (choice c m) → branchAt k m ≡ sequence l a b → begun c k (rowOf a) ≡ undone
-  unfolding hasRow Once
+  input-undone : (c k l : ℕ) (m : Branches) (a b : Behaviour) → EachRowOnce (choice c m) → branchAt k m ≡ sequence l a b → begun c k (rowOf a) ≡ undone
+  unfolding hasRow EachRowOnce
   input-undone c k l m a b on e =
-      sym (advance-below (λ i. undone) c (taken k) m (on .0) (rowOf a)
-      (branch-rows m k (rowOf a) (subst (λ (z : Behaviour). T (hasRow (rowOf a) z)) (sym e) (in-first (rowOf a) l a b (row-own a)))))
+      sym (advance-below-branches (λ i. undone) c (taken k) m (on .0) (rowOf a)
+      (branch-rows m k (rowOf a) (subst (λ (z : Behaviour). T (hasRow (rowOf a) z)) (sym e) (in-first (rowOf a) l a b (own-row a)))))
 
-  module _ (q n c k : ℕ) (m : Behaviour) (runs : behaviourIn N q (suc n) ≡ some (choice c m))
-      (hs : SessionSound N rows q (suc n) (record { tree = end; queue = []; progress = begun c k }))
+  module _ (q n c k : ℕ) (m : Branches) (runs : behaviourIn N q (suc n) ≡ some (choice c m))
+      (hs : SessionSound N rows q (suc n) (withProgress newSession (begun c k)))
       (l : ℕ) (b : Behaviour) (i : Operation) (x : Tree Value) (back : ReplyTo) (arr : Arriving i x back) where
     here-what : choice c m ≡ hs .what
     here-what = some-inj (sym runs ∙ hs .runs)
@@ -201,7 +200,7 @@ module _ (N : Network) (rows : ℕ) (acc : Accepted N rows) where
         let on = once-of N rows acc q (suc n) (choice c m) runs in
         let way = input-way c k l m (oneWay r o y) b e in
         let made = made-at N rows way (made-of N rows acc q (suc n) (choice c m) runs) in
-        oneWay-sound N rows acc q (suc n) (record { tree = end; queue = []; progress = begun c k }) hs r o y x
+        oneWay-sound N rows acc q (suc n) (withProgress newSession (begun c k)) hs r o y x
         (subst (λ (z : Behaviour). Reaches (begun c k) (oneWay r o y) z) here-what way) (input-undone c k l m (oneWay r o y) b on e) (arr .good)
         (subst (λ (z : Operation). Fits x (z .request)) (same-operation o (made .1) t) (arr .fit)) [] (omega arith) tt
 
@@ -219,29 +218,18 @@ module _ (N : Network) (rows : ℕ) (acc : Accepted N rows) where
         let made = made-at N rows way (made-of N rows acc q (suc n) (choice c m) runs) in
         let eo = same-operation o (made .1) t in
         let ans : Answers N (hs .what) r back = λ r2 o2 x2 c2 d2 h.
-        let same = some-inj (sym (reaches-atRow (begun c k) X (hs .what) refl (subst (Once alone) here-what on) way2) ∙ h) in
+        let same = some-inj (sym (reaches-atRow (begun c k) X (hs .what) (plain-request r o y z d) (subst EachRowOnce here-what on) way2) ∙ h) in
         subst (λ (w : Operation). Destination N w back) (eo ∙ request-same same) (arr .destination) in
-        request-sound N rows acc q (suc n) (record { tree = end; queue = []; progress = begun c k }) hs r o y z d x back way2
+        request-sound N rows acc q (suc n) (withProgress newSession (begun c k)) hs r o y z d x back way2
         (input-undone c k l m X b on e) (arr .good) (subst (λ (w : Operation). Fits x (w .request)) eo (arr .fit))
         (suits-destination N rows (i .service) back i (arr .suit) (ap (λ (w : Operation). w .twoWay) eo ∙ tw)) ans [] (omega arith) tt
 
-    start-input : (a : Behaviour) → branchAt k m ≡ sequence l a b → T (isInputOf (i .row) a) → T (permitsInput q a)
-        → SessionSound N rows q (suc n) (started c k a back x)
-    start-input (nil r) e t u = absurd t
-    start-input (oneWay r o y) e t u = start-one r o y e t
-    start-input (requestResponse r o y z d) e t u = start-two r o y z d e t (permits-two q input o u)
-    start-input (notification r o f) e t u = absurd t
-    start-input (solicitResponse r o f y) e t u = absurd t
-    start-input (ifThenElse r f y z) e t u = absurd t
-    start-input (whileDo r f y) e t u = absurd t
-    start-input (sequence r y z) e t u = absurd t
-    start-input (parallel r y z) e t u = absurd t
-    start-input (assign r y f) e t u = absurd t
-    start-input (choice r y) e t u = absurd t
-    start-input (branch r y z w) e t u = absurd t
-    start-input (lastBranch r y z) e t u = absurd t
-    start-input (waiting r o y) e t u = absurd t
-    start-input (answering r o y d) e t u = absurd t
+    start-input : (r : ℕ) (o : Operation) (y : Path) (k2 : Optional Response)
+        → branchAt k m ≡ sequence l (fromInput (record { row = r; operation = o; into = y; response = k2 })) b → T (eqb (o .row) (i .row))
+        → T (permitsInput q (record { row = r; operation = o; into = y; response = k2 }))
+        → SessionSound N rows q (suc n) (started c k (record { row = r; operation = o; into = y; response = k2 }) back x)
+    start-input r o y none e t u = start-one r o y e t
+    start-input r o y (some a) e t u = start-two r o y (a .path) (a .body) e t (permits-two q input o u)
 
   -- Which targets let a message pass.
   abbrev pub Admits : ℕ → Target → Type 0
@@ -256,7 +244,7 @@ module _ (N : Network) (rows : ℕ) (acc : Accepted N rows) where
   allowed-keeps strict q queued R f = f tt
   allowed-keeps strict q (starts c k a) R f = by-require N rows strict (permitsInput q a) R f
 
-  started-sound : (i : Operation) (n : ℕ) (c k : ℕ) (a : Behaviour) (x : Tree Value) (back : ReplyTo) → Arriving i x back
+  started-sound : (i : Operation) (n : ℕ) (c k : ℕ) (a : Input) (x : Tree Value) (back : ReplyTo) → Arriving i x back
       → Starting N (i .service) n (i .row) c k a
       → T (permitsInput (i .service) a) → SessionSound N rows (i .service) n (started c k a back x)
   started-sound i n c k a x back arr s u =
@@ -265,10 +253,10 @@ module _ (N : Network) (rows : ℕ) (acc : Accepted N rows) where
       let f = s .found in
       let ahead : f .ahead ≡ k = sym-zero (f .ahead) (f .number) in
       let small : T (ltb k (branches m)) = subst (λ (z : ℕ). T (ltb z (branches m))) ahead (f .inside) in
-      let br : branchAt k m ≡ sequence (f .label) a (f .after) = subst (λ (z : ℕ). branchAt z m ≡ sequence (f .label) a (f .after)) ahead (f .isBranch) in
+      let br : branchAt k m ≡ sequence (f .label) (fromInput a) (f .after) = subst (λ (z : ℕ). branchAt z m ≡ sequence (f .label) (fromInput a) (f .after)) ahead (f .isBranch) in
       let runs : behaviourIn N q (suc (s .before)) ≡ some (choice c m) = subst (λ (z : ℕ). behaviourIn N q z ≡ some (choice c m)) (s .number) (s .runs) in
       subst (λ (z : ℕ). SessionSound N rows q z (started c k a back x)) (sym (s .number))
-      (start-input q (s .before) c k m runs (begins q (s .before) c k m runs small (s .derived)) (f .label) (f .after) i x back arr a br (f .named) u)
+      (start-input q (s .before) c k m runs (begins q (s .before) c k m runs small (s .derived)) (f .label) (f .after) i x back arr (a .row) (a .operation) (a .into) (a .response) br (f .named) u)
     where
       sym-zero : (j : ℕ) → k ≡ 0 + j → j ≡ k
       sym-zero j e = omega arith

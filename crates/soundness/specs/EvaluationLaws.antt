@@ -1,12 +1,11 @@
 -- An expression that has a type in Γ has a value of that type in every tree whose own type is ≤ Γ.
 use mathlib.Core.Path.{_≡_, refl, sym, ap, subst, _∙_}
-use mathlib.Core.Bool.{Bool, true, false}
-use mathlib.Core.List.{[], _∷_}
+use mathlib.Core.Bool.{Bool}
 use Rattle.forest.specs.Forest.{Forest, Tree, tree, Lookup, present}
 use Rattle.forest.specs.Path.{read}
 use Rattle.scalar.specs.Basic.{bool}
-use Rattle.scalar.specs.Value.{Value, basicOf, number, isValue}
-use Rattle.syntax.specs.Syntax.{mark, Types, MessageType, Optional, some, Expression, constant, valueAt, presence, unary, binary}
+use Rattle.scalar.specs.Value.{Value, basicOf}
+use Rattle.syntax.specs.Syntax.{mark, Types, MessageType, Expression, constant, valueAt, presence, unary, binary}
 use Rattle.subtyping.specs.Subtype.{rootBasic, Subtype, Subtypes}
 use Rattle.subtyping.specs.Own.{ownTypes, ownType}
 use Rattle.subtyping.specs.OwnLaws.{own-end}
@@ -17,33 +16,32 @@ use Rattle.typing.specs.ResultLaws.{require-yields, andThen-yields, yields-inj}
 use Rattle.typing.specs.Environment.{isIn, leaf}
 use Rattle.typing.specs.EnvironmentLaws.{read-ok}
 use Rattle.typing.specs.ExpressionTyping.{unaryType, binaryType, typeOf}
-use Rattle.scalar.specs.Operator.{bit, ofBool}
-use Rattle.moves.specs.Evaluation.{found, isThere, applyUnary, applyBinary, onRoot, asLeaf, evaluate, leaf as leafValue}
+use Rattle.scalar.specs.Operator.{ofBool}
+use Rattle.scalar.specs.NumberLaws.{sound-bool, small-bit}
+use Rattle.moves.specs.Evaluation.{Evaluation, given, found, isThere, applyUnary, applyBinary, onRoot, asLeaf, evaluate, leaf as leafValue}
 use Rattle.moves.specs.Moves.{rootValue}
-use Rattle.soundness.specs.OperatorsLaws.{operators, bit-octets}
+use Rattle.soundness.specs.OperatorsLaws.{operators}
 use Rattle.soundness.specs.GoodTrees.{Good, GoodTree, GoodLookup, GoodExpression}
 use Rattle.soundness.specs.GoodTreesLaws.{read-good, good-end}
 
 -- A value of the type n, fit to be kept.
-pub record Gives (r : Optional (Tree Value)) (n : MessageType) : Type 0 where
+pub record Gives (r : Evaluation (Tree Value)) (n : MessageType) : Type 0 where
   pub what : Tree Value
-  pub there : r ≡ some what
+  pub there : r ≡ given what
   pub typed : Subtype (ownType what) n
   pub good : GoodTree what
+
+pub given-inj : {A : Type 0} {x y : A} → given x ≡ given y → x ≡ y
+given-inj h = cc
 
 leaf-typed : (v : Value) → Subtype (ownType (leafValue v)) (leaf (basicOf v))
 leaf-typed v = record { basics = refl; children = own-end }
 
-gives-leaf : (v : Value) (n : MessageType) → Proper v → leaf (basicOf v) ≡ n → Gives (some (leafValue v)) n
+gives-leaf : (v : Value) (n : MessageType) → Proper v → leaf (basicOf v) ≡ n → Gives (given (leafValue v)) n
 gives-leaf v n p e = record { what = leafValue v; there = refl; typed = subst (Subtype (ownType (leafValue v))) e (leaf-typed v); good = (p, good-end) }
 
-bit-valid : (c : Bool) → isValue bool (bit c ∷ []) ≡ true
-unfolding isValue number
-bit-valid true = refl
-bit-valid false = refl
-
 bool-proper : (c : Bool) → Proper (ofBool c)
-bool-proper c = record { valid = bit-valid c; bytes = bit-octets c }
+bool-proper c = record { valid = sound-bool c .rule; bytes = record { small = small-bit c } }
 
 pub basic-of : (y : Tree Value) (n : MessageType) → Subtype (ownType y) n → basicOf (rootValue y) ≡ rootBasic n
 basic-of (tree v k) (tree (mark m b) l) h = h .basics
@@ -54,7 +52,7 @@ root-proper (tree v k) g = g .0
 pub present-good : (l : Lookup Value) (y : Tree Value) → GoodLookup l → l ≡ present y → GoodTree y
 present-good l y g e = subst GoodLookup e g
 
-on-root : (y : Tree Value) (f : Value → Optional Value) → onRoot (some y) f ≡ f (rootValue y)
+on-root : (y : Tree Value) (f : Value → Evaluation Value) → onRoot (given y) f ≡ f (rootValue y)
 on-root (tree v k) f = refl
 
 module _ (F : Forest Value) (Γ : Types) (g : Good F) (h : Subtypes (ownTypes F) Γ) where
@@ -71,9 +69,9 @@ module _ (F : Forest Value) (Γ : Types) (g : Good F) (h : Subtypes (ownTypes F)
       let u = andThen-yields (typeOf Γ a) (λ t. unaryType o (rootBasic t)) e in
       let w = progress a p (u .0) (u .1) in
       let z = operators .unaryGives o (rootValue (w .what)) n (root-proper (w .what) (w .good)) (rw (basic-of (w .what) (u .0) (w .typed)) (u .2)) in
-      let same : onRoot (evaluate F a) (applyUnary o) ≡ some (z .0) = ap (λ (r : Optional (Tree Value)). onRoot r (applyUnary o)) (w .there)
+      let same : onRoot (evaluate F a) (applyUnary o) ≡ given (z .0) = ap (λ (r : Evaluation (Tree Value)). onRoot r (applyUnary o)) (w .there)
       ∙ (on-root (w .what) (applyUnary o) ∙ z .1) in
-      subst (λ (r : Optional Value). Gives (asLeaf r) n) (sym same) (gives-leaf (z .0) n (z .2) (z .3))
+      subst (λ (r : Evaluation Value). Gives (asLeaf r) n) (sym same) (gives-leaf (z .0) n (z .2) (z .3))
   progress (binary o a b) p n e =
       let u = andThen-yields (typeOf Γ a) (λ t. andThen (typeOf Γ b) (λ s. binaryType o (rootBasic t) (rootBasic s))) e in
       let u2 = andThen-yields (typeOf Γ b) (λ s. binaryType o (rootBasic (u .0)) (rootBasic s)) (u .2) in
@@ -82,8 +80,8 @@ module _ (F : Forest Value) (Γ : Types) (g : Good F) (h : Subtypes (ownTypes F)
       let z = operators .binaryGives o (rootValue (w .what)) (rootValue (w2 .what)) n (root-proper (w .what) (w .good)) (root-proper (w2 .what) (w2 .good))
       (rw (basic-of (w .what) (u .0) (w .typed), basic-of (w2 .what) (u2 .0) (w2 .typed)) (u2 .2)) in
       let right : (v : Value) → onRoot (evaluate F b) (applyBinary o v) ≡ applyBinary o v (rootValue (w2 .what)) =
-      λ v. ap (λ (r : Optional (Tree Value)). onRoot r (applyBinary o v)) (w2 .there) ∙ on-root (w2 .what) (applyBinary o v) in
-      let same : onRoot (evaluate F a) (λ v. onRoot (evaluate F b) (applyBinary o v)) ≡ some (z .0) =
-      ap (λ (r : Optional (Tree Value)). onRoot r (λ v. onRoot (evaluate F b) (applyBinary o v))) (w .there)
+      λ v. ap (λ (r : Evaluation (Tree Value)). onRoot r (applyBinary o v)) (w2 .there) ∙ on-root (w2 .what) (applyBinary o v) in
+      let same : onRoot (evaluate F a) (λ v. onRoot (evaluate F b) (applyBinary o v)) ≡ given (z .0) =
+      ap (λ (r : Evaluation (Tree Value)). onRoot r (λ v. onRoot (evaluate F b) (applyBinary o v))) (w .there)
       ∙ (on-root (w .what) (λ v. onRoot (evaluate F b) (applyBinary o v)) ∙ (right (rootValue (w .what)) ∙ z .1)) in
-      subst (λ (r : Optional Value). Gives (asLeaf r) n) (sym same) (gives-leaf (z .0) n (z .2) (z .3))
+      subst (λ (r : Evaluation Value). Gives (asLeaf r) n) (sym same) (gives-leaf (z .0) n (z .2) (z .3))

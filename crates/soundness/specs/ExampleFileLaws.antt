@@ -16,8 +16,8 @@ use Rattle.subtyping.specs.Subtype.{areSubtypes}
 use Rattle.typing.specs.Checker.{sameTypes, check}
 use Rattle.typing.specs.Environment.{firmSteps, firmAboveSteps, noMandatory}
 use Rattle.typing.specs.ExpressionTyping.{typeOf}
-use Rattle.typing.specs.NetworkChecker.{checkEach, oneType, oneTypeWith, oneTypeEach, checkServices, meetsOne, meetsAt, checkOutputs, checkNetwork}
-use Rattle.typing.specs.NetworkRules.{Environments, branchesOf, union, unionOf}
+use Rattle.typing.specs.NetworkChecker.{checkEach, oneType, oneTypeWith, oneTypeEach, checkServices, checkOutputs, checkNetwork}
+use Rattle.typing.specs.NetworkRules.{Environments, sequencesOf, branchesOf, union, unionOf}
 use Rattle.typing.specs.Occurs.{occursIn, occurs, allRootsIn, allRoots}
 use Rattle.typing.specs.Result.{passed, next}
 use Rattle.typing.specs.Rules.{permits}
@@ -28,7 +28,7 @@ use Rattle.network.specs.Kinds.{expressionKind, behaviourKind, expressionFields
 use Rattle.network.specs.Layout.{trailer, start, count, pathAt, typeAt, expressionAt, behaviourAt, operationAt, serviceAt, dataPart, lengthFits}
 use Rattle.network.specs.Layout.{sectionsFollow, endsFit, counted}
 use Rattle.network.specs.Least.{least, rule, leastOver, sumOver}
-use Rattle.network.specs.Meets.{someAt, meets, firstOf, metInput}
+use Rattle.syntax.specs.Meets.{someAt, meets, firstOf, metInput}
 use Rattle.syntax.specs.Rows.{entry}
 use Rattle.network.specs.Rows.{laterRun, pathRow, typeId, cardinality, typeBasic, firstChild, childCount, childrenFit, idBefore, childRule, childIds}
 use Rattle.network.specs.Rows.{typeRow, expressionKindAt, kindAt, subFits, inputFits, constantFits, fieldFits, fieldsRule, basicFits, expressionRow}
@@ -74,7 +74,7 @@ environments =
 
 pub file-passes : checkFile file ≡ passed environments
 unfolding find set measure mapForest readSteps writeSteps u16At number isValue areSubtypes sameTypes check firmSteps firmAboveSteps noMandatory typeOf
-    checkEach oneType oneTypeWith oneTypeEach checkServices meetsOne meetsAt checkOutputs checkNetwork branchesOf union unionOf occursIn occurs
+    checkEach oneType oneTypeWith oneTypeEach checkServices checkOutputs checkNetwork sequencesOf branchesOf union unionOf occursIn occurs
     allRootsIn allRoots next permits untilZero pathOf markOf siblings writtenOut expressionFrom expressionTo operationOf branchesFrom behaviourFrom
     behaviourTo behaviourOf serviceOf rowsFrom networkOf formOf expressionKind behaviourKind expressionFields behaviourFields trailer start count
     pathAt typeAt expressionAt behaviourAt operationAt serviceAt dataPart lengthFits sectionsFollow endsFit counted least rule leastOver sumOver entry

@@ -18,7 +18,7 @@ use Rattle.network.specs.Layout.{trailer, start, count as sectionCount, pathAt,
 use Rattle.network.specs.Layout.{serviceAt as servicePlace, dataPart}
 use Rattle.network.specs.Rows.{typeId, cardinality, typeBasic, firstChild, childCount, expressionKindAt, kindAt, operationService, operationDirection}
 use Rattle.network.specs.Rows.{operationTwoWay, operationId, operationLocation, requestType, replyType, serviceLocation, starterRow, clientRow}
-use Rattle.network.specs.Meets.{someAt, meets, firstOf, metInput}
+use Rattle.syntax.specs.Meets.{someAt, meets, firstOf, metInput}
 use Rattle.state.specs.Shape.{freshState}
 use Rattle.moves.specs.Evaluation.{evaluate}
 use Rattle.moves.specs.Moves.{localAt, oldest, receiveAt, sendAt, move}

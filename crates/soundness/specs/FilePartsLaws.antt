@@ -19,13 +19,13 @@ use Rattle.network.specs.Decode.{behaviourOf, networkOf}
 use Rattle.network.specs.Shapes.{AllPositive, PartsShape}
 use Rattle.network.specs.DecodeLaws.{path-shape, expression-shape}
 use Rattle.network.specs.UseLaws.{RowKept, behaviour-kept, branch-kept}
-use Rattle.network.specs.BehaviourLaws.{Branches, Later}
+use Rattle.network.specs.BehaviourLaws.{BranchesKept, Later}
 use Rattle.network.specs.NetworkLaws.{operation-entry}
 use Rattle.tree.specs.Encode.{Octets}
 use Rattle.tree.specs.EncodeLaws.{octets-part, octets-nil}
 use Rattle.state.specs.Shape.{operationAt}
 use Rattle.soundness.specs.GoodTrees.{AllIds, GoodPath, GoodExpression}
-use Rattle.soundness.specs.Accepted.{OfFile, MadeOf}
+use Rattle.soundness.specs.Accepted.{OfFile, MadeOf, MadeOfBranches}
 
 -- Numbers of bytes ------------------------------------------------------------------------------------------------------------------------
 
@@ -122,8 +122,8 @@ abbrev MadeOfFile : List ℕ → Behaviour → Type 0
 MadeOfFile s B = MadeOf (networkOf s) (behaviourCount s) B
 
 module _ (s : List ℕ) (b : Octets s) (w : WellFormed s) where
-  branches-made : (r : ℕ) (f : ℕ → Behaviour) → Later s r (λ j. MadeOfFile s (f j)) → (n a : ℕ) → 1 ≤ n → Branches s r a n
-      → MadeOfFile s (branchesFrom s f a n)
+  branches-made : (r : ℕ) (f : ℕ → Behaviour) → Later s r (λ j. MadeOfFile s (f j)) → (n a : ℕ) → 1 ≤ n → BranchesKept s r a n
+      → MadeOfBranches (networkOf s) (behaviourCount s) (branchesFrom s f a n)
   unfolding branchesFrom MadeOf
   branches-made r f e zero a o h = absurd (omega arith)
   branches-made r f e (suc zero) a o h =

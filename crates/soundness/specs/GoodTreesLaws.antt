@@ -1,5 +1,4 @@
 -- Reading and writing keep trees good.
-use mathlib.Core.Path.{refl}
 use Prim.Native.Nat.{ℕ}
 use mathlib.Core.List.{List, [], _∷_}
 use Rattle.forest.specs.Compare.{Compare, lt, eq, gt, compare}
@@ -8,7 +7,8 @@ use Rattle.forest.specs.Forest.{RisingTree, RisingLookup}
 use Rattle.forest.specs.ForestLaws.{rising-set}
 use Rattle.forest.specs.Path.{Path, path, readSteps, read, writeSteps, write, replaceAt, setPayloadAt}
 use Rattle.scalar.specs.Basic.{void}
-use Rattle.scalar.specs.Value.{Value, value, isValue}
+use Rattle.scalar.specs.Value.{Value, value}
+use Rattle.scalar.specs.ValueLaws.{empty-void}
 use Rattle.tree.specs.Encode.{Proper, Sound}
 use Rattle.tree.specs.EncodeLaws.{octets-nil}
 use Rattle.soundness.specs.GoodTrees.{Good, GoodTree, GoodLookup, IsId, AllIds, GoodPath}
@@ -53,8 +53,7 @@ good-children (present (tree v k)) g = g .1
 
 -- The void value that a missing step carries.
 pub proper-void : Proper (value void [])
-unfolding isValue
-proper-void = record { valid = refl; bytes = octets-nil }
+proper-void = record { valid = empty-void; bytes = octets-nil }
 
 payload-good : (l : Lookup Value) → GoodLookup l → Proper (payloadOf (value void []) l)
 payload-good absent g = proper-void

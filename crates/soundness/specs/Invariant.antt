@@ -17,7 +17,8 @@ use Rattle.state.specs.Session.{ReplyTo, nobody, outsider, waitingRow, undone, 
 use Rattle.state.specs.Shape.{behaviourIn, operationAt, suitsOperation, suits}
 use Rattle.moves.specs.Readiness.{rest}
 use Rattle.soundness.specs.GoodTrees.{Good}
-use Rattle.soundness.specs.Parts.{NotIn, Clean}
+use Rattle.network.specs.Shapes.{Outside}
+use Rattle.soundness.specs.Parts.{Clean}
 use Rattle.soundness.specs.Parts.{AllOpen}
 use Rattle.soundness.specs.Well.{Well}
 
@@ -55,11 +56,11 @@ pub record SessionSound (N : Network) (rows q n : ℕ) (S : Session) : Type 0 wh
   pub limit : T (within last)
   pub clean : Clean (S .progress) what
   pub suit : T (suits N rows (S .progress) what)
-  pub quiet : (r : ℕ) → NotIn r what → S .progress r ≡ undone
+  pub quiet : (r : ℕ) → Outside r what → S .progress r ≡ undone
   pub opened : AllOpen (S .progress) what
   pub replies : (i : ℕ) (to : ReplyTo) → S .progress i ≡ received to → Answers N what i to
   pub good : Good (S .tree)
-  pub well : Well q (S .tree) (rest (S .progress) 0 what) last
+  pub well : Well q (S .tree) (rest (S .progress) what) last
   pub few : length (S .queue) ≤ 4
   pub queued : AllQueued N rows q (S .queue)
 

@@ -8,8 +8,8 @@ use Rattle.forest.specs.Forest.{Forest, Tree, present, Rising}
 use Rattle.forest.specs.Path.{Path, read, replaceAt, setPayloadAt}
 use Rattle.scalar.specs.Basic.{bool}
 use Rattle.scalar.specs.Value.{Value, basicOf}
-use Rattle.syntax.specs.Syntax.{Types, MessageType, some, Expression, Operation, Behaviour, nil, oneWay, requestResponse, notification}
-use Rattle.syntax.specs.Syntax.{solicitResponse, ifThenElse, whileDo, sequence, assign, choice, waiting, answering}
+use Rattle.syntax.specs.Syntax.{Types, MessageType, Expression, Operation, Behaviour, nil, oneWay, requestResponse, notification}
+use Rattle.syntax.specs.Syntax.{solicitResponse, ifThenElse, whileDo, sequence, assign, choice, waiting, answering, Branches}
 use Rattle.subtyping.specs.Subtype.{rootBasic, Subtypes}
 use Rattle.subtyping.specs.SubtypeLaws.{subtype-sound, subtype-trans}
 use Rattle.subtyping.specs.Own.{ownTypes, Fits}
@@ -21,20 +21,20 @@ use Rattle.typing.specs.OccursLaws.{or-l, or-r}
 use Rattle.typing.specs.Rules.{WellSorted}
 use Rattle.typing.specs.Typed.{Typed, TypedCondition, TypedSend, TypedReply}
 use Rattle.typing.specs.TypedLaws.{typed-rising}
-use Rattle.moves.specs.Evaluation.{evaluate}
+use Rattle.moves.specs.Evaluation.{given, evaluate}
 use Rattle.moves.specs.Moves.{rootValue, voidValue}
 use Rattle.network.specs.OnceLaws.{or-case}
 use Rattle.soundness.specs.GoodTrees.{Good, GoodTree, GoodExpression}
 use Rattle.soundness.specs.GoodTreesLaws.{read-good}
-use Rattle.soundness.specs.EvaluationLaws.{progress, basic-of, present-good}
+use Rattle.soundness.specs.EvaluationLaws.{given-inj, progress, basic-of, present-good}
 use Rattle.soundness.specs.Parts.{branchAt}
-use Rattle.soundness.specs.MadeLaws.{branch-typed, branch-occurs, branch-sorted, some-inj}
+use Rattle.soundness.specs.MadeLaws.{branch-typed, branch-occurs, branch-sorted}
 use Rattle.soundness.specs.Well.{Well}
 use Rattle.soundness.specs.ContextLaws.{finished, finished-same, Active, Fewer, hole}
 
 -- The tree before, the row, the tree after, what is left of the row.
 pub data Leaf (F : Forest Value) : Behaviour → Forest Value → Behaviour → Type 0 where
-  assigns : {r : ℕ} {x : Path} {e : Expression} (y : Tree Value) → GoodExpression e → evaluate F e ≡ some y
+  assigns : {r : ℕ} {x : Path} {e : Expression} (y : Tree Value) → GoodExpression e → evaluate F e ≡ given y
       → Leaf F (assign r x e) (setPayloadAt voidValue x (rootValue y) F) (nil r)
   takesThen : {r : ℕ} {e : Expression} {a b : Behaviour} → Leaf F (ifThenElse r e a b) F a
   takesElse : {r : ℕ} {e : Expression} {a b : Behaviour} → Leaf F (ifThenElse r e a b) F b
@@ -49,7 +49,7 @@ pub data Leaf (F : Forest Value) : Behaviour → Forest Value → Behaviour → 
   notifies : {r : ℕ} {o : Operation} {e : Expression} → Leaf F (notification r o e) F (nil r)
   asks : {r : ℕ} {o : Operation} {e : Expression} {x : Path} → Leaf F (solicitResponse r o e x) F (waiting r o x)
   answers : {r : ℕ} {o : Operation} {c : Path} {d : Behaviour} → T (finished d) → Leaf F (answering r o c d) F (nil r)
-  selects : {r : ℕ} {m : Behaviour} (k : ℕ) → Leaf F (choice r m) F (branchAt k m)
+  selects : {r : ℕ} {m : Branches} (k : ℕ) → Leaf F (choice r m) F (branchAt k m)
 
 pub leaf-occurs : {F F2 : Forest Value} {L L2 : Behaviour} → Leaf F L F2 L2 → Fewer L2 L
 unfolding occurs
@@ -92,7 +92,7 @@ module _ (q : ℕ) where
   unfolding Typed WellSorted
   leaf-well {F} (assigns {r} {x} {e} y ge eq) g ws Γ Δ w s h =
       let u = progress F Γ g s e ge (h .0) (h .1) in
-      let yy : u .what ≡ y = some-inj (sym (u .there) ∙ eq) in
+      let yy : u .what ≡ y = given-inj (sym (u .there) ∙ eq) in
       let kk : basicOf (rootValue y) ≡ rootBasic (h .0) =
       subst (λ (z : Tree Value). basicOf (rootValue z) ≡ rootBasic (h .0)) yy (basic-of (u .what) (h .0) (u .typed)) in
       let pl : assignTo x (basicOf (rootValue y)) Γ ≡ yields Δ = subst (λ (z : ℕ). assignTo x z Γ ≡ yields Δ) (sym kk) (h .2) in
@@ -132,14 +132,14 @@ module _ (q : ℕ) where
 
   -- A condition gives a bool.
   pub condition-gives : (F : Forest Value) (Γ : Types) (e : Expression) → Good F → GoodExpression e → Subtypes (ownTypes F) Γ → TypedCondition Γ e
-      → (y : Tree Value) × (evaluate F e ≡ some y) × (basicOf (rootValue y) ≡ bool) × GoodTree y
+      → (y : Tree Value) × (evaluate F e ≡ given y) × (basicOf (rootValue y) ≡ bool) × GoodTree y
   condition-gives F Γ e g ge s c =
       let u = progress F Γ g s e ge (c .0) (c .1) in
       (u .what, u .there, basic-of (u .what) (c .0) (u .typed) ∙ eqb→eq (rootBasic (c .0)) bool (c .2), u .good)
 
   -- What is sent is there, and fits.
   pub send-gives : (F : Forest Value) (Γ : Types) (e : Expression) (t : MessageType) → Good F → GoodExpression e → Subtypes (ownTypes F) Γ → TypedSend Γ e t
-      → (y : Tree Value) × (evaluate F e ≡ some y) × Fits y t × GoodTree y
+      → (y : Tree Value) × (evaluate F e ≡ given y) × Fits y t × GoodTree y
   send-gives F Γ e t g ge s c =
       let u = progress F Γ g s e ge (c .0) (c .1) in (u .what, u .there, subtype-trans (u .typed) (subtype-sound (c .0) t (c .2)), u .good)
 

@@ -8,6 +8,7 @@ pub mod Parts
 pub mod RowLaws
 pub mod CleanLaws
 pub mod ReachLaws
+pub mod ReadyLaws
 pub mod Accepted
 pub mod MadeLaws
 pub mod Well
@@ -26,6 +27,8 @@ pub mod FreshLaws
 pub mod ShapeLaws
 pub mod Property3
 pub mod Property3Laws
+pub mod Calls
+pub mod CallsLaws
 pub mod Runs
 pub mod RunsLaws
 pub mod Example

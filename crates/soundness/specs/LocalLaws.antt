@@ -10,31 +10,34 @@ use Rattle.forest.specs.Compare.{and-l, and-r}
 use Rattle.forest.specs.Forest.{Tree, tree}
 use Rattle.forest.specs.Path.{Path, replaceAt}
 use Rattle.scalar.specs.Value.{Value, pick}
-use Rattle.syntax.specs.Syntax.{some, Network, Operation, Direction, input, output, Expression, Behaviour, nil, oneWay, requestResponse, notification}
-use Rattle.syntax.specs.Syntax.{solicitResponse, ifThenElse, whileDo, sequence, parallel, assign, choice, branch, lastBranch, waiting, answering}
-use Rattle.syntax.specs.Rows.{rowOf, hasRow, isInputOperation}
+use Rattle.syntax.specs.Syntax.{Optional, none, some, Network, Operation, Direction, input, output, Expression, Behaviour, oneWay, requestResponse}
+use Rattle.syntax.specs.Syntax.{ifThenElse, whileDo, sequence, assign, choice, Branches}
+use Rattle.syntax.specs.Rows.{rowOf, hasRow, hasRowIn, Response, Input, inputOf, fromInput, Local, assigns, decides, repeats, localOf, fromLocal}
+use Rattle.syntax.specs.Rows.{isInputOperation}
+use Rattle.network.specs.Shapes.{EachRowOnce}
 use Rattle.refusal.specs.declared.Refusal.the-variants.{Stuck, MoveNotAllowed}
 use Rattle.subtyping.specs.Own.{Fits}
 use Rattle.typing.specs.Environment.{within}
 use Rattle.typing.specs.Rules.{permits, sameBool, sameDirection}
 use Rattle.tree.specs.Encode.{WellFormed, messageDeep, messageMany}
-use Rattle.state.specs.Session.{ReplyTo, Progress, Progresses, undone, done, waits, received, taken, advance, reopen, Queued, Session, free, live}
+use Rattle.state.specs.Session.{ReplyTo, Progress, Progresses, undone, done, waits, received, taken, advance, reopen, Queued, Session, withTree, withQueue, withProgress, free, live}
 use Rattle.state.specs.Session.{State, setSlot}
-use Rattle.state.specs.Shape.{operationAt, isNobody, isDestination, suitsOperation, undoneOrTaken, branches, suits}
+use Rattle.state.specs.Shape.{operationAt, isNobody, isDestination, suitsOperation, undoneOrTaken, branches, suits, suitsBranches}
 use Rattle.moves.specs.Readiness.{isDone, Reached, unreached, reached, offered, reach}
 use Rattle.moves.specs.Evaluation.{evaluate}
-use Rattle.moves.specs.Moves.{Result, moved, require, onTree, onBool, rootValue, voidValue, ifReadyWhile, withTree, withProgress, withQueue}
-use Rattle.moves.specs.Moves.{saveWithin, assigned, decided, repeated, localAt, localReached, localMove, Taken, nothing, message, keeping, oldest}
-use Rattle.moves.specs.Moves.{takes, receiveAt, receiveReached, receiveMove, closeMove}
+use Rattle.moves.specs.Moves.{Result, moved, require, onTree, onBool, rootValue, voidValue, ifReadyWhile}
+use Rattle.moves.specs.Moves.{saveWithin, assigned, decided, repeated, localBy, localAt, localReached, localMove, Taken, nothing, message, keeping, oldest}
+use Rattle.moves.specs.Moves.{takes, receivedBy, receiveBy, receiveAt, receiveReached, receiveMove, closeMove}
 use Rattle.soundness.specs.GoodTrees.{GoodTree}
-use Rattle.soundness.specs.Parts.{branchAt, Once, Reaches, atSelf, atFirst, atBranch}
+use Rattle.soundness.specs.Parts.{branchAt, notTaken, Reaches, atSelf, atFirst, atBranch}
 use Rattle.soundness.specs.RowLaws.{in-own, in-first, branch-rows}
 use Rattle.soundness.specs.CleanLaws.{once-at, suits-at, of-two}
-use Rattle.soundness.specs.ReachLaws.{notTaken, Offered, Found, found-alone, clean-shut, reaches-stay, reaches-trans}
+use Rattle.soundness.specs.ReachLaws.{Offered, Found, reach-found, reaches-stay, reaches-trans}
 use Rattle.soundness.specs.Accepted.{OfFile, MadeOf, Accepted}
-use Rattle.soundness.specs.MadeLaws.{made-at, reaches-atRow, row-own, some-inj}
+use Rattle.soundness.specs.MadeLaws.{made-at, plain-request, reaches-atRow}
+use Rattle.syntax.specs.ViewLaws.{own-row, some-inj, input-is, local-is}
 use Rattle.soundness.specs.Invariant.{Destination, Answers, QueuedSound, AllQueued, SessionSound, Sound}
-use Rattle.soundness.specs.SessionLaws.{advance-same, advance-below, advance-other, once-of, made-of, tree-limit, assign-sound, oneWay-sound}
+use Rattle.soundness.specs.SessionLaws.{advance-same, advance-below-branches, advance-other, once-of, made-of, tree-limit, assign-sound, oneWay-sound}
 use Rattle.soundness.specs.SessionLaws.{request-sound, if-sound, while-sound, again-sound, select-sound}
 use Rattle.soundness.specs.ResultLaws.{Keeps, Goes, goes-keeps, keeps-15, by-require, by-undone, by-session, at-tree, at-require, at-bool}
 use Rattle.soundness.specs.ResultLaws.{sound-set}
@@ -150,24 +153,21 @@ module _ (N : Network) (rows : ℕ) (acc : Accepted N rows) where
         at-tree N rows (evaluate (S .tree) e) (u .0) (λ t. onBool (rootValue t) (repeated G q n S r b)) (u .1)
         (at-bool N rows (rootValue (u .0)) (repeated G q n S r b) (u .2) (λ c. repeated-goes r b c (u .3) (u .4)))
 
-    pub again-goes : (r : ℕ) (e : Expression) (b : Behaviour) (j : ℕ) → Reaches p (whileDo r e b) (h .what) → p r ≡ taken j → T (isDone p 0 b)
+    pub again-goes : (r : ℕ) (e : Expression) (b : Behaviour) (j : ℕ) → Reaches p (whileDo r e b) (h .what) → p r ≡ taken j → T (isDone p b)
         → Goes N rows (onTree (evaluate (S .tree) e) (λ t. onBool (rootValue t) (repeated G q n S r b)))
     again-goes r e b j a t d =
         let u = again-sound N rows acc q n S h r e b j a t d in
         at-tree N rows (evaluate (S .tree) e) (u .0) (λ t. onBool (rootValue t) (repeated G q n S r b)) (u .1)
         (at-bool N rows (rootValue (u .0)) (repeated G q n S r b) (u .2) (λ c. repeated-goes r b c (u .3) (u .4)))
 
-    local-at : (strict : Bool) (X : Behaviour) → Reaches p X (h .what) → Keeps N rows strict (localAt G q n S X)
-    unfolding localAt
-    local-at strict (nil r) a = keeps-15 N rows strict
-    local-at strict (oneWay r o x) a = keeps-15 N rows strict
-    local-at strict (requestResponse r o x c d) a = keeps-15 N rows strict
-    local-at strict (notification r o e) a = keeps-15 N rows strict
-    local-at strict (solicitResponse r o e x) a = keeps-15 N rows strict
-    local-at strict (ifThenElse r e x y) a =
+    local-by : (strict : Bool) (l : Local) → Reaches p (fromLocal l) (h .what) → Keeps N rows strict (localBy G q n S (some l))
+    local-by strict (assigns r x e) a =
+        let R = onTree (evaluate (S .tree) e) (assigned G q n S r x) in
+        by-undone N rows strict (p r) R (λ t. goes-keeps N rows strict R (assign-goes r x e a t))
+    local-by strict (decides r e x y) a =
         let R = onTree (evaluate (S .tree) e) (λ t. onBool (rootValue t) (decided G q n S r)) in
         by-undone N rows strict (p r) R (λ t. goes-keeps N rows strict R (if-goes r e x y a t))
-    local-at strict (whileDo r e b) a = go (p r) refl
+    local-by strict (repeats r e b) a = go (p r) refl
       where
         R : Result
         R = onTree (evaluate (S .tree) e) (λ t. onBool (rootValue t) (repeated G q n S r b))
@@ -175,30 +175,28 @@ module _ (N : Network) (rows : ℕ) (acc : Accepted N rows) where
         again : (c : Bool) → (T c → Goes N rows R) → Keeps N rows strict (require c MoveNotAllowed R)
         again c f = by-require N rows strict c R (λ t. goes-keeps N rows strict R (f t))
 
-        go : (s : Progress) → p r ≡ s → Keeps N rows strict (ifReadyWhile s (isDone p 0 b) R)
+        go : (s : Progress) → p r ≡ s → Keeps N rows strict (ifReadyWhile s (isDone p b) R)
         go undone t = goes-keeps N rows strict R (while-goes r e b a t)
         go done t = keeps-15 N rows strict
         go waits t = keeps-15 N rows strict
         go (received to) t = keeps-15 N rows strict
-        go (taken j) t = again (isDone p 0 b) (λ d. again-goes r e b j a t d)
-    local-at strict (sequence r x y) a = keeps-15 N rows strict
-    local-at strict (parallel r x y) a = keeps-15 N rows strict
-    local-at strict (assign r x e) a =
-        let R = onTree (evaluate (S .tree) e) (assigned G q n S r x) in
-        by-undone N rows strict (p r) R (λ t. goes-keeps N rows strict R (assign-goes r x e a t))
-    local-at strict (choice r m) a = keeps-15 N rows strict
-    local-at strict (branch r x y m) a = keeps-15 N rows strict
-    local-at strict (lastBranch r x y) a = keeps-15 N rows strict
-    local-at strict (waiting r o x) a = keeps-15 N rows strict
-    local-at strict (answering r o c d) a = keeps-15 N rows strict
+        go (taken j) t = again (isDone p b) (λ d. again-goes r e b j a t d)
+
+    local-at : (strict : Bool) (X : Behaviour) → Reaches p X (h .what) → Keeps N rows strict (localAt G q n S X)
+    unfolding localAt
+    local-at strict X a = seen (localOf X) refl
+      where
+        seen : (l : Optional Local) → localOf X ≡ l → Keeps N rows strict (localBy G q n S l)
+        seen none e = keeps-15 N rows strict
+        seen (some l) e = local-by strict l (subst (λ (z : Behaviour). Reaches p z (h .what)) (local-is X l e) a)
 
     local-reached : (strict : Bool) (i : ℕ) (l : Reached) → Found p i (h .what) l → Keeps N rows strict (localReached G q n S l)
     local-reached strict i unreached f = keeps-15 N rows strict
     local-reached strict i (reached X) f = local-at strict X (f .0)
     local-reached strict i (offered c k b) f = keeps-15 N rows strict
 
-    pub local-keeps : (strict : Bool) (r : ℕ) → Keeps N rows strict (localReached G q n S (reach p 0 r (h .what)))
-    local-keeps strict r = local-reached strict r (reach p 0 r (h .what)) (found-alone p r (h .what) (once-of N rows acc q n (h .what) (h .runs)) (clean-shut N rows p (h .what) (h .clean) (h .suit)))
+    pub local-keeps : (strict : Bool) (r : ℕ) → Keeps N rows strict (localReached G q n S (reach p r (h .what)))
+    local-keeps strict r = local-reached strict r (reach p r (h .what)) (reach-found p r (h .what) (once-of N rows acc q n (h .what) (h .runs)) (h .clean))
 
     -- Receive, in the session with `settled` for its progress.
     module _ (settled : Progresses) (hs : SessionSound N rows q n (withProgress S settled)) where
@@ -207,21 +205,21 @@ module _ (N : Network) (rows : ℕ) (acc : Accepted N rows) where
 
       one-takes : (r : ℕ) (o : Operation) (x : Path) → Reaches settled (oneWay r o x) (hs .what) → settled r ≡ undone → (strict : Bool) (t : Taken)
           → AnyTaken N rows q (o .row) (S .queue) t
-          → Keeps N rows strict (takes G q n S x settled r (λ to. done) t)
+          → Keeps N rows strict (takes G q n S x settled r (receivedBy false) t)
       unfolding MadeOf
       one-takes r o x a u strict nothing f = keeps-15 N rows strict
       one-takes r o x a u strict (message m l) f =
           let k = f .sound in
           let made = made-at N rows a (made-of N rows acc q n (hs .what) (hs .runs)) in
           let eo = same-operation m o k (f .named) (made .1) in
-          goes-keeps N rows strict (takes G q n S x settled r (λ to. done) (message m l))
-          (save-goes G q n (withQueue (withTree S (replaceAt voidValue x (m .message) (S .tree)) (advance settled r done)) l) [] hG
+          goes-keeps N rows strict (takes G q n S x settled r (receivedBy false) (message m l))
+          (save-goes G q n (withQueue (withProgress (withTree S (replaceAt voidValue x (m .message) (S .tree))) (advance settled r done)) l) [] hG
           (oneWay-sound N rows acc q n (withProgress S settled) hs r o x (m .message) a u (message-good (m .message) (k .good))
           (subst (λ (z : Operation). Fits (m .message) (z .request)) eo (k .fit)) l (let z = f .fewer in let w = h .few in omega arith) (f .others)))
 
       two-takes : (r : ℕ) (o : Operation) (x c : Path) (d : Behaviour) → Reaches settled (requestResponse r o x c d) (hs .what) → settled r ≡ undone
           → o .twoWay ≡ true
-          → (strict : Bool) (t : Taken) → AnyTaken N rows q (o .row) (S .queue) t → Keeps N rows strict (takes G q n S x settled r received t)
+          → (strict : Bool) (t : Taken) → AnyTaken N rows q (o .row) (S .queue) t → Keeps N rows strict (takes G q n S x settled r (receivedBy true) t)
       unfolding MadeOf rowOf
       two-takes r o x c d a u tw strict nothing f = keeps-15 N rows strict
       two-takes r o x c d a u tw strict (message m l) f =
@@ -230,10 +228,10 @@ module _ (N : Network) (rows : ℕ) (acc : Accepted N rows) where
           let made = made-at N rows a (made-of N rows acc q n (hs .what) (hs .runs)) in
           let eo = same-operation m o k (f .named) (made .1) in
           let ans : Answers N (hs .what) r (m .replyTo) = λ r2 o2 x2 c2 d2 e.
-          let same = some-inj (sym (reaches-atRow settled (requestResponse r o x c d) (hs .what) refl on a) ∙ e) in
+          let same = some-inj (sym (reaches-atRow settled (requestResponse r o x c d) (hs .what) (plain-request r o x c d) on a) ∙ e) in
           subst (λ (z : Operation). Destination N z (m .replyTo)) (eo ∙ request-operation same) (k .destination) in
-          goes-keeps N rows strict (takes G q n S x settled r received (message m l))
-          (save-goes G q n (withQueue (withTree S (replaceAt voidValue x (m .message) (S .tree)) (advance settled r (received (m .replyTo)))) l) [] hG
+          goes-keeps N rows strict (takes G q n S x settled r (receivedBy true) (message m l))
+          (save-goes G q n (withQueue (withProgress (withTree S (replaceAt voidValue x (m .message) (S .tree))) (advance settled r (received (m .replyTo)))) l) [] hG
           (request-sound N rows acc q n (withProgress S settled) hs r o x c d (m .message) (m .replyTo) a u (message-good (m .message) (k .good))
           (subst (λ (z : Operation). Fits (m .message) (z .request)) eo (k .fit))
           (suits-destination N rows q (m .replyTo) (k .operation) (k .suit) (ap (λ (z : Operation). z .twoWay) eo ∙ tw)) ans l
@@ -243,33 +241,39 @@ module _ (N : Network) (rows : ℕ) (acc : Accepted N rows) where
               → requestResponse r o x c d ≡ requestResponse r2 o2 x2 c2 d2 → o ≡ o2
           request-operation e = cc
 
-      receive-at : (strict : Bool) (X : Behaviour) → Reaches settled X (hs .what) → p (rowOf X) ≡ settled (rowOf X)
-          → Keeps N rows strict (receiveAt G q n S settled X)
-      unfolding receiveAt rowOf
-      receive-at strict (nil r) a e = keeps-15 N rows strict
-      receive-at strict (oneWay r o x) a e =
-          let R = takes G q n S x settled r (λ to. done) (oldest (o .row) (S .queue)) in
+      receive-by : (strict : Bool) (r : ℕ) (o : Operation) (x : Path) (k : Optional Response)
+          → Reaches settled (fromInput (record { row = r; operation = o; into = x; response = k })) (hs .what) → p r ≡ settled r
+          → Keeps N rows strict (receiveBy G q n S settled (some (record { row = r; operation = o; into = x; response = k })))
+      receive-by strict r o x none a e =
+          let R = takes G q n S x settled r (receivedBy false) (oldest (o .row) (S .queue)) in
           by-undone N rows strict (p r) (require (permits q input false o) MoveNotAllowed R)
           (λ t. by-require N rows strict (permits q input false o) R
           (λ k. one-takes r o x a (sym e ∙ t) strict (oldest (o .row) (S .queue)) (oldest-sound N rows q (o .row) (S .queue) (h .queued))))
-      receive-at strict (requestResponse r o x c d) a e =
-          let R = takes G q n S x settled r received (oldest (o .row) (S .queue)) in
+      receive-by strict r o x (some k) a e =
+          let R = takes G q n S x settled r (receivedBy true) (oldest (o .row) (S .queue)) in
           by-undone N rows strict (p r) (require (permits q input true o) MoveNotAllowed R)
           (λ t. by-require N rows strict (permits q input true o) R
-          (λ k. two-takes r o x c d a (sym e ∙ t) (permits-two q input o k) strict (oldest (o .row) (S .queue))
+          (λ w. two-takes r o x (k .path) (k .body) a (sym e ∙ t) (permits-two q input o w) strict (oldest (o .row) (S .queue))
           (oldest-sound N rows q (o .row) (S .queue) (h .queued))))
-      receive-at strict (notification r o f) a e = keeps-15 N rows strict
-      receive-at strict (solicitResponse r o f x) a e = keeps-15 N rows strict
-      receive-at strict (ifThenElse r f x y) a e = keeps-15 N rows strict
-      receive-at strict (whileDo r f b) a e = keeps-15 N rows strict
-      receive-at strict (sequence r x y) a e = keeps-15 N rows strict
-      receive-at strict (parallel r x y) a e = keeps-15 N rows strict
-      receive-at strict (assign r x f) a e = keeps-15 N rows strict
-      receive-at strict (choice r m) a e = keeps-15 N rows strict
-      receive-at strict (branch r x y m) a e = keeps-15 N rows strict
-      receive-at strict (lastBranch r x y) a e = keeps-15 N rows strict
-      receive-at strict (waiting r o x) a e = keeps-15 N rows strict
-      receive-at strict (answering r o c d) a e = keeps-15 N rows strict
+
+      input-row : (r : ℕ) (o : Operation) (x : Path) (k : Optional Response)
+          → rowOf (fromInput (record { row = r; operation = o; into = x; response = k })) ≡ r
+      unfolding rowOf
+      input-row r o x none = refl
+      input-row r o x (some k) = refl
+
+      receive-at : (strict : Bool) (X : Behaviour) → Reaches settled X (hs .what) → p (rowOf X) ≡ settled (rowOf X)
+          → Keeps N rows strict (receiveAt G q n S settled X)
+      unfolding receiveAt
+      receive-at strict X a e = seen (inputOf X) refl
+        where
+          seen : (i : Optional Input) → inputOf X ≡ i → Keeps N rows strict (receiveBy G q n S settled i)
+          seen none f = keeps-15 N rows strict
+          seen (some i) f =
+              let g = input-is X i f in
+              let er : rowOf X ≡ i .row = ap rowOf g ∙ input-row (i .row) (i .operation) (i .into) (i .response) in
+              receive-by strict (i .row) (i .operation) (i .into) (i .response) (subst (λ (z : Behaviour). Reaches settled z (hs .what)) g a)
+              (subst (λ (z : ℕ). p z ≡ settled z) er e)
 
     untaken-undone : (s : Progress) (k : ℕ) → T (undoneOrTaken k s) → T (notTaken s) → s ≡ undone
     untaken-undone undone k t u = refl
@@ -278,13 +282,13 @@ module _ (N : Network) (rows : ℕ) (acc : Accepted N rows) where
     untaken-undone (received to) k t u = absurd t
     untaken-undone (taken j) k t u = absurd u
 
-    branch-input : (m : Behaviour) (k l : ℕ) (a b : Behaviour) → branchAt k m ≡ sequence l a b → T (hasRow (rowOf a) m)
+    branch-input : (m : Branches) (k l : ℕ) (a b : Behaviour) → branchAt k m ≡ sequence l a b → T (hasRowIn (rowOf a) m)
     unfolding hasRow
-    branch-input m k l a b e = branch-rows m k (rowOf a) (subst (λ (z : Behaviour). T (hasRow (rowOf a) z)) (sym e) (in-first (rowOf a) l a b (row-own a)))
+    branch-input m k l a b e = branch-rows m k (rowOf a) (subst (λ (z : Behaviour). T (hasRow (rowOf a) z)) (sym e) (in-first (rowOf a) l a b (own-row a)))
 
     receive-offered : (strict : Bool) (i c k : ℕ) (a : Behaviour) → Offered p c k a i (h .what)
         → Keeps N rows strict (receiveAt G q n S (advance p c (taken k)) a)
-    unfolding suits Once hasRow
+    unfolding suits EachRowOnce hasRow
     receive-offered strict i c k a f =
         let B = h .what in
         let m = f .options in
@@ -292,39 +296,39 @@ module _ (N : Network) (rows : ℕ) (acc : Accepted N rows) where
         let settled = advance p c (taken k) in
         let on = once-of N rows acc q n B (h .runs) in
         let ox = once-at (f .way) on in
-        let sx = of-two N rows (undoneOrTaken (branches m) (p c)) (suits N rows p m) (suits-at N rows (f .way) on (h .suit)) in
+        let sx = of-two N rows (undoneOrTaken (branches m) (p c)) (suitsBranches N rows p m) (suits-at N rows (f .way) on (h .suit)) in
         let hs = select-sound N rows acc q n S h c k m (f .way) (untaken-undone (p c) (branches m) (sx .0) (f .untaken)) (f .inside) in
         let inner : Reaches settled a X =
         atBranch k (advance-same p c (taken k)) (subst (λ (z : Behaviour). Reaches settled a z) (sym (f .isBranch)) (atFirst atSelf)) in
         let way : Reaches settled a B =
-        reaches-trans inner (reaches-stay p settled X B (λ j g. advance-other p c (taken k) j (λ t. g (in-own j c (hasRow j m) t))) on (f .way)) in
+        reaches-trans inner (reaches-stay p settled X B (λ j g. advance-other p c (taken k) j (λ t. g (in-own j c (hasRowIn j m) t))) on (f .way)) in
         receive-at settled hs strict a (subst (λ (z : Behaviour). Reaches settled a z) (some-inj (sym (h .runs) ∙ hs .runs)) way)
-        (advance-below p c (taken k) m (ox .0) (rowOf a) (branch-input m k (f .label) a (f .after) (f .isBranch)))
+        (advance-below-branches p c (taken k) m (ox .0) (rowOf a) (branch-input m k (f .label) a (f .after) (f .isBranch)))
 
     receive-reached : (strict : Bool) (i : ℕ) (l : Reached) → Found p i (h .what) l → Keeps N rows strict (receiveReached G q n S l)
     receive-reached strict i unreached f = keeps-15 N rows strict
     receive-reached strict i (reached X) f = receive-at p h strict X (f .0) refl
     receive-reached strict i (offered c k a) f = receive-offered strict i c k a f
 
-    pub receive-keeps : (strict : Bool) (r : ℕ) → Keeps N rows strict (receiveReached G q n S (reach p 0 r (h .what)))
-    receive-keeps strict r = receive-reached strict r (reach p 0 r (h .what)) (found-alone p r (h .what) (once-of N rows acc q n (h .what) (h .runs)) (clean-shut N rows p (h .what) (h .clean) (h .suit)))
+    pub receive-keeps : (strict : Bool) (r : ℕ) → Keeps N rows strict (receiveReached G q n S (reach p r (h .what)))
+    receive-keeps strict r = receive-reached strict r (reach p r (h .what)) (reach-found p r (h .what) (once-of N rows acc q n (h .what) (h .runs)) (h .clean))
 
   -- The moves.
   pub local-move : (strict : Bool) (G : State) → Sound N rows G → (q n r : ℕ) → Keeps N rows strict (localMove N G q n r)
   local-move strict G hG q n r =
-      by-session N rows strict G q n (λ B S. localReached G q n S (reach (S .progress) 0 r B))
+      by-session N rows strict G q n (λ B S. localReached G q n S (reach (S .progress) r B))
       (λ B S e eS. let h = hG .sessions q n S eS in
-      subst (λ (z : Behaviour). Keeps N rows strict (localReached G q n S (reach (S .progress) 0 r z))) (some-inj (sym (h .runs) ∙ e))
+      subst (λ (z : Behaviour). Keeps N rows strict (localReached G q n S (reach (S .progress) r z))) (some-inj (sym (h .runs) ∙ e))
       (local-keeps G hG q n S h strict r))
 
   pub receive-move : (strict : Bool) (G : State) → Sound N rows G → (q n r : ℕ) → Keeps N rows strict (receiveMove N G q n r)
   receive-move strict G hG q n r =
-      by-session N rows strict G q n (λ B S. receiveReached G q n S (reach (S .progress) 0 r B))
+      by-session N rows strict G q n (λ B S. receiveReached G q n S (reach (S .progress) r B))
       (λ B S e eS. let h = hG .sessions q n S eS in
-      subst (λ (z : Behaviour). Keeps N rows strict (receiveReached G q n S (reach (S .progress) 0 r z))) (some-inj (sym (h .runs) ∙ e))
+      subst (λ (z : Behaviour). Keeps N rows strict (receiveReached G q n S (reach (S .progress) r z))) (some-inj (sym (h .runs) ∙ e))
       (receive-keeps G hG q n S h strict r))
 
   pub close-move : (strict : Bool) (G : State) → Sound N rows G → (q n : ℕ) → Keeps N rows strict (closeMove N G q n)
   close-move strict G hG q n =
-      by-session N rows strict G q n (λ B S. require (isDone (S .progress) 0 B) MoveNotAllowed (moved (setSlot G q n free) []))
-      (λ B S e eS. by-require N rows strict (isDone (S .progress) 0 B) (moved (setSlot G q n free) []) (λ t. sound-set N rows G q n free hG tt))
+      by-session N rows strict G q n (λ B S. require (isDone (S .progress) B) MoveNotAllowed (moved (setSlot G q n free) []))
+      (λ B S e eS. by-require N rows strict (isDone (S .progress) B) (moved (setSlot G q n free) []) (λ t. sound-set N rows G q n free hG tt))

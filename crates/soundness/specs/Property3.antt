@@ -10,8 +10,8 @@ use lib.Dec.{T, leb}
 use lib.ListN.{length}
 use Rattle.forest.specs.Forest.{Rising}
 use Rattle.scalar.specs.Value.{pick}
-use Rattle.syntax.specs.Syntax.{Types, some, Network, Operation, Behaviour, nil, oneWay, requestResponse, notification, solicitResponse, ifThenElse}
-use Rattle.syntax.specs.Syntax.{whileDo, sequence, parallel, assign, choice, branch, lastBranch, waiting, answering}
+use Rattle.syntax.specs.Syntax.{Types, Optional, none, some, Network, Operation, Behaviour}
+use Rattle.syntax.specs.Rows.{rowOf, Local, assigns, decides, repeats, localOf}
 use Rattle.subtyping.specs.Subtype.{Subtypes}
 use Rattle.subtyping.specs.Own.{ownTypes, Fits}
 use Rattle.typing.specs.Environment.{within}
@@ -26,10 +26,11 @@ use Rattle.network.specs.Decode.{networkOf}
 use Rattle.state.specs.Session.{Progress, Progresses, undone, done, waits, received, taken, Queued, Session, live, State}
 use Rattle.state.specs.Bytes.{stateBytes}
 use Rattle.state.specs.Shape.{isUndone, behaviourIn, operationAt, Stands}
-use Rattle.moves.specs.Readiness.{isDone, reached, reach, rest}
+use Rattle.moves.specs.Readiness.{isDone, rest}
 use Rattle.moves.specs.Moves.{Move, local, receive, send, reply, outside, outsideReply, close}
 use Rattle.moves.specs.Step.{step}
 use Rattle.moves.specs.Fresh.{freshBytes}
+use Rattle.soundness.specs.Parts.{Reaches}
 
 -- "each queued message fits its operation's request type"
 pub record FitsOperation (N : Network) (m : Queued) : Type 0 where
@@ -50,7 +51,7 @@ pub record WellTyped (N : Network) (q : ℕ) (B : Behaviour) (S : Session) : Typ
   pub limit : T (within env)
   pub fit : Subtypes (ownTypes (S .tree)) env
   pub last : Types
-  pub derived : Derives q (rest (S .progress) 0 B) env last
+  pub derived : Derives q (rest (S .progress) B) env last
   pub queue : QueueFits N (S .queue)
 
 -- A live session runs its service's client or starter, and is well typed.
@@ -67,31 +68,24 @@ isTaken (received to) = false
 isTaken (taken k) = true
 
 -- A reached assign, if or while that can move: "A row that .. has a part chosen isn't ready; a while whose body is done is again."
-abbrev pub isReadyLocal : Progresses → Behaviour → Bool
-isReadyLocal p (nil r) = false
-isReadyLocal p (oneWay r o x) = false
-isReadyLocal p (requestResponse r o x c d) = false
-isReadyLocal p (notification r o e) = false
-isReadyLocal p (solicitResponse r o e x) = false
-isReadyLocal p (ifThenElse r e a b) = isUndone (p r)
-isReadyLocal p (whileDo r e b) = isUndone (p r) || (isTaken (p r) && isDone p 0 b)
-isReadyLocal p (sequence r a b) = false
-isReadyLocal p (parallel r a b) = false
-isReadyLocal p (assign r x e) = isUndone (p r)
-isReadyLocal p (choice r m) = false
-isReadyLocal p (branch r a b m) = false
-isReadyLocal p (lastBranch r a b) = false
-isReadyLocal p (waiting r o x) = false
-isReadyLocal p (answering r o c d) = false
+abbrev pub canMove : Progresses → Optional Local → Bool
+canMove p none = false
+canMove p (some (assigns r x e)) = isUndone (p r)
+canMove p (some (decides r e a b)) = isUndone (p r)
+canMove p (some (repeats r e b)) = isUndone (p r) || (isTaken (p r) && isDone p b)
 
--- The row r of the session n of the service q is a ready assign, if or while.
+abbrev pub isReadyLocal : Progresses → Behaviour → Bool
+isReadyLocal p b = canMove p (localOf b)
+
+-- The row r of the session n of the service q is a ready assign, if or while: it is reached, and can move.
 pub record Ready (N : Network) (G : State) (q n r : ℕ) : Type 0 where
   pub session : Session
   pub alive : G q n ≡ live session
   pub what : Behaviour
   pub runs : behaviourIn N q n ≡ some what
   pub row : Behaviour
-  pub there : reach (session .progress) 0 r what ≡ reached row
+  pub number : rowOf row ≡ r
+  pub way : Reaches (session .progress) row what
   pub ready : T (isReadyLocal (session .progress) row)
 
 -- A move with its outside bytes and its out buffer.

@@ -8,8 +8,8 @@ use lib.Dec.{T, eqb, leb}
 use lib.ListN.{length}
 use Rattle.forest.specs.Compare.{of-T}
 use Rattle.scalar.specs.Value.{pick}
-use Rattle.syntax.specs.Syntax.{Optional, Network, Behaviour, nil, oneWay, requestResponse, notification, solicitResponse, ifThenElse, whileDo}
-use Rattle.syntax.specs.Syntax.{sequence, parallel, assign, choice, branch, lastBranch, waiting, answering}
+use Rattle.syntax.specs.Syntax.{Optional, none, some, Network, Behaviour}
+use Rattle.syntax.specs.Rows.{Local, assigns, decides, repeats, localOf, fromLocal}
 use Rattle.refusal.specs.declared.Refusal.the-variants.{BufferSize, MoveNotAllowed}
 use Rattle.refusal.specs.Refusal.{number, doneWith}
 use Rattle.typing.specs.TypedLaws.{within-before}
@@ -19,20 +19,21 @@ use Rattle.refusal.specs.declared.Verdict.the-variants.{Done}
 use Rattle.network.specs.Form.{formOf}
 use Rattle.network.specs.Layout.{behaviourCount}
 use Rattle.network.specs.Decode.{networkOf}
-use Rattle.state.specs.Session.{Progress, undone, done, waits, received, taken, Queued, Session, Slot, State}
+use Rattle.state.specs.Session.{Progress, Progresses, undone, done, waits, received, taken, Queued, Session, Slot, State}
 use Rattle.state.specs.Bytes.{stateBytes}
 use Rattle.state.specs.Shape.{isUndone, Stands, freshState}
 use Rattle.state.specs.ShapeLaws.{decode-state-complete, stands-length}
 use Rattle.moves.specs.Readiness.{isDone, Reached, reached, reach, rest}
 use Rattle.moves.specs.Evaluation.{evaluate}
 use Rattle.moves.specs.Moves.{Result, refused, moved, require, onTree, onBool, rootValue, ifUndone, ifReadyWhile, assigned, decided, repeated}
-use Rattle.moves.specs.Moves.{localAt, localReached, onBehaviour, onLive, localMove, Move, local, receive, send, reply, outside, outsideReply, close}
+use Rattle.moves.specs.Moves.{localBy, localAt, localReached, onBehaviour, onLive, localMove, Move, local, receive, send, reply, outside, outsideReply, close}
 use Rattle.moves.specs.Moves.{move}
 use Rattle.moves.specs.Step.{Step, refuse, finish, buffersFit, step}
 use Rattle.soundness.specs.Parts.{Reaches}
-use Rattle.soundness.specs.ReachLaws.{Found, found-alone, clean-shut}
+use Rattle.soundness.specs.ReadyLaws.{Findable, local-findable, reach-complete}
 use Rattle.soundness.specs.Accepted.{Accepted}
-use Rattle.soundness.specs.MadeLaws.{made-sorted, rest-sorted, some-inj}
+use Rattle.soundness.specs.MadeLaws.{made-sorted, rest-sorted}
+use Rattle.syntax.specs.ViewLaws.{some-inj, local-is}
 use Rattle.soundness.specs.Invariant.{AllQueued, SessionSound, Sound}
 use Rattle.soundness.specs.SessionLaws.{once-of, made-of}
 use Rattle.soundness.specs.ResultLaws.{Keeps, Goes}
@@ -43,7 +44,7 @@ use Rattle.checking.specs.FileCheckerLaws.{accepted-derived}
 use Rattle.soundness.specs.AcceptedLaws.{accepted}
 use Rattle.soundness.specs.FreshLaws.{fresh-sound}
 use Rattle.soundness.specs.ShapeLaws.{sound-shape}
-use Rattle.soundness.specs.Property3.{QueueFits, LiveWellTyped, isTaken, isReadyLocal, Ready, Turn, NumberFits, Given, AllGiven, after}
+use Rattle.soundness.specs.Property3.{QueueFits, LiveWellTyped, isTaken, canMove, isReadyLocal, Ready, Turn, NumberFits, Given, AllGiven, after}
 use Rattle.moves.specs.Fresh.{freshBytes, fresh}
 use Rattle.soundness.specs.Property3.{sendsOrReplies, AllWellTyped, Never18, Never19, ReadyMoves, Holds, AcceptedFile, Property3}
 
@@ -75,8 +76,8 @@ module _ (N : Network) (rows : ℕ) (acc : Accepted N rows) where
   -- A sound session is well typed.
   session-typed : (q n : ℕ) (S : Session) → SessionSound N rows q n S → LiveWellTyped N q n S
   session-typed q n S h =
-      let R = rest (S .progress) 0 (h .what) in
-      let ws = rest-sorted (h .what) 0 (S .progress) (made-sorted N rows acc (h .what) (made-of N rows acc q n (h .what) (h .runs))) in
+      let R = rest (S .progress) (h .what) in
+      let ws = rest-sorted (h .what) (S .progress) (made-sorted N rows acc (h .what) (made-of N rows acc q n (h .what) (h .runs))) in
       record {
         what = h .what;
         runs = h .runs;
@@ -92,19 +93,17 @@ module _ (N : Network) (rows : ℕ) (acc : Accepted N rows) where
       }
 
   -- A ready assign, if or while moves.
-  ready-at : (G : State) → Sound N rows G → (q n : ℕ) (S : Session) (h : SessionSound N rows q n S) (X : Behaviour) → Reaches (S .progress) X (h .what)
-      → T (isReadyLocal (S .progress) X) → Goes N rows (localAt G q n S X)
-  unfolding localAt
-  ready-at G hG q n S h (nil r) a t = absurd t
-  ready-at G hG q n S h (oneWay r o x) a t = absurd t
-  ready-at G hG q n S h (requestResponse r o x c d) a t = absurd t
-  ready-at G hG q n S h (notification r o e) a t = absurd t
-  ready-at G hG q n S h (solicitResponse r o e x) a t = absurd t
-  ready-at G hG q n S h (ifThenElse r e x y) a t =
+  ready-by : (G : State) → Sound N rows G → (q n : ℕ) (S : Session) (h : SessionSound N rows q n S) (l : Local) → Reaches (S .progress) (fromLocal l) (h .what)
+      → T (canMove (S .progress) (some l)) → Goes N rows (localBy G q n S (some l))
+  ready-by G hG q n S h (assigns r x e) a t =
+      let u = is-undone (S .progress r) t in
+      subst (λ (s : Progress). Goes N rows (ifUndone s (onTree (evaluate (S .tree) e) (assigned G q n S r x)))) (sym u)
+      (assign-goes N rows acc G hG q n S h r x e a u)
+  ready-by G hG q n S h (decides r e x y) a t =
       let u = is-undone (S .progress r) t in
       subst (λ (s : Progress). Goes N rows (ifUndone s (onTree (evaluate (S .tree) e) (λ v. onBool (rootValue v) (decided G q n S r))))) (sym u)
       (if-goes N rows acc G hG q n S h r e x y a u)
-  ready-at G hG q n S h (whileDo r e b) a t = go (S .progress r) refl t
+  ready-by G hG q n S h (repeats r e b) a t = go (S .progress r) refl t
     where
       R : Result
       R = onTree (evaluate (S .tree) e) (λ v. onBool (rootValue v) (repeated G q n S r b))
@@ -113,37 +112,47 @@ module _ (N : Network) (rows : ℕ) (acc : Accepted N rows) where
       when true t f = f tt
       when false t f = absurd t
 
-      go : (s : Progress) → S .progress r ≡ s → T (isUndone s || (isTaken s && isDone (S .progress) 0 b))
-          → Goes N rows (ifReadyWhile s (isDone (S .progress) 0 b) R)
+      go : (s : Progress) → S .progress r ≡ s → T (isUndone s || (isTaken s && isDone (S .progress) b))
+          → Goes N rows (ifReadyWhile s (isDone (S .progress) b) R)
       go undone u t = while-goes N rows acc G hG q n S h r e b a u
       go done u t = absurd t
       go waits u t = absurd t
       go (received to) u t = absurd t
-      go (taken k) u t = when (isDone (S .progress) 0 b) t (λ d. again-goes N rows acc G hG q n S h r e b k a u d)
-  ready-at G hG q n S h (sequence r x y) a t = absurd t
-  ready-at G hG q n S h (parallel r x y) a t = absurd t
-  ready-at G hG q n S h (assign r x e) a t =
-      let u = is-undone (S .progress r) t in
-      subst (λ (s : Progress). Goes N rows (ifUndone s (onTree (evaluate (S .tree) e) (assigned G q n S r x)))) (sym u)
-      (assign-goes N rows acc G hG q n S h r x e a u)
-  ready-at G hG q n S h (choice r m) a t = absurd t
-  ready-at G hG q n S h (branch r x y m) a t = absurd t
-  ready-at G hG q n S h (lastBranch r x y) a t = absurd t
-  ready-at G hG q n S h (waiting r o x) a t = absurd t
-  ready-at G hG q n S h (answering r o c d) a t = absurd t
+      go (taken k) u t = when (isDone (S .progress) b) t (λ d. again-goes N rows acc G hG q n S h r e b k a u d)
+
+  ready-at : (G : State) → Sound N rows G → (q n : ℕ) (S : Session) (h : SessionSound N rows q n S) (X : Behaviour) → Reaches (S .progress) X (h .what)
+      → T (isReadyLocal (S .progress) X) → Goes N rows (localAt G q n S X)
+  unfolding localAt
+  ready-at G hG q n S h X a t = seen (localOf X) refl t
+    where
+      seen : (l : Optional Local) → localOf X ≡ l → T (canMove (S .progress) l) → Goes N rows (localBy G q n S l)
+      seen none e t = absurd t
+      seen (some l) e t = ready-by G hG q n S h l (subst (λ (z : Behaviour). Reaches (S .progress) z (h .what)) (local-is X l e) a) t
+
+  -- A row that can move is found.
+  ready-found : (p : Progresses) (X : Behaviour) → T (isReadyLocal p X) → Findable p X
+  ready-found p X t = seen (localOf X) refl t
+    where
+      seen : (l : Optional Local) → localOf X ≡ l → T (canMove p l) → Findable p X
+      seen none e t = absurd t
+      seen (some l) e t = subst (Findable p) (sym (local-is X l e)) (local-findable p l)
 
   pub ready-goes : (G : State) → Sound N rows G → (q n r : ℕ) → Ready N G q n r → Goes N rows (localMove N G q n r)
   ready-goes G hG q n r k =
       let S = k .session in
       let h = hG .sessions q n S (k .alive) in
       let sameB : h .what ≡ k .what = some-inj (sym (h .runs) ∙ k .runs) in
-      let there : reach (S .progress) 0 r (h .what) ≡ reached (k .row) = ap (reach (S .progress) 0 r) sameB ∙ k .there in
-      let found = subst (Found (S .progress) r (h .what)) there (found-alone (S .progress) r (h .what) (once-of N rows acc q n (h .what) (h .runs)) (clean-shut N rows (S .progress) (h .what) (h .clean) (h .suit))) in
-      let g = ready-at G hG q n S h (k .row) (found .0) (k .ready) in
-      let f : Behaviour → Slot → Result = λ B x. onLive x (λ S2. localReached G q n S2 (reach (S2 .progress) 0 r B)) in
+      let way : Reaches (S .progress) (k .row) (h .what) = subst (Reaches (S .progress) (k .row)) (sym sameB) (k .way) in
+      let found : reach (S .progress) r (h .what) ≡ reached (k .row) =
+      subst (λ (z : ℕ). reach (S .progress) z (h .what) ≡ reached (k .row)) (k .number)
+      (reach-complete (S .progress) (k .row) (h .what) (ready-found (S .progress) (k .row) (k .ready)) (once-of N rows acc q n (h .what) (h .runs))
+      (h .clean) way) in
+      let there : reach (S .progress) r (k .what) ≡ reached (k .row) = ap (reach (S .progress) r) (sym sameB) ∙ found in
+      let g = ready-at G hG q n S h (k .row) way (k .ready) in
+      let f : Behaviour → Slot → Result = λ B x. onLive x (λ S2. localReached G q n S2 (reach (S2 .progress) r B)) in
       subst (λ (b : Optional Behaviour). Goes N rows (onBehaviour b (λ B. f B (G q n)))) (sym (k .runs))
       (subst (λ (x : Slot). Goes N rows (f (k .what) x)) (sym (k .alive))
-      (subst (λ (l : Reached). Goes N rows (localReached G q n S l)) (sym (k .there)) g))
+      (subst (λ (l : Reached). Goes N rows (localReached G q n S l)) (sym there) g))
 
 -- On bytes ----------------------------------------------------------------------------------------------------------------------------
 

@@ -6,19 +6,20 @@ use native.Mathlib.Omega.{arith}
 use lib.Dec.{T, eqb, ltb, eqb→eq, eqb-refl, ltb→lt, lt→ltb}
 use Rattle.forest.specs.Compare.{and-l, and-r}
 use Rattle.syntax.specs.Syntax.{Network, Behaviour, nil, oneWay, requestResponse, notification, solicitResponse, ifThenElse, whileDo}
-use Rattle.syntax.specs.Syntax.{sequence, parallel, assign, choice, branch, lastBranch, waiting, answering}
-use Rattle.syntax.specs.Rows.{rowOf, hasRow}
+use Rattle.syntax.specs.Syntax.{sequence, parallel, assign, choice, waiting, answering, Branches, lastBranch, branch}
+use Rattle.syntax.specs.Rows.{rowOf, hasRow, hasRowIn}
+use Rattle.syntax.specs.ViewLaws.{own-row}
 use Rattle.network.specs.OnceLaws.{or-left, or-right}
-use Rattle.network.specs.Shapes.{Standing, alone, inChoice}
+use Rattle.network.specs.Shapes.{EachRowOnce, EachBranchRowOnce}
 use Rattle.typing.specs.TypedLaws.{by-bool}
 use Rattle.state.specs.Session.{Progress, Progresses, ReplyTo, undone, done, waits, received, taken}
 use Rattle.state.specs.Shape.{branches, isUndone, undoneDoneOrReceived, undoneOrTaken, undoneDoneOrBody, suits}
-use Rattle.moves.specs.Readiness.{ifDone, ifReceived, ifTaken, thenOrElse, isDone, Reached, unreached, reached, offered, here, orElse, onlyIf}
-use Rattle.moves.specs.Readiness.{offeredIf, offer, reach, served}
-use Rattle.soundness.specs.Parts.{branchAt, Once, Fresh, Clean, Reaches, atSelf, atFirst, atSecond, atLeft, atRight, atThen, atElse, atLoop, atServed}
+use Rattle.moves.specs.Readiness.{ifDone, ifReceived, ifTaken, thenOrElse, isDone, branchDone, Reached, unreached, reached, offered, here, orElse, onlyIf}
+use Rattle.moves.specs.Readiness.{offeredIf, offer, reach, reachBranch, served}
+use Rattle.soundness.specs.Parts.{branchAt, FreshBranches, notTaken, Clean, CleanBranches, Reaches, atSelf, atFirst, atSecond, atLeft, atRight, atThen, atElse, atLoop, atServed}
 use Rattle.soundness.specs.Parts.{atBranch, isOpen, Opens, asking, serving, AllOpen}
-use Rattle.soundness.specs.RowLaws.{in-own, in-first, in-second, in-only, taken-at, branch-done, branch-rows, branch-once, branch-alone}
-use Rattle.soundness.specs.RowLaws.{get-alone, get-choice, reaches-rows, done-same, Off}
+use Rattle.soundness.specs.RowLaws.{in-own, in-first, in-second, in-only, in-branches, in-input, in-others, taken-at, branch-done, branch-rows}
+use Rattle.soundness.specs.RowLaws.{branch-once, reaches-rows, done-same, Off}
 use Rattle.soundness.specs.CleanLaws.{once-at}
 
 -- Done and reached -------------------------------------------------------------------------------------------------------------------
@@ -32,18 +33,18 @@ not-done s k e t = subst (λ (z : Progress). T (ifDone z false true)) e t
 not-done-received : (s : Progress) (to : ReplyTo) → s ≡ received to → T (ifDone s false true) → ⊥
 not-done-received s to e t = subst (λ (z : Progress). T (ifDone z false true)) e t
 
-pub reaches-done : (p : Progresses) {X B : Behaviour} → Reaches p X B → T (isDone p 0 B) → T (isDone p 0 X)
+pub reaches-done : (p : Progresses) {X B : Behaviour} → Reaches p X B → T (isDone p B) → T (isDone p X)
 unfolding isDone
 reaches-done p atSelf t = t
-reaches-done p (atFirst {a} {b} h) t = reaches-done p h (and-l (isDone p 0 a) (isDone p 0 b) t)
-reaches-done p (atSecond {a} {b} d h) t = reaches-done p h (and-r (isDone p 0 a) (isDone p 0 b) t)
-reaches-done p (atLeft {a} {b} h) t = reaches-done p h (and-l (isDone p 0 a) (isDone p 0 b) t)
-reaches-done p (atRight {a} {b} h) t = reaches-done p h (and-r (isDone p 0 a) (isDone p 0 b) t)
-reaches-done p (atThen {r} {a} {b} g h) t = reaches-done p h (done-then (p r) zero g (λ j. thenOrElse j (isDone p 0 a) (isDone p 0 b)) t)
-reaches-done p (atElse {r} {a} {b} k g h) t = reaches-done p h (done-then (p r) (suc k) g (λ j. thenOrElse j (isDone p 0 a) (isDone p 0 b)) t)
+reaches-done p (atFirst {a} {b} h) t = reaches-done p h (and-l (isDone p a) (isDone p b) t)
+reaches-done p (atSecond {a} {b} d h) t = reaches-done p h (and-r (isDone p a) (isDone p b) t)
+reaches-done p (atLeft {a} {b} h) t = reaches-done p h (and-l (isDone p a) (isDone p b) t)
+reaches-done p (atRight {a} {b} h) t = reaches-done p h (and-r (isDone p a) (isDone p b) t)
+reaches-done p (atThen {r} {a} {b} g h) t = reaches-done p h (done-then (p r) zero g (λ j. thenOrElse j (isDone p a) (isDone p b)) t)
+reaches-done p (atElse {r} {a} {b} k g h) t = reaches-done p h (done-then (p r) (suc k) g (λ j. thenOrElse j (isDone p a) (isDone p b)) t)
 reaches-done p (atLoop {r} k g h) t = absurd (not-done (p r) k g t)
 reaches-done p (atServed {r} to g h) t = absurd (not-done-received (p r) to g t)
-reaches-done p (atBranch {r} {m} k g h) t = reaches-done p h (subst T (branch-done m k p) (done-then (p r) k g (λ j. isDone p j m) t))
+reaches-done p (atBranch {r} {m} k g h) t = reaches-done p h (subst T (branch-done m k p) (done-then (p r) k g (λ j. branchDone p j m) t))
 
 -- The way to a row depends on the behaviour's rows only.
 pub reaches-same : (p q : Progresses) {X B : Behaviour} → Reaches p X B → ((i : ℕ) → T (hasRow i B) → p i ≡ q i) → Reaches q X B
@@ -63,7 +64,7 @@ reaches-same p q (atLoop {r} {e} {b} k g h) f = atLoop k (sym (f r (in-own r r (
 reaches-same p q (atServed {r} {o} {x} {c} {d} to g h) f =
     atServed to (sym (f r (in-own r r (hasRow r d) (eqb-refl r))) ∙ g) (reaches-same p q h (λ i t. f i (in-only i r d t)))
 reaches-same p q (atBranch {r} {m} k g h) f =
-    atBranch k (sym (f r (in-own r r (hasRow r m) (eqb-refl r))) ∙ g) (reaches-same p q h (λ i t. f i (in-only i r m (branch-rows m k i t))))
+    atBranch k (sym (f r (in-own r r (hasRowIn r m) (eqb-refl r))) ∙ g) (reaches-same p q h (λ i t. f i (in-branches i r m (branch-rows m k i t))))
 
 pub reaches-trans : {p : Progresses} {X Y B : Behaviour} → Reaches p X Y → Reaches p Y B → Reaches p X B
 reaches-trans h atSelf = h
@@ -87,8 +88,8 @@ taken-two s e f = absurd (zero-suc (taken-inj (sym e ∙ f)))
     zero-suc h = omega arith
 
 -- The moving part itself stays reached.
-pub reaches-stay : (p q : Progresses) (X B : Behaviour) → Off p q X → Once alone B → Reaches p X B → Reaches q X B
-unfolding Once
+pub reaches-stay : (p q : Progresses) (X B : Behaviour) → Off p q X → EachRowOnce B → Reaches p X B → Reaches q X B
+unfolding EachRowOnce
 reaches-stay p q X B f s atSelf = atSelf
 reaches-stay p q X B f s (atFirst {a} x) = atFirst (reaches-stay p q X a f (s .3) x)
 reaches-stay p q X B f s (atSecond {a} {b} d x) =
@@ -104,13 +105,13 @@ reaches-stay p q X B f s (atBranch {r} {m} k g x) =
 
 -- Another reached row W, not below X, that is not done, stays reached.
 pub record Beside (p q : Progresses) (X W : Behaviour) : Type 0 where
-  pub undoneW : T (isDone p 0 W) → ⊥
-  pub undoneX : T (isDone p 0 X) → ⊥
+  pub undoneW : T (isDone p W) → ⊥
+  pub undoneX : T (isDone p X) → ⊥
   pub notBelow : Reaches p W X → ⊥
   pub off : Off p q X
 
-pub reaches-keep : (p q : Progresses) (X W : Behaviour) → Beside p q X W → (B : Behaviour) → Once alone B → Reaches p W B → Reaches p X B → Reaches q W B
-unfolding Once
+pub reaches-keep : (p q : Progresses) (X W : Behaviour) → Beside p q X W → (B : Behaviour) → EachRowOnce B → Reaches p W B → Reaches p X B → Reaches q W B
+unfolding EachRowOnce
 reaches-keep p q X W h B s atSelf x = atSelf
 reaches-keep p q X W h B s (atFirst w) atSelf = absurd (h .notBelow (atFirst w))
 reaches-keep p q X W h B s (atFirst w) (atFirst {a} x) = atFirst (reaches-keep p q X W h a (s .3) w x)
@@ -150,9 +151,9 @@ pub data Nested (p : Progresses) (X W : Behaviour) : Type 0 where
   below : Reaches p W X → Nested p X W
   above : Reaches p X W → Nested p X W
 
-pub reaches-nested : (p : Progresses) (X W : Behaviour) (i : ℕ) → T (hasRow i W) → T (hasRow i X) → (B : Behaviour) → Once alone B → Reaches p W B
+pub reaches-nested : (p : Progresses) (X W : Behaviour) (i : ℕ) → T (hasRow i W) → T (hasRow i X) → (B : Behaviour) → EachRowOnce B → Reaches p W B
     → Reaches p X B → Nested p X W
-unfolding Once
+unfolding EachRowOnce
 reaches-nested p X W i tw tx B s atSelf x = above x
 reaches-nested p X W i tw tx B s (atFirst w) atSelf = below (atFirst w)
 reaches-nested p X W i tw tx B s (atFirst w) (atFirst {a} x) = reaches-nested p X W i tw tx a (s .3) w x
@@ -194,30 +195,30 @@ open-not-done waits t d = d
 open-not-done (received to) t d = d
 open-not-done (taken k) t d = t
 
-pub open-undone : (p : Progresses) {i : ℕ} {W : Behaviour} → Opens i W → T (isOpen (p i)) → T (isDone p 0 W) → ⊥
+pub open-undone : (p : Progresses) {i : ℕ} {W : Behaviour} → Opens i W → T (isOpen (p i)) → T (isDone p W) → ⊥
 unfolding isDone
 open-undone p {i} asking t d = open-not-done (p i) t d
 open-undone p {i} serving t d = open-not-done (p i) t d
 
-only-self : {p : Progresses} {X W : Behaviour} {i : ℕ} → Opens i W → Once alone W → T (hasRow i X) → Reaches p X W → Reaches p W X
-unfolding Once
+only-self : {p : Progresses} {X W : Behaviour} {i : ℕ} → Opens i W → EachRowOnce W → T (hasRow i X) → Reaches p X W → Reaches p W X
+unfolding EachRowOnce
 only-self asking s t atSelf = atSelf
 only-self serving s t atSelf = atSelf
 only-self {p} {X} {W} {i} serving s t (atServed to g h) = absurd (s .0 (reaches-rows h i t))
 
 -- An open row among the rows of a reached X is below X.
-pub open-below : (p : Progresses) (X B : Behaviour) (i : ℕ) → Once alone B → Reaches p X B → AllOpen p B → T (hasRow i X) → T (isOpen (p i))
+pub open-below : (p : Progresses) (X B : Behaviour) (i : ℕ) → EachRowOnce B → Reaches p X B → AllOpen p B → T (hasRow i X) → T (isOpen (p i))
     → (W : Behaviour) × Opens i W × Reaches p W X
 open-below p X B i s a w t g =
     let k = w i (reaches-rows a i t) g in
     (k .what, k .kind, go (reaches-nested p X (k .what) i (open-row (k .kind)) t B s (k .way) a) (k .kind) (once-at (k .way) s))
   where
-    go : {W : Behaviour} → Nested p X W → Opens i W → Once alone W → Reaches p W X
+    go : {W : Behaviour} → Nested p X W → Opens i W → EachRowOnce W → Reaches p W X
     go (below z) k o = z
     go (above z) k o = only-self k o t z
 
 -- The open rows stay reached while X moves, if those of X's own are reached below X.
-pub open-change : (p q : Progresses) (X B : Behaviour) → Once alone B → Reaches p X B → (T (isDone p 0 X) → ⊥) → Off p q X
+pub open-change : (p q : Progresses) (X B : Behaviour) → EachRowOnce B → Reaches p X B → (T (isDone p X) → ⊥) → Off p q X
     → ((i : ℕ) → T (hasRow i X) → T (isOpen (q i)) → (W : Behaviour) × Opens i W × Reaches q W X) → AllOpen p B → AllOpen q B
 open-change p q X B s a nx off new w i t g =
     by-bool (hasRow i X)
@@ -234,16 +235,9 @@ open-change p q X B s a nx off new w i t g =
 
 -- What `reach` finds ------------------------------------------------------------------------------------------------------------------
 
-abbrev pub notTaken : Progress → Bool
-notTaken undone = true
-notTaken done = true
-notTaken waits = true
-notTaken (received to) = true
-notTaken (taken k) = false
-
 -- The input a, of the row i, is offered by the choice c as its branch k.
 pub record Offered (p : Progresses) (c k : ℕ) (a : Behaviour) (i : ℕ) (B : Behaviour) : Type 0 where
-  pub options : Behaviour
+  pub options : Branches
   pub label : ℕ
   pub after : Behaviour
   pub way : Reaches p (choice c options) B
@@ -304,7 +298,7 @@ self-found : (p : Progresses) (i : ℕ) (B : Behaviour) → T (eqb i (rowOf B)) 
 self-found p i B t = (atSelf, sym (eqb→eq i (rowOf B) t))
 
 -- The offers of a choice c: those of its branches from k on.
-pub record OfferedBy (c k : ℕ) (a : Behaviour) (i n : ℕ) (m : Behaviour) : Type 0 where
+pub record OfferedBy (c k : ℕ) (a : Behaviour) (i n : ℕ) (m : Branches) : Type 0 where
   pub ahead : ℕ
   pub inside : T (ltb ahead (branches m))
   pub number : k ≡ n + ahead
@@ -313,7 +307,7 @@ pub record OfferedBy (c k : ℕ) (a : Behaviour) (i n : ℕ) (m : Behaviour) : T
   pub isBranch : branchAt ahead m ≡ sequence label a after
   pub row : rowOf a ≡ i
 
-abbrev pub FoundOffer : ℕ → ℕ → ℕ → Behaviour → Reached → Type 0
+abbrev pub FoundOffer : ℕ → ℕ → ℕ → Branches → Reached → Type 0
 FoundOffer c i n m unreached = Unit {0}
 FoundOffer c i n m (reached X) = ⊥
 FoundOffer c i n m (offered d k a) = (c ≡ d) × OfferedBy c k a i n m
@@ -325,7 +319,7 @@ offered-found P false c k a l f g = g
 pub lt-suc : (j n : ℕ) → T (ltb j n) → T (ltb (suc j) (suc n))
 lt-suc j n t = lt→ltb (suc j) (suc n) (let h = ltb→lt j n t in omega arith)
 
-further : (c i n r : ℕ) (a b m : Behaviour) (l : Reached) → FoundOffer c i (suc n) m l → FoundOffer c i n (branch r a b m) l
+further : (c i n r : ℕ) (a b : Behaviour) (m : Branches) (l : Reached) → FoundOffer c i (suc n) m l → FoundOffer c i n (branch r a b m) l
 unfolding branchAt branches
 further c i n r a b m unreached g = tt
 further c i n r a b m (reached X) g = absurd g
@@ -345,19 +339,8 @@ further c i n r a b m (offered d k w) g = (
     next : (j : ℕ) → k ≡ suc n + j → k ≡ n + suc j
     next j e = omega arith
 
-offer-found : (c i : ℕ) (m : Behaviour) (n : ℕ) → FoundOffer c i n m (offer c n i m)
+offer-found : (c i : ℕ) (m : Branches) (n : ℕ) → FoundOffer c i n m (offer c n i m)
 unfolding offer branchAt branches
-offer-found c i (nil r) n = tt
-offer-found c i (oneWay r o x) n = tt
-offer-found c i (requestResponse r o x y d) n = tt
-offer-found c i (notification r o e) n = tt
-offer-found c i (solicitResponse r o e x) n = tt
-offer-found c i (ifThenElse r e a b) n = tt
-offer-found c i (whileDo r e b) n = tt
-offer-found c i (sequence r a b) n = tt
-offer-found c i (parallel r a b) n = tt
-offer-found c i (assign r x e) n = tt
-offer-found c i (choice r m) n = tt
 offer-found c i (branch r a b m) n =
     offered-found (FoundOffer c i n (branch r a b m)) (eqb i (rowOf a)) c n a (offer c (suc n) i m)
     (λ t. (
@@ -376,10 +359,8 @@ offer-found c i (branch r a b m) n =
 offer-found c i (lastBranch r a b) n =
     offered-found (FoundOffer c i n (lastBranch r a b)) (eqb i (rowOf a)) c n a unreached
     (λ t. (refl, record { ahead = 0; inside = tt; number = omega arith; label = r; after = b; isBranch = refl; row = sym (eqb→eq i (rowOf a) t) })) tt
-offer-found c i (waiting r o x) n = tt
-offer-found c i (answering r o y d) n = tt
 
-offers : (p : Progresses) (c i : ℕ) (m : Behaviour) → T (notTaken (p c)) → (l : Reached) → FoundOffer c i 0 m l → Found p i (choice c m) l
+offers : (p : Progresses) (c i : ℕ) (m : Branches) → T (notTaken (p c)) → (l : Reached) → FoundOffer c i 0 m l → Found p i (choice c m) l
 offers p c i m t unreached g = tt
 offers p c i m t (reached X) g = absurd g
 offers p c i m t (offered d k a) g =
@@ -397,171 +378,80 @@ offers p c i m t (offered d k a) g =
     same : (j : ℕ) → k ≡ 0 + j → j ≡ k
     same j e = omega arith
 
--- In a choice in which no branch is taken nothing is begun.
-unfoldable pub Shut : Progresses → Behaviour → Type 0
-Shut p (nil r) = Unit {0}
-Shut p (oneWay r o x) = Unit {0}
-Shut p (requestResponse r o x c d) = Shut p d
-Shut p (notification r o e) = Unit {0}
-Shut p (solicitResponse r o e x) = Unit {0}
-Shut p (ifThenElse r e a b) = Shut p a × Shut p b
-Shut p (whileDo r e b) = Shut p b
-Shut p (sequence r a b) = Shut p a × Shut p b
-Shut p (parallel r a b) = Shut p a × Shut p b
-Shut p (assign r x e) = Unit {0}
-Shut p (choice r m) = (T (notTaken (p r)) → Fresh p m) × Shut p m
-Shut p (branch r a b m) = Shut p a × Shut p b × Shut p m
-Shut p (lastBranch r a b) = Shut p a × Shut p b
-Shut p (waiting r o x) = Unit {0}
-Shut p (answering r o c d) = Unit {0}
-
-untaken-undone : (n : ℕ) (s : Progress) → T (undoneOrTaken n s) → T (notTaken s) → s ≡ undone
-untaken-undone n undone t u = refl
-untaken-undone n done t u = absurd t
-untaken-undone n waits t u = absurd t
-untaken-undone n (received to) t u = absurd t
-untaken-undone n (taken k) t u = absurd u
-
-pub clean-shut : (N : Network) (rows : ℕ) (p : Progresses) (B : Behaviour) → Clean p B → T (suits N rows p B) → Shut p B
-unfolding Clean suits Shut
-clean-shut N rows p (nil r) c t = tt
-clean-shut N rows p (oneWay r o x) c t = tt
-clean-shut N rows p (requestResponse r o x y d) c t = clean-shut N rows p d (c .1) (and-r (undoneDoneOrReceived N rows (p r)) (suits N rows p d) t)
-clean-shut N rows p (notification r o e) c t = tt
-clean-shut N rows p (solicitResponse r o e x) c t = tt
-clean-shut N rows p (ifThenElse r e a b) c t =
-    let u = and-r (undoneOrTaken 2 (p r)) (suits N rows p a && suits N rows p b) t in (
-      clean-shut N rows p a (c .2) (and-l (suits N rows p a) (suits N rows p b) u),
-      clean-shut N rows p b (c .3) (and-r (suits N rows p a) (suits N rows p b) u),
-    )
-clean-shut N rows p (whileDo r e b) c t = clean-shut N rows p b c (and-r (undoneDoneOrBody (p r)) (suits N rows p b) t)
-clean-shut N rows p (sequence r a b) c t =
-    let u = and-r (isUndone (p r)) (suits N rows p a && suits N rows p b) t in (
-      clean-shut N rows p a (c .0) (and-l (suits N rows p a) (suits N rows p b) u),
-      clean-shut N rows p b (c .1) (and-r (suits N rows p a) (suits N rows p b) u),
-    )
-clean-shut N rows p (parallel r a b) c t =
-    let u = and-r (isUndone (p r)) (suits N rows p a && suits N rows p b) t in (
-      clean-shut N rows p a (c .0) (and-l (suits N rows p a) (suits N rows p b) u),
-      clean-shut N rows p b (c .1) (and-r (suits N rows p a) (suits N rows p b) u),
-    )
-clean-shut N rows p (assign r x e) c t = tt
-clean-shut N rows p (choice r m) c t = (
-  λ u. c .0 (untaken-undone (branches m) (p r) (and-l (undoneOrTaken (branches m) (p r)) (suits N rows p m) t) u),
-  clean-shut N rows p m (c .1) (and-r (undoneOrTaken (branches m) (p r)) (suits N rows p m) t),
-)
-clean-shut N rows p (branch r a b m) c t =
-    let u = and-r (isUndone (p r)) ((suits N rows p a && suits N rows p b) && suits N rows p m) t in
-    let v = and-l (suits N rows p a && suits N rows p b) (suits N rows p m) u in (
-      clean-shut N rows p a (c .0) (and-l (suits N rows p a) (suits N rows p b) v),
-      clean-shut N rows p b (c .1) (and-r (suits N rows p a) (suits N rows p b) v),
-      clean-shut N rows p m (c .2) (and-r (suits N rows p a && suits N rows p b) (suits N rows p m) u),
-    )
-clean-shut N rows p (lastBranch r a b) c t =
-    let u = and-r (isUndone (p r)) (suits N rows p a && suits N rows p b) t in (
-      clean-shut N rows p a (c .0) (and-l (suits N rows p a) (suits N rows p b) u),
-      clean-shut N rows p b (c .1) (and-r (suits N rows p a) (suits N rows p b) u),
-    )
-clean-shut N rows p (waiting r o x) c t = tt
-clean-shut N rows p (answering r o x d) c t = tt
-
--- So no input of such a choice is received.
-served-none : (p : Progresses) (i : ℕ) (m : Behaviour) → Fresh p m → served p i m ≡ unreached
+-- No input of a choice in which nothing is begun is received.
+served-none : (p : Progresses) (i : ℕ) (m : Branches) → FreshBranches p m → served p i m ≡ unreached
 unfolding served hasRow
-served-none p i (nil r) f = refl
-served-none p i (oneWay r o x) f = refl
-served-none p i (requestResponse r o x c d) f = rw (f r (or-left (eqb r r) (hasRow r d) (eqb-refl r))) refl
-served-none p i (notification r o e) f = refl
-served-none p i (solicitResponse r o e x) f = refl
-served-none p i (ifThenElse r e a b) f = refl
-served-none p i (whileDo r e b) f = refl
-served-none p i (sequence r a b) f = refl
-served-none p i (parallel r a b) f = refl
-served-none p i (assign r x e) f = refl
-served-none p i (choice r m) f = refl
+served-none p i (lastBranch r a b) f = rw (f (rowOf a) (in-first (rowOf a) r a b (own-row a))) refl
 served-none p i (branch r a b m) f =
-    rw (served-none p i a
-    (λ j t. f j (or-right (eqb j r) ((hasRow j a || hasRow j b) || hasRow j m)
-    (or-left (hasRow j a || hasRow j b) (hasRow j m) (or-left (hasRow j a) (hasRow j b) t)))))
-    (served-none p i m (λ j t. f j (or-right (eqb j r) ((hasRow j a || hasRow j b) || hasRow j m) (or-right (hasRow j a || hasRow j b) (hasRow j m) t))))
-served-none p i (lastBranch r a b) f =
-    served-none p i a (λ j t. f j (or-right (eqb j r) (hasRow j a || hasRow j b) (or-left (hasRow j a) (hasRow j b) t)))
-served-none p i (waiting r o x) f = refl
-served-none p i (answering r o c d) f = refl
+    rw (f (rowOf a) (in-input (rowOf a) r a b m (own-row a))) (served-none p i m (λ j t. f j (in-others j r a b m t)))
 
-pub reach-found : (p : Progresses) (i : ℕ) (B : Behaviour) (s : Standing) (k : ℕ) → Once s B → Shut p B → Found p i (branchAt k B) (reach p k i B)
-unfolding reach branchAt Once rowOf Shut
-reach-found p i (nil r) s k o h = here-found (Found p i (nil r)) (eqb i r) (nil r) unreached (self-found p i (nil r)) tt
-reach-found p i (oneWay r w x) s k o h = here-found (Found p i (oneWay r w x)) (eqb i r) (oneWay r w x) unreached (self-found p i (oneWay r w x)) tt
-reach-found p i (requestResponse r w x c d) s k o h =
-    let ih = subst (λ (z : Behaviour). Found p i z (reach p 0 i d)) (branch-alone d 0 (get-alone s o .1)) (reach-found p i d alone 0 (get-alone s o .1) h) in
-    let B = requestResponse r w x c d in
-    here-found (Found p i B) (eqb i r) B (ifReceived (p r) unreached (reach p 0 i d)) (self-found p i B)
-    (received-found (Found p i B) (p r) unreached (reach p 0 i d) tt (λ to e. lift p i d B (λ X y. atServed to e y) (reach p 0 i d) ih))
-reach-found p i (notification r w e) s k o h =
-    here-found (Found p i (notification r w e)) (eqb i r) (notification r w e) unreached (self-found p i (notification r w e)) tt
-reach-found p i (solicitResponse r w e x) s k o h =
-    here-found (Found p i (solicitResponse r w e x)) (eqb i r) (solicitResponse r w e x) unreached (self-found p i (solicitResponse r w e x)) tt
-reach-found p i (ifThenElse r e a b) s k o h =
-    let oa = get-alone s o .3 in let ob = get-alone s o .4 in
-    let iha = subst (λ (z : Behaviour). Found p i z (reach p 0 i a)) (branch-alone a 0 oa) (reach-found p i a alone 0 oa (h .0)) in
-    let ihb = subst (λ (z : Behaviour). Found p i z (reach p 0 i b)) (branch-alone b 0 ob) (reach-found p i b alone 0 ob (h .1)) in
-    let B = ifThenElse r e a b in
-    here-found (Found p i B) (eqb i r) B (ifTaken (p r) unreached (λ j. thenOrElse j (reach p 0 i a) (reach p 0 i b))) (self-found p i B)
-    (taken-found (Found p i B) (p r) unreached (λ j. thenOrElse j (reach p 0 i a) (reach p 0 i b)) (λ t. tt) (λ j g. go j g iha ihb))
-  where
-    go : (j : ℕ) → p r ≡ taken j → Found p i a (reach p 0 i a) → Found p i b (reach p 0 i b)
-        → Found p i (ifThenElse r e a b) (thenOrElse j (reach p 0 i a) (reach p 0 i b))
-    go zero g x y = lift p i a (ifThenElse r e a b) (λ X y. atThen g y) (reach p 0 i a) x
-    go (suc j) g x y = lift p i b (ifThenElse r e a b) (λ X y. atElse j g y) (reach p 0 i b) y
-reach-found p i (whileDo r e b) s k o h =
-    let ob = get-alone s o .1 in
-    let ih = subst (λ (z : Behaviour). Found p i z (reach p 0 i b)) (branch-alone b 0 ob) (reach-found p i b alone 0 ob h) in
-    let B = whileDo r e b in
-    here-found (Found p i B) (eqb i r) B (ifTaken (p r) unreached (λ j. reach p 0 i b)) (self-found p i B)
-    (taken-found (Found p i B) (p r) unreached (λ j. reach p 0 i b) (λ t. tt) (λ j g. lift p i b B (λ X y. atLoop j g y) (reach p 0 i b) ih))
-reach-found p i (sequence r a b) s k o h =
-    let oa = get-alone s o .3 in let ob = get-alone s o .4 in
-    let iha = subst (λ (z : Behaviour). Found p i z (reach p 0 i a)) (branch-alone a 0 oa) (reach-found p i a alone 0 oa (h .0)) in
-    let ihb = subst (λ (z : Behaviour). Found p i z (reach p 0 i b)) (branch-alone b 0 ob) (reach-found p i b alone 0 ob (h .1)) in
-    let B = sequence r a b in
-    here-found (Found p i B) (eqb i r) B (orElse (reach p 0 i a) (onlyIf (isDone p 0 a) (reach p 0 i b))) (self-found p i B)
-    (or-found (Found p i B) (reach p 0 i a) (onlyIf (isDone p 0 a) (reach p 0 i b)) (lift p i a B (λ X y. atFirst y) (reach p 0 i a) iha)
-    (only-found (Found p i B) (isDone p 0 a) (reach p 0 i b) tt (λ t. lift p i b B (λ X y. atSecond t y) (reach p 0 i b) ihb)))
-reach-found p i (parallel r a b) s k o h =
-    let oa = get-alone s o .3 in let ob = get-alone s o .4 in
-    let iha = subst (λ (z : Behaviour). Found p i z (reach p 0 i a)) (branch-alone a 0 oa) (reach-found p i a alone 0 oa (h .0)) in
-    let ihb = subst (λ (z : Behaviour). Found p i z (reach p 0 i b)) (branch-alone b 0 ob) (reach-found p i b alone 0 ob (h .1)) in
-    let B = parallel r a b in
-    here-found (Found p i B) (eqb i r) B (orElse (reach p 0 i a) (reach p 0 i b)) (self-found p i B)
-    (or-found (Found p i B) (reach p 0 i a) (reach p 0 i b) (lift p i a B (λ X y. atLeft y) (reach p 0 i a) iha)
-    (lift p i b B (λ X y. atRight y) (reach p 0 i b) ihb))
-reach-found p i (assign r x e) s k o h = here-found (Found p i (assign r x e)) (eqb i r) (assign r x e) unreached (self-found p i (assign r x e)) tt
-reach-found p i (choice r m) s k o h =
-    let om = get-alone s o .1 in
-    let B = choice r m in
-    here-found (Found p i B) (eqb i r) B (ifTaken (p r) (orElse (offer r 0 i m) (served p i m)) (λ j. reach p j i m)) (self-found p i B)
-    (taken-found (Found p i B) (p r) (orElse (offer r 0 i m) (served p i m)) (λ j. reach p j i m)
-    (λ t. or-found (Found p i B) (offer r 0 i m) (served p i m) (offers p r i m t (offer r 0 i m) (offer-found r i m 0))
-    (subst (Found p i B) (sym (served-none p i m (h .0 t))) tt))
-    (λ j g. lift p i (branchAt j m) B (λ X y. atBranch j g y) (reach p j i m) (reach-found p i m inChoice j om (h .1))))
-reach-found p i (branch r a b m) s zero o h =
-    let oa = get-choice s o .3 in let ob = get-choice s o .4 in
-    let iha = subst (λ (z : Behaviour). Found p i z (reach p 0 i a)) (branch-alone a 0 oa) (reach-found p i a alone 0 oa (h .0)) in
-    let ihb = subst (λ (z : Behaviour). Found p i z (reach p 0 i b)) (branch-alone b 0 ob) (reach-found p i b alone 0 ob (h .1)) in
-    let B = sequence r a b in
-    or-found (Found p i B) (reach p 0 i a) (onlyIf (isDone p 0 a) (reach p 0 i b)) (lift p i a B (λ X y. atFirst y) (reach p 0 i a) iha)
-    (only-found (Found p i B) (isDone p 0 a) (reach p 0 i b) tt (λ t. lift p i b B (λ X y. atSecond t y) (reach p 0 i b) ihb))
-reach-found p i (branch r a b m) s (suc k) o h = reach-found p i m inChoice k (get-choice s o .8) (h .2)
-reach-found p i (lastBranch r a b) s k o h =
-    let oa = get-choice s o .3 in let ob = get-choice s o .4 in
-    let iha = subst (λ (z : Behaviour). Found p i z (reach p 0 i a)) (branch-alone a 0 oa) (reach-found p i a alone 0 oa (h .0)) in
-    let ihb = subst (λ (z : Behaviour). Found p i z (reach p 0 i b)) (branch-alone b 0 ob) (reach-found p i b alone 0 ob (h .1)) in
-    let B = sequence r a b in
-    or-found (Found p i B) (reach p 0 i a) (onlyIf (isDone p 0 a) (reach p 0 i b)) (lift p i a B (λ X y. atFirst y) (reach p 0 i a) iha)
-    (only-found (Found p i B) (isDone p 0 a) (reach p 0 i b) tt (λ t. lift p i b B (λ X y. atSecond t y) (reach p 0 i b) ihb))
-reach-found p i (waiting r w x) s k o h = tt
-reach-found p i (answering r w c d) s k o h = tt
+mutual
+  unfolding reach branchAt EachRowOnce rowOf Clean
 
-pub found-alone : (p : Progresses) (i : ℕ) (B : Behaviour) → Once alone B → Shut p B → Found p i B (reach p 0 i B)
-found-alone p i B o h = subst (λ (z : Behaviour). Found p i z (reach p 0 i B)) (branch-alone B 0 o) (reach-found p i B alone 0 o h)
+  pub reach-found : (p : Progresses) (i : ℕ) (B : Behaviour) → EachRowOnce B → Clean p B → Found p i B (reach p i B)
+  reach-found p i (nil r) o h = here-found (Found p i (nil r)) (eqb i r) (nil r) unreached (self-found p i (nil r)) tt
+  reach-found p i (oneWay r w x) o h = here-found (Found p i (oneWay r w x)) (eqb i r) (oneWay r w x) unreached (self-found p i (oneWay r w x)) tt
+  reach-found p i (requestResponse r w x c d) o h =
+      let ih = reach-found p i d (o .1) (h .1) in
+      let B = requestResponse r w x c d in
+      here-found (Found p i B) (eqb i r) B (ifReceived (p r) unreached (reach p i d)) (self-found p i B)
+      (received-found (Found p i B) (p r) unreached (reach p i d) tt (λ to e. lift p i d B (λ X y. atServed to e y) (reach p i d) ih))
+  reach-found p i (notification r w e) o h =
+      here-found (Found p i (notification r w e)) (eqb i r) (notification r w e) unreached (self-found p i (notification r w e)) tt
+  reach-found p i (solicitResponse r w e x) o h =
+      here-found (Found p i (solicitResponse r w e x)) (eqb i r) (solicitResponse r w e x) unreached (self-found p i (solicitResponse r w e x)) tt
+  reach-found p i (ifThenElse r e a b) o h =
+      let iha = reach-found p i a (o .3) (h .2) in
+      let ihb = reach-found p i b (o .4) (h .3) in
+      let B = ifThenElse r e a b in
+      here-found (Found p i B) (eqb i r) B (ifTaken (p r) unreached (λ j. thenOrElse j (reach p i a) (reach p i b))) (self-found p i B)
+      (taken-found (Found p i B) (p r) unreached (λ j. thenOrElse j (reach p i a) (reach p i b)) (λ t. tt) (λ j g. go j g iha ihb))
+    where
+      go : (j : ℕ) → p r ≡ taken j → Found p i a (reach p i a) → Found p i b (reach p i b)
+          → Found p i (ifThenElse r e a b) (thenOrElse j (reach p i a) (reach p i b))
+      go zero g x y = lift p i a (ifThenElse r e a b) (λ X y. atThen g y) (reach p i a) x
+      go (suc j) g x y = lift p i b (ifThenElse r e a b) (λ X y. atElse j g y) (reach p i b) y
+  reach-found p i (whileDo r e b) o h =
+      let ih = reach-found p i b (o .1) h in
+      let B = whileDo r e b in
+      here-found (Found p i B) (eqb i r) B (ifTaken (p r) unreached (λ j. reach p i b)) (self-found p i B)
+      (taken-found (Found p i B) (p r) unreached (λ j. reach p i b) (λ t. tt) (λ j g. lift p i b B (λ X y. atLoop j g y) (reach p i b) ih))
+  reach-found p i (sequence r a b) o h =
+      let iha = reach-found p i a (o .3) (h .0) in
+      let ihb = reach-found p i b (o .4) (h .1) in
+      let B = sequence r a b in
+      here-found (Found p i B) (eqb i r) B (orElse (reach p i a) (onlyIf (isDone p a) (reach p i b))) (self-found p i B)
+      (or-found (Found p i B) (reach p i a) (onlyIf (isDone p a) (reach p i b)) (lift p i a B (λ X y. atFirst y) (reach p i a) iha)
+      (only-found (Found p i B) (isDone p a) (reach p i b) tt (λ t. lift p i b B (λ X y. atSecond t y) (reach p i b) ihb)))
+  reach-found p i (parallel r a b) o h =
+      let iha = reach-found p i a (o .3) (h .0) in
+      let ihb = reach-found p i b (o .4) (h .1) in
+      let B = parallel r a b in
+      here-found (Found p i B) (eqb i r) B (orElse (reach p i a) (reach p i b)) (self-found p i B)
+      (or-found (Found p i B) (reach p i a) (reach p i b) (lift p i a B (λ X y. atLeft y) (reach p i a) iha)
+      (lift p i b B (λ X y. atRight y) (reach p i b) ihb))
+  reach-found p i (assign r x e) o h = here-found (Found p i (assign r x e)) (eqb i r) (assign r x e) unreached (self-found p i (assign r x e)) tt
+  reach-found p i (choice r m) o h =
+      let B = choice r m in
+      here-found (Found p i B) (eqb i r) B (ifTaken (p r) (orElse (offer r 0 i m) (served p i m)) (λ j. reachBranch p j i m)) (self-found p i B)
+      (taken-found (Found p i B) (p r) (orElse (offer r 0 i m) (served p i m)) (λ j. reachBranch p j i m)
+      (λ t. or-found (Found p i B) (offer r 0 i m) (served p i m) (offers p r i m t (offer r 0 i m) (offer-found r i m 0))
+      (subst (Found p i B) (sym (served-none p i m (h .0 t))) tt))
+      (λ j g. lift p i (branchAt j m) B (λ X y. atBranch j g y) (reachBranch p j i m) (branch-found p i m j (o .1) (h .1))))
+  reach-found p i (waiting r w x) o h = tt
+  reach-found p i (answering r w c d) o h = tt
+
+  branch-found : (p : Progresses) (i : ℕ) (m : Branches) (k : ℕ) → EachBranchRowOnce m → CleanBranches p m → Found p i (branchAt k m) (reachBranch p k i m)
+  branch-found p i (lastBranch r a b) k o h =
+      let B = sequence r a b in
+      or-found (Found p i B) (reach p i a) (onlyIf (isDone p a) (reach p i b))
+      (lift p i a B (λ X y. atFirst y) (reach p i a) (reach-found p i a (o .3) (h .0)))
+      (only-found (Found p i B) (isDone p a) (reach p i b) tt
+      (λ t. lift p i b B (λ X y. atSecond t y) (reach p i b) (reach-found p i b (o .4) (h .1))))
+  branch-found p i (branch r a b m) zero o h =
+      let B = sequence r a b in
+      or-found (Found p i B) (reach p i a) (onlyIf (isDone p a) (reach p i b))
+      (lift p i a B (λ X y. atFirst y) (reach p i a) (reach-found p i a (o .3) (h .0)))
+      (only-found (Found p i B) (isDone p a) (reach p i b) tt
+      (λ t. lift p i b B (λ X y. atSecond t y) (reach p i b) (reach-found p i b (o .4) (h .1))))
+  branch-found p i (branch r a b m) (suc k) o h = branch-found p i m k (o .8) (h .2)

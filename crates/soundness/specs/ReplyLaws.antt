@@ -7,28 +7,28 @@ use lib.Dec.{T, eqb, eqb→eq}
 use Rattle.forest.specs.Forest.{Tree, tree, present}
 use Rattle.forest.specs.Path.{Path, read, replaceAt}
 use Rattle.scalar.specs.Value.{Value, pick}
-use Rattle.syntax.specs.Syntax.{Optional, none, some, Network, Operation, input, output, Expression, Behaviour, nil, oneWay, requestResponse}
-use Rattle.syntax.specs.Syntax.{notification, solicitResponse, ifThenElse, whileDo, sequence, parallel, assign, choice, branch, lastBranch, waiting}
-use Rattle.syntax.specs.Syntax.{answering}
-use Rattle.syntax.specs.Rows.{rowOf, atRow}
-use Rattle.network.specs.Meets.{inFile}
+use Rattle.syntax.specs.Syntax.{Optional, none, some, Network, Operation, input, output, Expression, Behaviour, requestResponse}
+use Rattle.syntax.specs.Syntax.{solicitResponse}
+use Rattle.syntax.specs.Rows.{rowOf, atRow, Response, Input, inputOf, fromInput, Output, outputOf, fromOutput}
+use Rattle.syntax.specs.Meets.{inFile}
 use Rattle.refusal.specs.declared.Refusal.the-variants.{MoveNotAllowed}
 use Rattle.subtyping.specs.SubtypeLaws.{subtype-sound, subtype-trans}
 use Rattle.subtyping.specs.Own.{ownType, Fits}
 use Rattle.typing.specs.Rules.{permits}
 use Rattle.tree.specs.Encode.{Octets}
 use Rattle.tree.specs.Decode.{decodeMessage}
-use Rattle.state.specs.Session.{ReplyTo, nobody, outsider, waitingRow, Progress, Progresses, done, waits, received, advance, Session, live, State}
+use Rattle.state.specs.Session.{ReplyTo, nobody, outsider, waitingRow, Progress, Progresses, done, waits, received, advance, Session, withTree, withProgress, live, State}
 use Rattle.state.specs.Bytes.{messageBytes, u32Bytes}
 use Rattle.state.specs.Shape.{behaviourIn}
 use Rattle.moves.specs.Readiness.{isDone}
-use Rattle.moves.specs.Moves.{Result, moved, notAllowed, require, onFound, onMessage, voidValue, withTree, withProgress, saveWithin, mustFit}
-use Rattle.moves.specs.Moves.{onWaitingRow, takeReply, answered, replyTo, replyAt, replyMove, outerReply}
+use Rattle.moves.specs.Moves.{Result, moved, notAllowed, require, onFound, onMessage, voidValue, saveWithin, mustFit}
+use Rattle.moves.specs.Moves.{onWaitingOutput, onWaitingRow, takeReply, answered, replyTo, replyBy, replyAt, replyMove, outerReply}
 use Rattle.soundness.specs.GoodTrees.{GoodTree}
 use Rattle.soundness.specs.Parts.{Reaches}
 use Rattle.soundness.specs.Parts.{isOpen, Opens, asking, serving}
 use Rattle.soundness.specs.Accepted.{OfFile, MadeOf, Accepted}
-use Rattle.soundness.specs.MadeLaws.{made-at, isSequence, reaches-atRow, atRow-row, some-inj}
+use Rattle.soundness.specs.MadeLaws.{made-at, Plain, plain-request, plain-solicit, reaches-atRow, atRow-row}
+use Rattle.syntax.specs.ViewLaws.{some-inj, input-is, output-is}
 use Rattle.soundness.specs.Invariant.{SessionSound, Sound}
 use Rattle.soundness.specs.SessionLaws.{once-of, made-of, advance-other, answer-sound, waiting-sound, waits-received}
 use Rattle.soundness.specs.ResultLaws.{Keeps, goes-keeps, keeps-15, by-require, by-received, by-waiting, by-session, by-live, by-message}
@@ -41,9 +41,9 @@ unfolding rowOf
 opens-row asking = refl
 opens-row serving = refl
 
-opens-plain : {i : ℕ} {W : Behaviour} → Opens i W → isSequence W ≡ false
-opens-plain asking = refl
-opens-plain serving = refl
+opens-plain : {i : ℕ} {W : Behaviour} → Opens i W → Plain W
+opens-plain {i} (asking {o} {e} {x}) = plain-solicit i o e x
+opens-plain {i} (serving {o} {x} {c} {d}) = plain-request i o x c d
 
 module _ (N : Network) (rows : ℕ) (acc : Accepted N rows) where
   -- An open row that is found wherever it stands is reached.
@@ -64,14 +64,14 @@ module _ (N : Network) (rows : ℕ) (acc : Accepted N rows) where
       → ((S : Session) → G q n ≡ live S → S .progress r ≡ waits)
       → Keeps N rows strict (takeReply G q n r x m)
   take-keeps strict G hG q n r B eB o e x at m gm f w =
-      by-live N rows strict (G q n) (λ S. saveWithin G q n (withTree S (replaceAt voidValue x m (S .tree)) (advance (S .progress) r done)) [])
+      by-live N rows strict (G q n) (λ S. saveWithin G q n (withProgress (withTree S (replaceAt voidValue x m (S .tree))) (advance (S .progress) r done)) [])
       (λ S eS.
       let h = hG .sessions q n S eS in
       let at2 : atRow r (h .what) ≡ some (solicitResponse r o e x) = ap (atRow r) (some-inj (sym (h .runs) ∙ eB)) ∙ at in
       let ew = w S eS in
       let way = open-reached q n S h r (solicitResponse r o e x) at2 (subst (λ (s : Progress). T (isOpen s)) (sym ew) tt) in
-      goes-keeps N rows strict (saveWithin G q n (withTree S (replaceAt voidValue x m (S .tree)) (advance (S .progress) r done)) [])
-      (save-goes N rows acc G q n (withTree S (replaceAt voidValue x m (S .tree)) (advance (S .progress) r done)) [] hG
+      goes-keeps N rows strict (saveWithin G q n (withProgress (withTree S (replaceAt voidValue x m (S .tree))) (advance (S .progress) r done)) [])
+      (save-goes N rows acc G q n (withProgress (withTree S (replaceAt voidValue x m (S .tree))) (advance (S .progress) r done)) [] hG
       (waiting-sound N rows acc q n S h r o e x m way ew gm f)))
 
   -- The row that waits, found wherever it stands.
@@ -82,34 +82,31 @@ module _ (N : Network) (rows : ℕ) (acc : Accepted N rows) where
   unfolding rowOf
   by-waiting-row strict q S r B k f = go (atRow r B) refl
     where
-      go : (l : Optional Behaviour) → atRow r B ≡ l → Keeps N rows strict (onWaitingRow q S l k)
-      go none e = keeps-15 N rows strict
-      go (some (nil r2)) e = keeps-15 N rows strict
-      go (some (oneWay r2 o x)) e = keeps-15 N rows strict
-      go (some (requestResponse r2 o x c d)) e = keeps-15 N rows strict
-      go (some (notification r2 o g)) e = keeps-15 N rows strict
-      go (some (solicitResponse r2 o g x)) e =
+      waits-at : (r2 : ℕ) (o : Operation) (g : Expression) (x : Optional Path)
+          → atRow r B ≡ some (fromOutput (record { row = r2; operation = o; message = g; into = x }))
+          → Keeps N rows strict (onWaitingOutput q S (some (record { row = r2; operation = o; message = g; into = x })) k)
+      waits-at r2 o g none e = keeps-15 N rows strict
+      waits-at r2 o g (some x) e =
           let er : r2 ≡ r = atRow-row r B (solicitResponse r2 o g x) e .0 in
           by-waiting N rows strict (S .progress r2) (require (permits q output true o) MoveNotAllowed (k o x))
           (λ t. by-require N rows strict (permits q output true o) (k o x)
           (λ pm. f o g x (subst (λ (z : ℕ). atRow r B ≡ some (solicitResponse z o g x)) er e) (subst (λ (z : ℕ). S .progress z ≡ waits) er t) pm))
-      go (some (ifThenElse r2 g x y)) e = keeps-15 N rows strict
-      go (some (whileDo r2 g b)) e = keeps-15 N rows strict
-      go (some (sequence r2 x y)) e = keeps-15 N rows strict
-      go (some (parallel r2 x y)) e = keeps-15 N rows strict
-      go (some (assign r2 x g)) e = keeps-15 N rows strict
-      go (some (choice r2 m)) e = keeps-15 N rows strict
-      go (some (branch r2 x y m)) e = keeps-15 N rows strict
-      go (some (lastBranch r2 x y)) e = keeps-15 N rows strict
-      go (some (waiting r2 o x)) e = keeps-15 N rows strict
-      go (some (answering r2 o c d)) e = keeps-15 N rows strict
+
+      seen : (b : Behaviour) → atRow r B ≡ some b → (u : Optional Output) → outputOf b ≡ u → Keeps N rows strict (onWaitingOutput q S u k)
+      seen b e none h = keeps-15 N rows strict
+      seen b e (some u) h =
+          waits-at (u .row) (u .operation) (u .message) (u .into) (subst (λ (z : Behaviour). atRow r B ≡ some z) (output-is b u h) e)
+
+      go : (l : Optional Behaviour) → atRow r B ≡ l → Keeps N rows strict (onWaitingRow q S l k)
+      go none e = keeps-15 N rows strict
+      go (some b) e = seen b e (outputOf b) refl
 
   module _ (G : State) (hG : Sound N rows G) (q n : ℕ) (S : Session) (eS : G q n ≡ live S) (h : SessionSound N rows q n S) where
     abbrev p : Progresses
     p = S .progress
 
     answer : (r : ℕ) (o : Operation) (x c : Path) (d : Behaviour) (to : ReplyTo) → atRow r (h .what) ≡ some (requestResponse r o x c d) → p r ≡ received to
-        → T (isDone p 0 d) → Keeps N rows true (replyTo N G q n S r o c to)
+        → T (isDone p d) → Keeps N rows true (replyTo N G q n S r o c to)
     unfolding MadeOf
     answer r o x c d to at t dn =
         let way = open-reached q n S h r (requestResponse r o x c d) at (subst (λ (s : Progress). T (isOpen s)) (sym t) tt) in
@@ -151,30 +148,29 @@ module _ (N : Network) (rows : ℕ) (acc : Accepted N rows) where
             subst (λ (z : Session). z .progress r2 ≡ waits) (live-inj c3) (sym (advance-other p r done r2 other) ∙ ew2))
             (λ g. subst (λ (z : Session). z .progress r2 ≡ waits) (live-inj (sym eS2 ∙ g)) ew) e3)))))
 
-    reply-at : (r : ℕ) (l : Optional Behaviour) → atRow r (h .what) ≡ l → Keeps N rows true (replyAt N G q n S l)
+    reply-by : (r r2 : ℕ) (o : Operation) (x : Path) (a : Optional Response)
+        → atRow r (h .what) ≡ some (fromInput (record { row = r2; operation = o; into = x; response = a }))
+        → Keeps N rows true (replyBy N G q n S (some (record { row = r2; operation = o; into = x; response = a })))
     unfolding rowOf
-    reply-at r none e = keeps-15 N rows true
-    reply-at r (some (nil r2)) e = keeps-15 N rows true
-    reply-at r (some (oneWay r2 o x)) e = keeps-15 N rows true
-    reply-at r (some (requestResponse r2 o x c d)) e =
+    reply-by r r2 o x none e = keeps-15 N rows true
+    reply-by r r2 o x (some a) e =
+        let c = a .path in
+        let d = a .body in
         let er : r2 ≡ r = atRow-row r (h .what) (requestResponse r2 o x c d) e .0 in
         let at : atRow r2 (h .what) ≡ some (requestResponse r2 o x c d) = ap (λ (z : ℕ). atRow z (h .what)) er ∙ e in
-        by-received N rows true (p r2) (λ to. require (isDone p 0 d) MoveNotAllowed
+        by-received N rows true (p r2) (λ to. require (isDone p d) MoveNotAllowed
         (require (permits q input true o) MoveNotAllowed (replyTo N G q n S r2 o c to)))
-        (λ to t. by-require N rows true (isDone p 0 d) (require (permits q input true o) MoveNotAllowed (replyTo N G q n S r2 o c to))
+        (λ to t. by-require N rows true (isDone p d) (require (permits q input true o) MoveNotAllowed (replyTo N G q n S r2 o c to))
         (λ dn. by-require N rows true (permits q input true o) (replyTo N G q n S r2 o c to) (λ pm. answer r2 o x c d to at t dn)))
-    reply-at r (some (notification r2 o g)) e = keeps-15 N rows true
-    reply-at r (some (solicitResponse r2 o g x)) e = keeps-15 N rows true
-    reply-at r (some (ifThenElse r2 g x y)) e = keeps-15 N rows true
-    reply-at r (some (whileDo r2 g b)) e = keeps-15 N rows true
-    reply-at r (some (sequence r2 x y)) e = keeps-15 N rows true
-    reply-at r (some (parallel r2 x y)) e = keeps-15 N rows true
-    reply-at r (some (assign r2 x g)) e = keeps-15 N rows true
-    reply-at r (some (choice r2 m)) e = keeps-15 N rows true
-    reply-at r (some (branch r2 x y m)) e = keeps-15 N rows true
-    reply-at r (some (lastBranch r2 x y)) e = keeps-15 N rows true
-    reply-at r (some (waiting r2 o x)) e = keeps-15 N rows true
-    reply-at r (some (answering r2 o c d)) e = keeps-15 N rows true
+
+    reply-at : (r : ℕ) (l : Optional Behaviour) → atRow r (h .what) ≡ l → Keeps N rows true (replyAt N G q n S l)
+    reply-at r none e = keeps-15 N rows true
+    reply-at r (some b) e = seen (inputOf b) refl
+      where
+        seen : (i : Optional Input) → inputOf b ≡ i → Keeps N rows true (replyBy N G q n S i)
+        seen none g = keeps-15 N rows true
+        seen (some i) g =
+            reply-by r (i .row) (i .operation) (i .into) (i .response) (subst (λ (z : Behaviour). atRow r (h .what) ≡ some z) (input-is b i g) e)
 
   pub reply-move : (G : State) → Sound N rows G → (q n r : ℕ) → Keeps N rows true (replyMove N G q n r)
   reply-move G hG q n r =

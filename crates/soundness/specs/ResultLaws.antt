@@ -20,6 +20,7 @@ use Rattle.typing.specs.TypedLaws.{by-bool}
 use Rattle.tree.specs.Encode.{messageDeep, messageMany}
 use Rattle.state.specs.Session.{ReplyTo, Progress, undone, done, waits, received, taken, Session, Slot, free, live, State, setSlot}
 use Rattle.state.specs.Shape.{behaviourIn}
+use Rattle.moves.specs.Evaluation.{Evaluation, given}
 use Rattle.moves.specs.Moves.{Result, refused, moved, notAllowed, require, onTree, onFound, onBool, onLive, onBehaviour, onOperation, inSession}
 use Rattle.moves.specs.Moves.{ifUndone, ifWaiting, onReceived, onMessage, isMessageTree, mustFit}
 use Rattle.soundness.specs.GoodTrees.{GoodTree}
@@ -131,8 +132,8 @@ module _ (N : Network) (rows : ℕ) where
       go (some B) e = by-live strict (G q n) (λ S. k B S) (λ S eS. f B S e eS)
 
   -- What is there.
-  pub at-tree : (r : Optional (Tree Value)) (y : Tree Value) (k : Tree Value → Result) → r ≡ some y → Goes (k y) → Goes (onTree r k)
-  at-tree r y k e g = subst (λ (z : Optional (Tree Value)). Goes (onTree z k)) (sym e) g
+  pub at-tree : (r : Evaluation (Tree Value)) (y : Tree Value) (k : Tree Value → Result) → r ≡ given y → Goes (k y) → Goes (onTree r k)
+  at-tree r y k e g = subst (λ (z : Evaluation (Tree Value)). Goes (onTree z k)) (sym e) g
 
   pub at-found : (l : Lookup Value) (y : Tree Value) (k : Tree Value → Result) → l ≡ present y → Goes (k y) → Goes (onFound l k)
   at-found l y k e g = subst (λ (z : Lookup Value). Goes (onFound z k)) (sym e) g
@@ -158,9 +159,9 @@ module _ (N : Network) (rows : ℕ) where
   at-fit m t r g rt st f h = at-require (isMessageTree m && fits m t) MessageMisfit r (fit-test m t g rt st f) h
 
   -- The same where the target may refuse.
-  pub keeps-tree : (strict : Bool) (r : Optional (Tree Value)) (y : Tree Value) (k : Tree Value → Result) → r ≡ some y → Keeps strict (k y)
+  pub keeps-tree : (strict : Bool) (r : Evaluation (Tree Value)) (y : Tree Value) (k : Tree Value → Result) → r ≡ given y → Keeps strict (k y)
       → Keeps strict (onTree r k)
-  keeps-tree strict r y k e g = subst (λ (z : Optional (Tree Value)). Keeps strict (onTree z k)) (sym e) g
+  keeps-tree strict r y k e g = subst (λ (z : Evaluation (Tree Value)). Keeps strict (onTree z k)) (sym e) g
 
   pub keeps-found : (strict : Bool) (l : Lookup Value) (y : Tree Value) (k : Tree Value → Result) → l ≡ present y → Keeps strict (k y)
       → Keeps strict (onFound l k)

@@ -5,13 +5,13 @@ use mathlib.Core.Bool.{Bool, true, false, _&&_, _||_}
 use lib.Dec.{T, eqb, eqb-refl}
 use Rattle.forest.specs.Path.{Path}
 use Rattle.syntax.specs.Syntax.{Expression, Operation, Behaviour, nil, oneWay, requestResponse, notification, solicitResponse, ifThenElse, whileDo}
-use Rattle.syntax.specs.Syntax.{sequence, parallel, assign, choice, branch, lastBranch, waiting, answering}
-use Rattle.syntax.specs.Rows.{hasRow}
-use Rattle.network.specs.Shapes.{Standing, alone, inChoice, onlyAlone, onlyInChoice}
+use Rattle.syntax.specs.Syntax.{sequence, parallel, assign, choice, waiting, answering, Branches, lastBranch, branch}
+use Rattle.syntax.specs.Rows.{hasRow, hasRowIn}
+use Rattle.network.specs.Shapes.{EachRowOnce, EachBranchRowOnce}
 use Rattle.typing.specs.OccursLaws.{or-l, or-r}
 use Rattle.state.specs.Session.{Progress, Progresses, ReplyTo, undone, done, waits, received, taken}
-use Rattle.moves.specs.Readiness.{ifDone, ifWaits, ifReceived, ifTaken, thenOrElse, firstOr, isDone, rest}
-use Rattle.soundness.specs.Parts.{branchAt, Once, Fresh, Clean, Reaches, atSelf, atFirst, atSecond, atLeft, atRight, atThen, atElse, atLoop}
+use Rattle.moves.specs.Readiness.{ifDone, ifWaits, ifReceived, ifTaken, thenOrElse, firstOr, isDone, branchDone, rest, branchRest}
+use Rattle.soundness.specs.Parts.{branchAt, Fresh, Clean, CleanBranches, Reaches, atSelf, atFirst, atSecond, atLeft, atRight, atThen, atElse, atLoop}
 use Rattle.soundness.specs.Parts.{atServed, atBranch}
 use Rattle.soundness.specs.ContextLaws.{finished, Active, itself, inFirst, inSecond, onLeft, onRight, inBody}
 
@@ -28,14 +28,17 @@ in-second i r a b t = or-r (eqb i r) (hasRow i a || hasRow i b) (or-r (hasRow i 
 pub in-only : (i r : ℕ) (a : Behaviour) → T (hasRow i a) → T (eqb i r || hasRow i a)
 in-only i r a t = or-r (eqb i r) (hasRow i a) t
 
-pub in-input : (i r : ℕ) (a b m : Behaviour) → T (hasRow i a) → T (eqb i r || ((hasRow i a || hasRow i b) || hasRow i m))
-in-input i r a b m t = or-r (eqb i r) _ (or-l (hasRow i a || hasRow i b) (hasRow i m) (or-l (hasRow i a) (hasRow i b) t))
+pub in-branches : (i r : ℕ) (m : Branches) → T (hasRowIn i m) → T (eqb i r || hasRowIn i m)
+in-branches i r m t = or-r (eqb i r) (hasRowIn i m) t
 
-pub in-then : (i r : ℕ) (a b m : Behaviour) → T (hasRow i b) → T (eqb i r || ((hasRow i a || hasRow i b) || hasRow i m))
-in-then i r a b m t = or-r (eqb i r) _ (or-l (hasRow i a || hasRow i b) (hasRow i m) (or-r (hasRow i a) (hasRow i b) t))
+pub in-input : (i r : ℕ) (a b : Behaviour) (m : Branches) → T (hasRow i a) → T (eqb i r || ((hasRow i a || hasRow i b) || hasRowIn i m))
+in-input i r a b m t = or-r (eqb i r) _ (or-l (hasRow i a || hasRow i b) (hasRowIn i m) (or-l (hasRow i a) (hasRow i b) t))
 
-pub in-others : (i r : ℕ) (a b m : Behaviour) → T (hasRow i m) → T (eqb i r || ((hasRow i a || hasRow i b) || hasRow i m))
-in-others i r a b m t = or-r (eqb i r) _ (or-r (hasRow i a || hasRow i b) (hasRow i m) t)
+pub in-then : (i r : ℕ) (a b : Behaviour) (m : Branches) → T (hasRow i b) → T (eqb i r || ((hasRow i a || hasRow i b) || hasRowIn i m))
+in-then i r a b m t = or-r (eqb i r) _ (or-l (hasRow i a || hasRow i b) (hasRowIn i m) (or-r (hasRow i a) (hasRow i b) t))
+
+pub in-others : (i r : ℕ) (a b : Behaviour) (m : Branches) → T (hasRowIn i m) → T (eqb i r || ((hasRow i a || hasRow i b) || hasRowIn i m))
+in-others i r a b m t = or-r (eqb i r) _ (or-r (hasRow i a || hasRow i b) (hasRowIn i m) t)
 
 -- Case pickers at a known progress.
 pub taken-at : {A : Type 0} (s : Progress) (k : ℕ) → s ≡ taken k → (x : A) (f : ℕ → A) → ifTaken s x f ≡ f k
@@ -54,131 +57,39 @@ first-same (suc k) x y f g e h = h k
 
 -- The branch taken -----------------------------------------------------------------------------------------------------------------
 
-pub branch-rest : (m : Behaviour) (k : ℕ) (p : Progresses) → rest p k m ≡ rest p 0 (branchAt k m)
+pub branch-rest : (m : Branches) (k : ℕ) (p : Progresses) → branchRest p k m ≡ rest p (branchAt k m)
 unfolding rest branchAt
-branch-rest (nil r) k p = refl
-branch-rest (oneWay r o x) k p = refl
-branch-rest (requestResponse r o x c d) k p = refl
-branch-rest (notification r o e) k p = refl
-branch-rest (solicitResponse r o e x) k p = refl
-branch-rest (ifThenElse r e a b) k p = refl
-branch-rest (whileDo r e b) k p = refl
-branch-rest (sequence r a b) k p = refl
-branch-rest (parallel r a b) k p = refl
-branch-rest (assign r x e) k p = refl
-branch-rest (choice r m) k p = refl
+branch-rest (lastBranch r a b) k p = refl
 branch-rest (branch r a b m) zero p = refl
 branch-rest (branch r a b m) (suc k) p = branch-rest m k p
-branch-rest (lastBranch r a b) k p = refl
-branch-rest (waiting r o x) k p = refl
-branch-rest (answering r o c d) k p = refl
 
-pub branch-done : (m : Behaviour) (k : ℕ) (p : Progresses) → isDone p k m ≡ isDone p 0 (branchAt k m)
+pub branch-done : (m : Branches) (k : ℕ) (p : Progresses) → branchDone p k m ≡ isDone p (branchAt k m)
 unfolding isDone branchAt
-branch-done (nil r) k p = refl
-branch-done (oneWay r o x) k p = refl
-branch-done (requestResponse r o x c d) k p = refl
-branch-done (notification r o e) k p = refl
-branch-done (solicitResponse r o e x) k p = refl
-branch-done (ifThenElse r e a b) k p = refl
-branch-done (whileDo r e b) k p = refl
-branch-done (sequence r a b) k p = refl
-branch-done (parallel r a b) k p = refl
-branch-done (assign r x e) k p = refl
-branch-done (choice r m) k p = refl
+branch-done (lastBranch r a b) k p = refl
 branch-done (branch r a b m) zero p = refl
 branch-done (branch r a b m) (suc k) p = branch-done m k p
-branch-done (lastBranch r a b) k p = refl
-branch-done (waiting r o x) k p = refl
-branch-done (answering r o c d) k p = refl
 
-pub branch-rows : (m : Behaviour) (k i : ℕ) → T (hasRow i (branchAt k m)) → T (hasRow i m)
+pub branch-rows : (m : Branches) (k i : ℕ) → T (hasRow i (branchAt k m)) → T (hasRowIn i m)
 unfolding hasRow branchAt
-branch-rows (nil r) k i t = t
-branch-rows (oneWay r o x) k i t = t
-branch-rows (requestResponse r o x c d) k i t = t
-branch-rows (notification r o e) k i t = t
-branch-rows (solicitResponse r o e x) k i t = t
-branch-rows (ifThenElse r e a b) k i t = t
-branch-rows (whileDo r e b) k i t = t
-branch-rows (sequence r a b) k i t = t
-branch-rows (parallel r a b) k i t = t
-branch-rows (assign r x e) k i t = t
-branch-rows (choice r m) k i t = t
-branch-rows (branch r a b m) zero i t = go (eqb i r) (hasRow i a || hasRow i b) (hasRow i m) t
+branch-rows (lastBranch r a b) k i t = t
+branch-rows (branch r a b m) zero i t = go (eqb i r) (hasRow i a || hasRow i b) (hasRowIn i m) t
   where
     go : (x y z : Bool) → T (x || y) → T (x || (y || z))
     go true y z t = tt
     go false y z t = or-l y z t
 branch-rows (branch r a b m) (suc k) i t = in-others i r a b m (branch-rows m k i t)
-branch-rows (lastBranch r a b) k i t = t
-branch-rows (waiting r o x) k i t = t
-branch-rows (answering r o c d) k i t = t
 
-pub get-alone : (c : Standing) {X : Type 0} → onlyAlone c X → X
-get-alone alone x = x
-get-alone inChoice x = absurd x
-
-pub get-choice : (c : Standing) {X : Type 0} → onlyInChoice c X → X
-get-choice alone x = absurd x
-get-choice inChoice x = x
-
-pub branch-once : (m : Behaviour) (k : ℕ) → Once inChoice m → Once alone (branchAt k m)
-unfolding Once branchAt
-branch-once (nil r) k o = absurd o
-branch-once (oneWay r p x) k o = absurd o
-branch-once (requestResponse r p x c d) k o = absurd o
-branch-once (notification r p e) k o = absurd o
-branch-once (solicitResponse r p e x) k o = absurd o
-branch-once (ifThenElse r e a b) k o = absurd o
-branch-once (whileDo r e b) k o = absurd o
-branch-once (sequence r a b) k o = absurd o
-branch-once (parallel r a b) k o = absurd o
-branch-once (assign r x e) k o = absurd o
-branch-once (choice r m) k o = absurd o
+pub branch-once : (m : Branches) (k : ℕ) → EachBranchRowOnce m → EachRowOnce (branchAt k m)
+unfolding EachRowOnce branchAt
+branch-once (lastBranch r a b) k o = o
 branch-once (branch r a b m) zero o = (o .0, o .1, o .2, o .3, o .4)
 branch-once (branch r a b m) (suc k) o = branch-once m k (o .8)
-branch-once (lastBranch r a b) k o = o
-branch-once (waiting r p x) k o = absurd o
-branch-once (answering r p c d) k o = absurd o
 
--- A behaviour that stands alone is its own branch.
-pub branch-alone : (B : Behaviour) (k : ℕ) → Once alone B → branchAt k B ≡ B
-unfolding Once branchAt
-branch-alone (nil r) k o = refl
-branch-alone (oneWay r p x) k o = refl
-branch-alone (requestResponse r p x c d) k o = refl
-branch-alone (notification r p e) k o = refl
-branch-alone (solicitResponse r p e x) k o = refl
-branch-alone (ifThenElse r e a b) k o = refl
-branch-alone (whileDo r e b) k o = refl
-branch-alone (sequence r a b) k o = refl
-branch-alone (parallel r a b) k o = refl
-branch-alone (assign r x e) k o = refl
-branch-alone (choice r m) k o = refl
-branch-alone (branch r a b m) k o = absurd o
-branch-alone (lastBranch r a b) k o = absurd o
-branch-alone (waiting r p x) k o = refl
-branch-alone (answering r p c d) k o = refl
-
-pub branch-clean : (m : Behaviour) (k : ℕ) (p : Progresses) → Clean p m → Clean p (branchAt k m)
+pub branch-clean : (m : Branches) (k : ℕ) (p : Progresses) → CleanBranches p m → Clean p (branchAt k m)
 unfolding Clean branchAt
-branch-clean (nil r) k p c = c
-branch-clean (oneWay r o x) k p c = c
-branch-clean (requestResponse r o x y d) k p c = c
-branch-clean (notification r o e) k p c = c
-branch-clean (solicitResponse r o e x) k p c = c
-branch-clean (ifThenElse r e a b) k p c = c
-branch-clean (whileDo r e b) k p c = c
-branch-clean (sequence r a b) k p c = c
-branch-clean (parallel r a b) k p c = c
-branch-clean (assign r x e) k p c = c
-branch-clean (choice r m) k p c = c
+branch-clean (lastBranch r a b) k p c = c
 branch-clean (branch r a b m) zero p c = (c .0, c .1)
 branch-clean (branch r a b m) (suc k) p c = branch-clean m k p (c .2)
-branch-clean (lastBranch r a b) k p c = c
-branch-clean (waiting r o x) k p c = c
-branch-clean (answering r o y d) k p c = c
 
 -- Done is what the rest says -------------------------------------------------------------------------------------------------------
 
@@ -205,113 +116,120 @@ and-false false = refl
 both : (a b c d : Bool) → a ≡ c → b ≡ d → (a && b) ≡ (c && d)
 both a b c d e f = rw (e, f)
 
-pub done-rest : (B : Behaviour) (k : ℕ) (p : Progresses) → isDone p k B ≡ finished (rest p k B)
-unfolding isDone rest finished
-done-rest (nil r) k p = refl
-done-rest (oneWay r o x) k p = done-leaf (p r) r (oneWay r o x) refl
-done-rest (requestResponse r o x c d) k p = go (p r)
-  where
-    go : (s : Progress) → ifDone s false true ≡ finished (ifDone s (ifReceived s (requestResponse r o x c d) (answering r o c (rest p 0 d))) (nil r))
-    go undone = refl
-    go done = refl
-    go waits = refl
-    go (received to) = refl
-    go (taken j) = refl
-done-rest (notification r o e) k p = done-leaf (p r) r (notification r o e) refl
-done-rest (solicitResponse r o e x) k p = go (p r)
-  where
-    go : (s : Progress) → ifDone s false true ≡ finished (ifDone s (ifWaits s (solicitResponse r o e x) (waiting r o x)) (nil r))
-    go undone = refl
-    go done = refl
-    go waits = refl
-    go (received to) = refl
-    go (taken j) = refl
-done-rest (ifThenElse r e a b) k p =
-    done-taken (p r) (ifThenElse r e a b) (λ j. thenOrElse j (isDone p 0 a) (isDone p 0 b)) (λ j. thenOrElse j (rest p 0 a) (rest p 0 b)) refl
-    (λ j. go j (done-rest a 0 p) (done-rest b 0 p))
-  where
-    go : (j : ℕ) → isDone p 0 a ≡ finished (rest p 0 a) → isDone p 0 b ≡ finished (rest p 0 b)
-        → thenOrElse j (isDone p 0 a) (isDone p 0 b) ≡ finished (thenOrElse j (rest p 0 a) (rest p 0 b))
-    go zero x y = x
-    go (suc j) x y = y
-done-rest (whileDo r e b) k p = go (p r)
-  where
-    go : (s : Progress)
-        → ifDone s false true ≡ finished (ifDone s (ifTaken s (whileDo r e b) (λ j. sequence r (rest p 0 b) (whileDo r e b))) (nil r))
-    go undone = refl
-    go done = refl
-    go waits = refl
-    go (received to) = refl
-    go (taken j) = sym (and-false (finished (rest p 0 b)))
-done-rest (sequence r a b) k p =
-    both (isDone p 0 a) (isDone p 0 b) (finished (rest p 0 a)) (finished (rest p 0 b)) (done-rest a 0 p) (done-rest b 0 p)
-done-rest (parallel r a b) k p =
-    both (isDone p 0 a) (isDone p 0 b) (finished (rest p 0 a)) (finished (rest p 0 b)) (done-rest a 0 p) (done-rest b 0 p)
-done-rest (assign r x e) k p = done-leaf (p r) r (assign r x e) refl
-done-rest (choice r m) k p = done-taken (p r) (choice r m) (λ j. isDone p j m) (λ j. rest p j m) refl (λ j. done-rest m j p)
-done-rest (branch r a b m) zero p =
-    both (isDone p 0 a) (isDone p 0 b) (finished (rest p 0 a)) (finished (rest p 0 b)) (done-rest a 0 p) (done-rest b 0 p)
-done-rest (branch r a b m) (suc k) p = done-rest m k p
-done-rest (lastBranch r a b) k p =
-    both (isDone p 0 a) (isDone p 0 b) (finished (rest p 0 a)) (finished (rest p 0 b)) (done-rest a 0 p) (done-rest b 0 p)
-done-rest (waiting r o x) k p = refl
-done-rest (answering r o c d) k p = refl
+mutual
+  unfolding isDone rest finished
+
+  pub done-rest : (B : Behaviour) (p : Progresses) → isDone p B ≡ finished (rest p B)
+  done-rest (nil r) p = refl
+  done-rest (oneWay r o x) p = done-leaf (p r) r (oneWay r o x) refl
+  done-rest (requestResponse r o x c d) p = go (p r)
+    where
+      go : (s : Progress) → ifDone s false true ≡ finished (ifDone s (ifReceived s (requestResponse r o x c d) (answering r o c (rest p d))) (nil r))
+      go undone = refl
+      go done = refl
+      go waits = refl
+      go (received to) = refl
+      go (taken j) = refl
+  done-rest (notification r o e) p = done-leaf (p r) r (notification r o e) refl
+  done-rest (solicitResponse r o e x) p = go (p r)
+    where
+      go : (s : Progress) → ifDone s false true ≡ finished (ifDone s (ifWaits s (solicitResponse r o e x) (waiting r o x)) (nil r))
+      go undone = refl
+      go done = refl
+      go waits = refl
+      go (received to) = refl
+      go (taken j) = refl
+  done-rest (ifThenElse r e a b) p =
+      done-taken (p r) (ifThenElse r e a b) (λ j. thenOrElse j (isDone p a) (isDone p b)) (λ j. thenOrElse j (rest p a) (rest p b)) refl
+      (λ j. go j (done-rest a p) (done-rest b p))
+    where
+      go : (j : ℕ) → isDone p a ≡ finished (rest p a) → isDone p b ≡ finished (rest p b)
+          → thenOrElse j (isDone p a) (isDone p b) ≡ finished (thenOrElse j (rest p a) (rest p b))
+      go zero x y = x
+      go (suc j) x y = y
+  done-rest (whileDo r e b) p = go (p r)
+    where
+      go : (s : Progress)
+          → ifDone s false true ≡ finished (ifDone s (ifTaken s (whileDo r e b) (λ j. sequence r (rest p b) (whileDo r e b))) (nil r))
+      go undone = refl
+      go done = refl
+      go waits = refl
+      go (received to) = refl
+      go (taken j) = sym (and-false (finished (rest p b)))
+  done-rest (sequence r a b) p =
+      both (isDone p a) (isDone p b) (finished (rest p a)) (finished (rest p b)) (done-rest a p) (done-rest b p)
+  done-rest (parallel r a b) p =
+      both (isDone p a) (isDone p b) (finished (rest p a)) (finished (rest p b)) (done-rest a p) (done-rest b p)
+  done-rest (assign r x e) p = done-leaf (p r) r (assign r x e) refl
+  done-rest (choice r m) p = done-taken (p r) (choice r m) (λ j. branchDone p j m) (λ j. branchRest p j m) refl (λ j. branch-done-rest m j p)
+  done-rest (waiting r o x) p = refl
+  done-rest (answering r o c d) p = refl
+
+  branch-done-rest : (m : Branches) (k : ℕ) (p : Progresses) → branchDone p k m ≡ finished (branchRest p k m)
+  branch-done-rest (lastBranch r a b) k p =
+      both (isDone p a) (isDone p b) (finished (rest p a)) (finished (rest p b)) (done-rest a p) (done-rest b p)
+  branch-done-rest (branch r a b m) zero p =
+      both (isDone p a) (isDone p b) (finished (rest p a)) (finished (rest p b)) (done-rest a p) (done-rest b p)
+  branch-done-rest (branch r a b m) (suc k) p = branch-done-rest m k p
 
 -- The rest depends on the progress of its own rows only ----------------------------------------------------------------------------
 
-pub rest-same : (B : Behaviour) (k : ℕ) (p q : Progresses) → ((i : ℕ) → T (hasRow i B) → p i ≡ q i) → rest p k B ≡ rest q k B
-unfolding rest hasRow
-rest-same (nil r) k p q h = refl
-rest-same (oneWay r o x) k p q h = rw (h r (eqb-refl r))
-rest-same (requestResponse r o x c d) k p q h =
-    rw (h r (in-own r r (hasRow r d) (eqb-refl r)), rest-same d 0 p q (λ i t. h i (in-only i r d t)))
-rest-same (notification r o e) k p q h = rw (h r (eqb-refl r))
-rest-same (solicitResponse r o e x) k p q h = rw (h r (eqb-refl r))
-rest-same (ifThenElse r e a b) k p q h =
-    rw (h r (in-own r r _ (eqb-refl r)), rest-same a 0 p q (λ i t. h i (in-first i r a b t)), rest-same b 0 p q (λ i t. h i (in-second i r a b t)))
-rest-same (whileDo r e b) k p q h = rw (h r (in-own r r (hasRow r b) (eqb-refl r)), rest-same b 0 p q (λ i t. h i (in-only i r b t)))
-rest-same (sequence r a b) k p q h =
-    rw (rest-same a 0 p q (λ i t. h i (in-first i r a b t)), rest-same b 0 p q (λ i t. h i (in-second i r a b t)))
-rest-same (parallel r a b) k p q h =
-    rw (rest-same a 0 p q (λ i t. h i (in-first i r a b t)), rest-same b 0 p q (λ i t. h i (in-second i r a b t)))
-rest-same (assign r x e) k p q h = rw (h r (eqb-refl r))
-rest-same (choice r m) k p q h =
-    ap (λ (s : Progress). ifTaken s (choice r m) (λ j. rest p j m)) (h r (in-own r r (hasRow r m) (eqb-refl r)))
-    ∙ taken-same (q r) (choice r m) (choice r m) (λ j. rest p j m) (λ j. rest q j m) refl (λ j. rest-same m j p q (λ i t. h i (in-only i r m t)))
-rest-same (branch r a b m) zero p q h =
-    rw (rest-same a 0 p q (λ i t. h i (in-input i r a b m t)), rest-same b 0 p q (λ i t. h i (in-then i r a b m t)))
-rest-same (branch r a b m) (suc k) p q h = rest-same m k p q (λ i t. h i (in-others i r a b m t))
-rest-same (lastBranch r a b) k p q h =
-    rw (rest-same a 0 p q (λ i t. h i (in-first i r a b t)), rest-same b 0 p q (λ i t. h i (in-second i r a b t)))
-rest-same (waiting r o x) k p q h = refl
-rest-same (answering r o c d) k p q h = refl
+mutual
+  unfolding rest hasRow
 
-pub done-same : (B : Behaviour) (p q : Progresses) → ((i : ℕ) → T (hasRow i B) → p i ≡ q i) → T (isDone p 0 B) → T (isDone q 0 B)
-done-same B p q h t = subst T (done-rest B 0 p ∙ (ap finished (rest-same B 0 p q h) ∙ sym (done-rest B 0 q))) t
+  pub rest-same : (B : Behaviour) (p q : Progresses) → ((i : ℕ) → T (hasRow i B) → p i ≡ q i) → rest p B ≡ rest q B
+  rest-same (nil r) p q h = refl
+  rest-same (oneWay r o x) p q h = rw (h r (eqb-refl r))
+  rest-same (requestResponse r o x c d) p q h =
+      rw (h r (in-own r r (hasRow r d) (eqb-refl r)), rest-same d p q (λ i t. h i (in-only i r d t)))
+  rest-same (notification r o e) p q h = rw (h r (eqb-refl r))
+  rest-same (solicitResponse r o e x) p q h = rw (h r (eqb-refl r))
+  rest-same (ifThenElse r e a b) p q h =
+      rw (h r (in-own r r _ (eqb-refl r)), rest-same a p q (λ i t. h i (in-first i r a b t)), rest-same b p q (λ i t. h i (in-second i r a b t)))
+  rest-same (whileDo r e b) p q h = rw (h r (in-own r r (hasRow r b) (eqb-refl r)), rest-same b p q (λ i t. h i (in-only i r b t)))
+  rest-same (sequence r a b) p q h =
+      rw (rest-same a p q (λ i t. h i (in-first i r a b t)), rest-same b p q (λ i t. h i (in-second i r a b t)))
+  rest-same (parallel r a b) p q h =
+      rw (rest-same a p q (λ i t. h i (in-first i r a b t)), rest-same b p q (λ i t. h i (in-second i r a b t)))
+  rest-same (assign r x e) p q h = rw (h r (eqb-refl r))
+  rest-same (choice r m) p q h =
+      ap (λ (s : Progress). ifTaken s (choice r m) (λ j. branchRest p j m)) (h r (in-own r r (hasRowIn r m) (eqb-refl r)))
+      ∙ taken-same (q r) (choice r m) (choice r m) (λ j. branchRest p j m) (λ j. branchRest q j m) refl
+      (λ j. branch-rest-same m j p q (λ i t. h i (in-branches i r m t)))
+  rest-same (waiting r o x) p q h = refl
+  rest-same (answering r o c d) p q h = refl
 
-pub done-finished : (B : Behaviour) (p : Progresses) → T (isDone p 0 B) → T (finished (rest p 0 B))
-done-finished B p t = subst T (done-rest B 0 p) t
+  branch-rest-same : (m : Branches) (k : ℕ) (p q : Progresses) → ((i : ℕ) → T (hasRowIn i m) → p i ≡ q i) → branchRest p k m ≡ branchRest q k m
+  branch-rest-same (lastBranch r a b) k p q h =
+      rw (rest-same a p q (λ i t. h i (in-first i r a b t)), rest-same b p q (λ i t. h i (in-second i r a b t)))
+  branch-rest-same (branch r a b m) zero p q h =
+      rw (rest-same a p q (λ i t. h i (in-input i r a b m t)), rest-same b p q (λ i t. h i (in-then i r a b m t)))
+  branch-rest-same (branch r a b m) (suc k) p q h = branch-rest-same m k p q (λ i t. h i (in-others i r a b m t))
+
+pub done-same : (B : Behaviour) (p q : Progresses) → ((i : ℕ) → T (hasRow i B) → p i ≡ q i) → T (isDone p B) → T (isDone q B)
+done-same B p q h t = subst T (done-rest B p ∙ (ap finished (rest-same B p q h) ∙ sym (done-rest B q))) t
+
+pub done-finished : (B : Behaviour) (p : Progresses) → T (isDone p B) → T (finished (rest p B))
+done-finished B p t = subst T (done-rest B p) t
 
 -- Nothing begun: the rest is the behaviour itself.
-pub rest-fresh : (B : Behaviour) (p : Progresses) → Once alone B → Fresh p B → rest p 0 B ≡ B
-unfolding rest hasRow Once
-rest-fresh (nil r) p s h = refl
-rest-fresh (oneWay r o x) p s h = rw (h r (eqb-refl r))
-rest-fresh (requestResponse r o x c d) p s h = rw (h r (in-own r r (hasRow r d) (eqb-refl r)))
-rest-fresh (notification r o e) p s h = rw (h r (eqb-refl r))
-rest-fresh (solicitResponse r o e x) p s h = rw (h r (eqb-refl r))
-rest-fresh (ifThenElse r e a b) p s h = rw (h r (in-own r r _ (eqb-refl r)))
-rest-fresh (whileDo r e b) p s h = rw (h r (in-own r r (hasRow r b) (eqb-refl r)))
-rest-fresh (sequence r a b) p s h =
-    rw (rest-fresh a p (s .3) (λ i t. h i (in-first i r a b t)), rest-fresh b p (s .4) (λ i t. h i (in-second i r a b t)))
-rest-fresh (parallel r a b) p s h =
-    rw (rest-fresh a p (s .3) (λ i t. h i (in-first i r a b t)), rest-fresh b p (s .4) (λ i t. h i (in-second i r a b t)))
-rest-fresh (assign r x e) p s h = rw (h r (eqb-refl r))
-rest-fresh (choice r m) p s h = ap (λ (z : Progress). ifTaken z (choice r m) (λ j. rest p j m)) (h r (in-own r r (hasRow r m) (eqb-refl r)))
-rest-fresh (branch r a b m) p s h = absurd s
-rest-fresh (lastBranch r a b) p s h = absurd s
-rest-fresh (waiting r o x) p s h = refl
-rest-fresh (answering r o c d) p s h = refl
+pub rest-fresh : (B : Behaviour) (p : Progresses) → Fresh p B → rest p B ≡ B
+unfolding rest hasRow
+rest-fresh (nil r) p h = refl
+rest-fresh (oneWay r o x) p h = rw (h r (eqb-refl r))
+rest-fresh (requestResponse r o x c d) p h = rw (h r (in-own r r (hasRow r d) (eqb-refl r)))
+rest-fresh (notification r o e) p h = rw (h r (eqb-refl r))
+rest-fresh (solicitResponse r o e x) p h = rw (h r (eqb-refl r))
+rest-fresh (ifThenElse r e a b) p h = rw (h r (in-own r r _ (eqb-refl r)))
+rest-fresh (whileDo r e b) p h = rw (h r (in-own r r (hasRow r b) (eqb-refl r)))
+rest-fresh (sequence r a b) p h =
+    rw (rest-fresh a p (λ i t. h i (in-first i r a b t)), rest-fresh b p (λ i t. h i (in-second i r a b t)))
+rest-fresh (parallel r a b) p h =
+    rw (rest-fresh a p (λ i t. h i (in-first i r a b t)), rest-fresh b p (λ i t. h i (in-second i r a b t)))
+rest-fresh (assign r x e) p h = rw (h r (eqb-refl r))
+rest-fresh (choice r m) p h = ap (λ (z : Progress). ifTaken z (choice r m) (λ j. branchRest p j m)) (h r (in-own r r (hasRowIn r m) (eqb-refl r)))
+rest-fresh (waiting r o x) p h = refl
+rest-fresh (answering r o c d) p h = refl
 
 -- A change at a reached part ---------------------------------------------------------------------------------------------------------
 
@@ -326,56 +244,56 @@ reaches-rows (atThen {r} {a} {b} e h) i t = in-first i r a b (reaches-rows h i t
 reaches-rows (atElse {r} {a} {b} k e h) i t = in-second i r a b (reaches-rows h i t)
 reaches-rows (atLoop {r} {b} k e h) i t = in-only i r b (reaches-rows h i t)
 reaches-rows (atServed {r} {d} to e h) i t = in-only i r d (reaches-rows h i t)
-reaches-rows (atBranch {r} {m} k e h) i t = in-only i r m (branch-rows m k i (reaches-rows h i t))
+reaches-rows (atBranch {r} {m} k e h) i t = in-branches i r m (branch-rows m k i (reaches-rows h i t))
 
 cast : {L L2 R R2 S S2 : Behaviour} → R ≡ S → R2 ≡ S2 → Active L L2 R R2 → Active L L2 S S2
 cast {L} {L2} {R} {R2} {S} {S2} p q h = subst (λ (z : Behaviour). Active L L2 S z) q (subst (λ (z : Behaviour). Active L L2 z R2) p h)
 
 -- What the rest of an if, while, request-response and choice is, once begun.
-pub rest-then : (p : Progresses) (r : ℕ) (e : Expression) (a b : Behaviour) → p r ≡ taken zero → rest p 0 (ifThenElse r e a b) ≡ rest p 0 a
+pub rest-then : (p : Progresses) (r : ℕ) (e : Expression) (a b : Behaviour) → p r ≡ taken zero → rest p (ifThenElse r e a b) ≡ rest p a
 unfolding rest
-rest-then p r e a b g = taken-at (p r) zero g (ifThenElse r e a b) (λ j. thenOrElse j (rest p 0 a) (rest p 0 b))
+rest-then p r e a b g = taken-at (p r) zero g (ifThenElse r e a b) (λ j. thenOrElse j (rest p a) (rest p b))
 
-pub rest-else : (p : Progresses) (r : ℕ) (e : Expression) (a b : Behaviour) (k : ℕ) → p r ≡ taken (suc k) → rest p 0 (ifThenElse r e a b) ≡ rest p 0 b
+pub rest-else : (p : Progresses) (r : ℕ) (e : Expression) (a b : Behaviour) (k : ℕ) → p r ≡ taken (suc k) → rest p (ifThenElse r e a b) ≡ rest p b
 unfolding rest
-rest-else p r e a b k g = taken-at (p r) (suc k) g (ifThenElse r e a b) (λ j. thenOrElse j (rest p 0 a) (rest p 0 b))
+rest-else p r e a b k g = taken-at (p r) (suc k) g (ifThenElse r e a b) (λ j. thenOrElse j (rest p a) (rest p b))
 
 pub rest-loop : (p : Progresses) (r : ℕ) (e : Expression) (b : Behaviour) (k : ℕ) → p r ≡ taken k
-    → rest p 0 (whileDo r e b) ≡ sequence r (rest p 0 b) (whileDo r e b)
+    → rest p (whileDo r e b) ≡ sequence r (rest p b) (whileDo r e b)
 unfolding rest
 rest-loop p r e b k g =
-    ap (λ (s : Progress). ifDone s (ifTaken s (whileDo r e b) (λ j. sequence r (rest p 0 b) (whileDo r e b))) (nil r)) g
+    ap (λ (s : Progress). ifDone s (ifTaken s (whileDo r e b) (λ j. sequence r (rest p b) (whileDo r e b))) (nil r)) g
 
 pub rest-served : (p : Progresses) (r : ℕ) (o : Operation) (x c : Path) (d : Behaviour) (to : ReplyTo) → p r ≡ received to
-    → rest p 0 (requestResponse r o x c d) ≡ answering r o c (rest p 0 d)
+    → rest p (requestResponse r o x c d) ≡ answering r o c (rest p d)
 unfolding rest
 rest-served p r o x c d to g =
-    ap (λ (s : Progress). ifDone s (ifReceived s (requestResponse r o x c d) (answering r o c (rest p 0 d))) (nil r)) g
+    ap (λ (s : Progress). ifDone s (ifReceived s (requestResponse r o x c d) (answering r o c (rest p d))) (nil r)) g
 
-pub rest-branch : (p : Progresses) (r : ℕ) (m : Behaviour) (k : ℕ) → p r ≡ taken k → rest p 0 (choice r m) ≡ rest p 0 (branchAt k m)
+pub rest-branch : (p : Progresses) (r : ℕ) (m : Branches) (k : ℕ) → p r ≡ taken k → rest p (choice r m) ≡ rest p (branchAt k m)
 unfolding rest
-rest-branch p r m k g = taken-at (p r) k g (choice r m) (λ j. rest p j m) ∙ branch-rest m k p
+rest-branch p r m k g = taken-at (p r) k g (choice r m) (λ j. branchRest p j m) ∙ branch-rest m k p
 
 -- q differs from p only in rows of X.
 abbrev pub Off : Progresses → Progresses → Behaviour → Type 0
 Off p q X = (i : ℕ) → (T (hasRow i X) → ⊥) → p i ≡ q i
 
-pub row-active : (p q : Progresses) (X B : Behaviour) → Reaches p X B → Once alone B → Off p q X
-    → Active (rest p 0 X) (rest q 0 X) (rest p 0 B) (rest q 0 B)
-unfolding rest Once
+pub row-active : (p q : Progresses) (X B : Behaviour) → Reaches p X B → EachRowOnce B → Off p q X
+    → Active (rest p X) (rest q X) (rest p B) (rest q B)
+unfolding rest EachRowOnce
 row-active p q X B atSelf s f = itself
 row-active p q X B (atFirst {r} {a} {b} h) s f =
-    let e = rest-same b 0 p q (λ i t. f i (λ u. s .2 i (reaches-rows h i u) t)) in
-    cast refl (ap (sequence r (rest q 0 a)) e) (inFirst (row-active p q X a h (s .3) f))
+    let e = rest-same b p q (λ i t. f i (λ u. s .2 i (reaches-rows h i u) t)) in
+    cast refl (ap (sequence r (rest q a)) e) (inFirst (row-active p q X a h (s .3) f))
 row-active p q X B (atSecond {r} {a} {b} d h) s f =
-    let e = rest-same a 0 p q (λ i t. f i (λ u. s .2 i t (reaches-rows h i u))) in
-    cast refl (ap (λ (z : Behaviour). sequence r z (rest q 0 b)) e) (inSecond (done-finished a p d) (row-active p q X b h (s .4) f))
+    let e = rest-same a p q (λ i t. f i (λ u. s .2 i t (reaches-rows h i u))) in
+    cast refl (ap (λ (z : Behaviour). sequence r z (rest q b)) e) (inSecond (done-finished a p d) (row-active p q X b h (s .4) f))
 row-active p q X B (atLeft {r} {a} {b} h) s f =
-    let e = rest-same b 0 p q (λ i t. f i (λ u. s .2 i (reaches-rows h i u) t)) in
-    cast refl (ap (parallel r (rest q 0 a)) e) (onLeft (row-active p q X a h (s .3) f))
+    let e = rest-same b p q (λ i t. f i (λ u. s .2 i (reaches-rows h i u) t)) in
+    cast refl (ap (parallel r (rest q a)) e) (onLeft (row-active p q X a h (s .3) f))
 row-active p q X B (atRight {r} {a} {b} h) s f =
-    let e = rest-same a 0 p q (λ i t. f i (λ u. s .2 i t (reaches-rows h i u))) in
-    cast refl (ap (λ (z : Behaviour). parallel r z (rest q 0 b)) e) (onRight (row-active p q X b h (s .4) f))
+    let e = rest-same a p q (λ i t. f i (λ u. s .2 i t (reaches-rows h i u))) in
+    cast refl (ap (λ (z : Behaviour). parallel r z (rest q b)) e) (onRight (row-active p q X b h (s .4) f))
 row-active p q X B (atThen {r} {e} {a} {b} g h) s f =
     let g2 : q r ≡ taken zero = sym (f r (λ u. s .0 (reaches-rows h r u))) ∙ g in
     cast (sym (rest-then p r e a b g)) (sym (rest-then q r e a b g2)) (row-active p q X a h (s .3) f)

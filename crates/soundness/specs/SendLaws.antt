@@ -9,32 +9,34 @@ use Rattle.forest.specs.Compare.{and-l, and-r, and-i}
 use Rattle.forest.specs.Forest.{Tree, tree, present}
 use Rattle.forest.specs.Path.{Path}
 use Rattle.scalar.specs.Value.{Value, pick}
-use Rattle.syntax.specs.Syntax.{some, Network, Operation, output, Expression, Behaviour, nil, oneWay, requestResponse, notification}
-use Rattle.syntax.specs.Syntax.{solicitResponse, ifThenElse, whileDo, sequence, parallel, assign, choice, branch, lastBranch, waiting, answering}
-use Rattle.syntax.specs.Rows.{rowOf, atRow, entry, isInputOperation}
-use Rattle.network.specs.Meets.{locationOf, inFile, sameKind, metInput, meets}
+use Rattle.syntax.specs.Syntax.{Optional, none, some, Network, Direction, Operation, output, Expression, Behaviour, notification, solicitResponse}
+use Rattle.syntax.specs.Rows.{rowOf, atRow, Output, outputOf, fromOutput, isInputOperation}
+use Rattle.syntax.specs.Meets.{inFile, metInput}
+use Rattle.network.specs.MeetsLaws.{met-input, met-entry}
 use Rattle.refusal.specs.declared.Refusal.the-variants.{MoveNotAllowed}
 use Rattle.subtyping.specs.Subtype.{Subtype}
 use Rattle.subtyping.specs.SubtypeLaws.{subtype-sound, subtype-trans}
 use Rattle.subtyping.specs.Own.{ownType, Fits}
 use Rattle.typing.specs.Rules.{permits}
+use Rattle.typing.specs.NetworkRules.{Agrees}
 use Rattle.tree.specs.Encode.{Octets, messageDeep, messageMany}
 use Rattle.tree.specs.Decode.{decodeMessage}
 use Rattle.tree.specs.DecodeLaws.{decode-sound}
-use Rattle.state.specs.Session.{ReplyTo, nobody, outsider, waitingRow, Progress, Progresses, done, waits, advance, Session, live, State}
+use Rattle.state.specs.Session.{ReplyTo, nobody, outsider, waitingRow, Progress, Progresses, done, waits, advance, Session, withProgress, live, State}
 use Rattle.state.specs.Session.{setSlot}
 use Rattle.state.specs.Bytes.{messageBytes}
 use Rattle.state.specs.Shape.{operationAt, isNobody, isDestination, suitsOperation}
 use Rattle.moves.specs.Readiness.{Reached, unreached, reached, offered, reach}
-use Rattle.moves.specs.Evaluation.{evaluate}
+use Rattle.moves.specs.Evaluation.{given, evaluate}
 use Rattle.moves.specs.Targets.{Target, noTarget, queueFull, queued, starts, target}
-use Rattle.moves.specs.Moves.{Result, moved, require, onTree, onOperation, onMessage, withProgress, mustFit, deliver, allowed, goneOn, sendInside}
-use Rattle.moves.specs.Moves.{sendOutside, sendBy, sendAt, sendReached, sendMove, isInputNamed, inputNamed, outerMessage}
+use Rattle.moves.specs.Moves.{Result, moved, require, onTree, onOperation, onMessage, mustFit, deliver, allowed, goneOn, sendInside}
+use Rattle.moves.specs.Moves.{sendOutside, sendBy, sendOutput, sendAt, sendReached, sendMove, isInputNamed, inputNamed, outerMessage}
 use Rattle.soundness.specs.GoodTrees.{GoodTree}
 use Rattle.soundness.specs.Parts.{Reaches}
-use Rattle.soundness.specs.ReachLaws.{Found, found-alone, clean-shut}
-use Rattle.soundness.specs.Accepted.{OfFile, MadeOf, Accepted, Agree}
-use Rattle.soundness.specs.MadeLaws.{made-at, reaches-atRow, some-inj}
+use Rattle.soundness.specs.ReachLaws.{Found, reach-found}
+use Rattle.soundness.specs.Accepted.{OfFile, MadeOf, Accepted}
+use Rattle.soundness.specs.MadeLaws.{made-at, plain-solicit, reaches-atRow}
+use Rattle.syntax.specs.ViewLaws.{some-inj, output-is}
 use Rattle.soundness.specs.Invariant.{Destination, SessionSound, Sound}
 use Rattle.soundness.specs.SessionLaws.{once-of, made-of, notification-sound, solicit-sound}
 use Rattle.soundness.specs.ResultLaws.{Keeps, keeps-15, by-require, by-undone, by-session, by-operation, by-message, by-pick, keeps-tree}
@@ -44,12 +46,6 @@ use Rattle.soundness.specs.DeliverLaws.{TargetInfo, target-info, Admits,
 
 solicit-same : {r r2 : ℕ} {o o2 : Operation} {e e2 : Expression} {x x2 : Path} → solicitResponse r o e x ≡ solicitResponse r2 o2 e2 x2 → o ≡ o2
 solicit-same h = cc
-
-same-bool : (a b : Bool) → T (sameKind a b) → a ≡ b
-same-bool true true t = refl
-same-bool true false t = absurd t
-same-bool false true t = absurd t
-same-bool false false t = refl
 
 module _ (N : Network) (rows : ℕ) (acc : Accepted N rows) where
   -- An operation found among the file's.
@@ -63,16 +59,13 @@ module _ (N : Network) (rows : ℕ) (acc : Accepted N rows) where
     pub alike : i .twoWay ≡ o .twoWay
 
   met : (o i : Operation) → metInput N o ≡ some i → Met o i
-  unfolding metInput meets
   met o i e =
-      let u = first-there (meets N o) (N .operations) i e in
-      let L = eqb (locationOf (entry (i .service) (N .services))) (o .location) in
-      let A = isInputOperation (i .direction) && L in
-      let B = eqb (i .id) (o .id) && sameKind (i .twoWay) (o .twoWay) in
+      let u = met-entry N o i e in
+      let m = met-input N o i e in
       record {
         ofFile = of-file (u .0) i (u .1);
-        isIn = and-l (isInputOperation (i .direction)) L (and-l A B (u .2));
-        alike = same-bool (i .twoWay) (o .twoWay) (and-r (eqb (i .id) (o .id)) (sameKind (i .twoWay) (o .twoWay)) (and-r A B (u .2)));
+        isIn = subst (λ (d : Direction). T (isInputOperation d)) (sym (m .incoming)) tt;
+        alike = m .sameWay;
       }
 
   pub suit-of : (i : Operation) (back : ReplyTo) → T (isInputOperation (i .direction)) → T (pick (i .twoWay) (isDestination N rows back) (isNobody back))
@@ -98,8 +91,8 @@ module _ (N : Network) (rows : ℕ) (acc : Accepted N rows) where
     p = S .progress
 
     send-by : (r : ℕ) (o : Operation) (e : Expression) (after : Progress) (back : ReplyTo) → OfFile N o → o .direction ≡ output
-        → (y : Tree Value) → evaluate (S .tree) e ≡ some y → Fits y (o .request) → GoodTree y → SessionSound N rows q n (withProgress S (advance p r after))
-        → ((i : Operation) → Met o i → Agree o i → Destination N i back × T (pick (i .twoWay) (isDestination N rows back) (isNobody back)))
+        → (y : Tree Value) → evaluate (S .tree) e ≡ given y → Fits y (o .request) → GoodTree y → SessionSound N rows q n (withProgress S (advance p r after))
+        → ((i : Operation) → Met o i → Agrees o i → Destination N i back × T (pick (i .twoWay) (isDestination N rows back) (isNobody back)))
         → Keeps N rows true (sendBy N G q n S to r o e after back)
     send-by r o e after back fo dir y ev fit gy hs dest =
         let G2 = goneOn N G q n S to r after in
@@ -128,24 +121,23 @@ module _ (N : Network) (rows : ℕ) (acc : Accepted N rows) where
         (λ t. keeps-tree N rows true (evaluate (S .tree) e) y K ev
         (keeps-fit N rows true y (o .request) (moved G2 (messageBytes y)) gy (fo2 .rising .0) (fo2 .smallRequest) fit h2)))
 
-    send-at : (X : Behaviour) → Reaches p X (h .what) → Keeps N rows true (sendAt N G q n S to X)
-    unfolding sendAt MadeOf rowOf
-    send-at (nil r) a = keeps-15 N rows true
-    send-at (oneWay r o x) a = keeps-15 N rows true
-    send-at (requestResponse r o x c d) a = keeps-15 N rows true
-    send-at (notification r o e) a =
+    send-by-output : (r : ℕ) (o : Operation) (e : Expression) (x : Optional Path)
+        → Reaches p (fromOutput (record { row = r; operation = o; message = e; into = x })) (h .what)
+        → Keeps N rows true (sendOutput N G q n S to (some (record { row = r; operation = o; message = e; into = x })))
+    unfolding MadeOf rowOf
+    send-by-output r o e none a =
         let made = made-at N rows a (made-of N rows acc q n (h .what) (h .runs)) in
         by-undone N rows true (p r) (require (permits q output false o) MoveNotAllowed (sendBy N G q n S to r o e done nobody))
         (λ t. by-require N rows true (permits q output false o) (sendBy N G q n S to r o e done nobody)
         (λ k. let u = notification-sound N rows acc q n S h r o e a t in
         send-by r o e done nobody (made .1) (permits-output q false o k) (u .0) (u .1) (u .2) (u .3) (u .4)
         (λ i m ag. (tt, subst (λ (b : Bool). T (pick b (isDestination N rows nobody) (isNobody nobody))) (sym (m .alike ∙ permits-one q output o k)) tt))))
-    send-at (solicitResponse r o e x) a =
+    send-by-output r o e (some x) a =
         let X = solicitResponse r o e x in
         let mB = made-of N rows acc q n (h .what) (h .runs) in
         let made = made-at N rows a mB in
         let on = once-of N rows acc q n (h .what) (h .runs) in
-        let at = reaches-atRow p X (h .what) refl on a in
+        let at = reaches-atRow p X (h .what) (plain-solicit r o e x) on a in
         let place = behaviour-place N q n (h .what) (h .runs) in
         let R = sendBy N G q n S to r o e waits (waitingRow q n r) in
         by-undone N rows true (p r) (require (permits q output true o) MoveNotAllowed R)
@@ -161,16 +153,15 @@ module _ (N : Network) (rows : ℕ) (acc : Accepted N rows) where
               (and-i (ltb q (length (N .services))) (leb n 3 && ltb r rows) (lt→ltb q (length (N .services)) (place .0))
               (and-i (leb n 3) (ltb r rows) (le→leb n 3 (place .1)) (lt→ltb r rows (made .0)))),
         ))))
-    send-at (ifThenElse r e x y) a = keeps-15 N rows true
-    send-at (whileDo r e b) a = keeps-15 N rows true
-    send-at (sequence r x y) a = keeps-15 N rows true
-    send-at (parallel r x y) a = keeps-15 N rows true
-    send-at (assign r x e) a = keeps-15 N rows true
-    send-at (choice r m) a = keeps-15 N rows true
-    send-at (branch r x y m) a = keeps-15 N rows true
-    send-at (lastBranch r x y) a = keeps-15 N rows true
-    send-at (waiting r o x) a = keeps-15 N rows true
-    send-at (answering r o c d) a = keeps-15 N rows true
+
+    send-at : (X : Behaviour) → Reaches p X (h .what) → Keeps N rows true (sendAt N G q n S to X)
+    unfolding sendAt
+    send-at X a = seen (outputOf X) refl
+      where
+        seen : (u : Optional Output) → outputOf X ≡ u → Keeps N rows true (sendOutput N G q n S to u)
+        seen none e = keeps-15 N rows true
+        seen (some u) e =
+            send-by-output (u .row) (u .operation) (u .message) (u .into) (subst (λ (z : Behaviour). Reaches p z (h .what)) (output-is X u e) a)
 
     send-reached : (i : ℕ) (l : Reached) → Found p i (h .what) l → Keeps N rows true (sendReached N G q n S to l)
     send-reached i unreached f = keeps-15 N rows true
@@ -179,12 +170,12 @@ module _ (N : Network) (rows : ℕ) (acc : Accepted N rows) where
 
   pub send-move : (G : State) → Sound N rows G → (q n r to : ℕ) → Keeps N rows true (sendMove N G q n r to)
   send-move G hG q n r to =
-      by-session N rows true G q n (λ B S. sendReached N G q n S to (reach (S .progress) 0 r B))
+      by-session N rows true G q n (λ B S. sendReached N G q n S to (reach (S .progress) r B))
       (λ B S e eS.
       let h = hG .sessions q n S eS in
       let on = once-of N rows acc q n (h .what) (h .runs) in
-      subst (λ (z : Behaviour). Keeps N rows true (sendReached N G q n S to (reach (S .progress) 0 r z))) (some-inj (sym (h .runs) ∙ e))
-      (send-reached G hG q n S eS h to r (reach (S .progress) 0 r (h .what)) (found-alone (S .progress) r (h .what) on (clean-shut N rows (S .progress) (h .what) (h .clean) (h .suit)))))
+      subst (λ (z : Behaviour). Keeps N rows true (sendReached N G q n S to (reach (S .progress) r z))) (some-inj (sym (h .runs) ∙ e))
+      (send-reached G hG q n S eS h to r (reach (S .progress) r (h .what)) (reach-found (S .progress) r (h .what) on (h .clean))))
 
   -- A message from outside, of bytes, with a u32 reply number.
   pub decoded-good : (bytes : List ℕ) (m : Tree Value) → Octets bytes → decodeMessage bytes ≡ present m → GoodTree m

@@ -12,9 +12,9 @@ use Rattle.forest.specs.Path.{Path, read, replaceAt, setPayloadAt}
 use Rattle.scalar.specs.Basic.{bool}
 use Rattle.scalar.specs.Value.{Value, basicOf, pick}
 use Rattle.syntax.specs.Syntax.{Types, Expression, some, Network, Operation, Behaviour, nil, oneWay, requestResponse, notification, solicitResponse}
-use Rattle.syntax.specs.Syntax.{ifThenElse, whileDo, sequence, assign, choice, waiting, answering}
-use Rattle.syntax.specs.Rows.{hasRow}
-use Rattle.network.specs.Shapes.{alone, inChoice}
+use Rattle.syntax.specs.Syntax.{ifThenElse, whileDo, sequence, assign, choice, waiting, answering, Branches}
+use Rattle.syntax.specs.Rows.{hasRow, hasRowIn}
+use Rattle.network.specs.Shapes.{Outside, OutsideBranches, EachRowOnce}
 use Rattle.network.specs.OnceLaws.{or-case}
 use Rattle.subtyping.specs.Subtype.{Subtypes}
 use Rattle.subtyping.specs.Own.{ownTypes, Fits}
@@ -25,25 +25,25 @@ use Rattle.typing.specs.OccursLaws.{or-l, or-r}
 use Rattle.typing.specs.Rules.{WellSorted}
 use Rattle.typing.specs.Typed.{Typed}
 use Rattle.typing.specs.TypedLaws.{by-bool, within-before}
-use Rattle.state.specs.Session.{ReplyTo, Progress, Progresses, undone, done, waits, received, taken, advance, reopen, Queued, Session}
+use Rattle.state.specs.Session.{ReplyTo, Progress, Progresses, undone, done, waits, received, taken, advance, reopen, Queued, Session, withTree, withQueue, withProgress}
 use Rattle.state.specs.Shape.{behaviourIn, isDestination, undoneOrDone, undoneDoneOrWaits, undoneDoneOrReceived, undoneOrTaken, undoneDoneOrBody}
-use Rattle.state.specs.Shape.{branches, suits}
-use Rattle.moves.specs.Readiness.{ifDone, ifWaits, ifReceived, ifTaken, thenOrElse, isDone, rest}
-use Rattle.moves.specs.Evaluation.{evaluate}
-use Rattle.moves.specs.Moves.{rootValue, voidValue, withTree, withProgress, withQueue}
+use Rattle.state.specs.Shape.{branches, suits, suitsBranches}
+use Rattle.moves.specs.Readiness.{ifDone, ifWaits, ifReceived, ifTaken, thenOrElse, isDone, branchDone, rest, branchRest}
+use Rattle.moves.specs.Evaluation.{given, evaluate}
+use Rattle.moves.specs.Moves.{rootValue, voidValue}
 use Rattle.soundness.specs.GoodTrees.{Good, GoodTree}
 use Rattle.soundness.specs.GoodTreesLaws.{replace-good, payload-set-good}
 use Rattle.soundness.specs.EvaluationLaws.{progress, root-proper}
-use Rattle.soundness.specs.Parts.{branchAt, NotIn, Once, Fresh, Clean, Reaches, atSelf, atServed, atLoop}
+use Rattle.soundness.specs.Parts.{branchAt, Fresh, FreshBranches, Clean, Reaches, atSelf, atServed, atLoop}
 use Rattle.soundness.specs.ContextLaws.{finished-same, Active, hole}
-use Rattle.soundness.specs.RowLaws.{in-own, branch-rows, branch-once, rest-fresh, rest-then, rest-else, rest-loop, rest-served, rest-branch}
+use Rattle.soundness.specs.RowLaws.{in-own, branch-rows, rest-fresh, rest-then, rest-else, rest-loop, rest-served, rest-branch}
 use Rattle.soundness.specs.RowLaws.{done-finished, reaches-rows, row-active, Off}
-use Rattle.soundness.specs.CleanLaws.{clean-same, clean-fresh, clean-at, clean-move, once-at, undone-taken, suits-same, suits-fresh, suits-at}
+use Rattle.soundness.specs.CleanLaws.{clean-same, clean-fresh, clean-at, clean-move, once-at, clean-fresh-branches, undone-taken, undone-untaken, suits-same, suits-fresh, suits-fresh-branches, suits-at}
 use Rattle.soundness.specs.CleanLaws.{suits-move, of-two, three}
 use Rattle.soundness.specs.ReachLaws.{open-below, open-change, open-undone, reaches-done}
 use Rattle.soundness.specs.Parts.{isOpen, Opens, asking, serving}
 use Rattle.soundness.specs.Accepted.{MadeOf, Accepted}
-use Rattle.soundness.specs.MadeLaws.{once, made-at, made-sorted, rest-sorted}
+use Rattle.soundness.specs.MadeLaws.{made-at, made-sorted, rest-sorted}
 use Rattle.soundness.specs.LeafLaws.{Leaf, assigns, takesThen, takesElse, enters, leaves, reenters, ends, receivesOne, receivesTwo, getsReply}
 use Rattle.soundness.specs.LeafLaws.{notifies, asks, answers, selects, reduction, condition-gives, send-gives, reply-gives}
 use Rattle.soundness.specs.Invariant.{Answers, QueuedSound, AllQueued, SessionSound}
@@ -60,8 +60,12 @@ pub advance-other : (p : Progresses) (r : ℕ) (s : Progress) (i : ℕ) → (T (
 advance-other p r s i f = sym (ap (λ (b : Bool). pick b s (p i)) (not-T-false (eqb i r) f))
 
 -- Rows of a part without r.
-pub advance-below : (p : Progresses) (r : ℕ) (s : Progress) (d : Behaviour) → NotIn r d → (i : ℕ) → T (hasRow i d) → p i ≡ advance p r s i
+pub advance-below : (p : Progresses) (r : ℕ) (s : Progress) (d : Behaviour) → Outside r d → (i : ℕ) → T (hasRow i d) → p i ≡ advance p r s i
 advance-below p r s d n i t = advance-other p r s i (λ e. n (subst (λ (z : ℕ). T (hasRow z d)) (eqb→eq i r e) t))
+
+pub advance-below-branches : (p : Progresses) (r : ℕ) (s : Progress) (m : Branches) → OutsideBranches r m → (i : ℕ) → T (hasRowIn i m)
+    → p i ≡ advance p r s i
+advance-below-branches p r s m n i t = advance-other p r s i (λ e. n (subst (λ (z : ℕ). T (hasRowIn z m)) (eqb→eq i r e) t))
 
 advance-off : (p : Progresses) (r : ℕ) (s : Progress) (X : Behaviour) → ((i : ℕ) → T (eqb i r) → T (hasRow i X)) → Off p (advance p r s) X
 advance-off p r s X h i f = advance-other p r s i (λ t. f (h i t))
@@ -113,7 +117,7 @@ reopen-at p b i t = ap (λ (c : Bool). pick c undone (p i)) (of-T (hasRow i b) t
 reopen-other : (p : Progresses) (b : Behaviour) (i : ℕ) → (T (hasRow i b) → ⊥) → p i ≡ reopen p b i
 reopen-other p b i f = sym (ap (λ (c : Bool). pick c undone (p i)) (not-T-false (hasRow i b) f))
 
-again-fresh : (p : Progresses) (r : ℕ) (b : Behaviour) → NotIn r b → Fresh (advance (reopen p b) r (taken 0)) b
+again-fresh : (p : Progresses) (r : ℕ) (b : Behaviour) → Outside r b → Fresh (advance (reopen p b) r (taken 0)) b
 again-fresh p r b n i t = sym (advance-below (reopen p b) r (taken 0) b n i t) ∙ reopen-at p b i t
 
 again-off : (p : Progresses) (r : ℕ) (e : Expression) (b : Behaviour) → Off p (advance (reopen p b) r (taken 0)) (whileDo r e b)
@@ -122,16 +126,16 @@ again-off p r e b i f =
     reopen-other p b i (λ t. f (or-r (eqb i r) (hasRow i b) t)) ∙ advance-other (reopen p b) r (taken 0) i (λ t. f (or-l (eqb i r) (hasRow i b) t))
 
 -- An if, a while and a choice that are not begun are not done.
-if-undone : (p : Progresses) (r : ℕ) (e : Expression) (x y : Behaviour) → p r ≡ undone → T (isDone p 0 (ifThenElse r e x y)) → ⊥
+if-undone : (p : Progresses) (r : ℕ) (e : Expression) (x y : Behaviour) → p r ≡ undone → T (isDone p (ifThenElse r e x y)) → ⊥
 unfolding isDone
-if-undone p r e x y t z = subst (λ (s : Progress). T (ifTaken s false (λ j. thenOrElse j (isDone p 0 x) (isDone p 0 y)))) t z
+if-undone p r e x y t z = subst (λ (s : Progress). T (ifTaken s false (λ j. thenOrElse j (isDone p x) (isDone p y)))) t z
 
-choice-undone : (p : Progresses) (r : ℕ) (m : Behaviour) → p r ≡ undone → T (isDone p 0 (choice r m)) → ⊥
+choice-undone : (p : Progresses) (r : ℕ) (m : Branches) → p r ≡ undone → T (isDone p (choice r m)) → ⊥
 unfolding isDone
-choice-undone p r m t z = subst (λ (s : Progress). T (ifTaken s false (λ j. isDone p j m))) t z
+choice-undone p r m t z = subst (λ (s : Progress). T (ifTaken s false (λ j. branchDone p j m))) t z
 
 -- Nothing is open below a while that is at its test, or below a request-response whose body is done, but that row itself.
-quiet-while : (p : Progresses) {i r : ℕ} {W b : Behaviour} {e : Expression} → Opens i W → T (isOpen (p i)) → T (isDone p 0 b)
+quiet-while : (p : Progresses) {i r : ℕ} {W b : Behaviour} {e : Expression} → Opens i W → T (isOpen (p i)) → T (isDone p b)
     → Reaches p W (whileDo r e b) → ⊥
 quiet-while p asking g d (atLoop k z h) = open-undone p asking g (reaches-done p h d)
 quiet-while p serving g d (atLoop k z h) = open-undone p serving g (reaches-done p h d)
@@ -140,7 +144,7 @@ quiet-first : (p : Progresses) {i r : ℕ} {W b : Behaviour} {e : Expression} �
 quiet-first p {i} {r} asking t (atLoop k z h) = undone-taken (p r) z t
 quiet-first p {i} {r} serving t (atLoop k z h) = undone-taken (p r) z t
 
-quiet-served : (p : Progresses) {i r : ℕ} {W d : Behaviour} {o : Operation} {x c : Path} → Opens i W → T (isOpen (p i)) → T (isDone p 0 d)
+quiet-served : (p : Progresses) {i r : ℕ} {W d : Behaviour} {o : Operation} {x c : Path} → Opens i W → T (isOpen (p i)) → T (isDone p d)
     → Reaches p W (requestResponse r o x c d) → T (eqb i r)
 quiet-served p asking g d (atServed to z h) = absurd (open-undone p asking g (reaches-done p h d))
 quiet-served p {i} serving g d atSelf = eqb-refl i
@@ -160,7 +164,7 @@ queue-added N rows q (x ∷ l) m a s = (a .0, queue-added N rows q l m (a .1) s)
 
 module _ (N : Network) (rows : ℕ) (acc : Accepted N rows) where
   pub record Change (B : Behaviour) (F : Forest Value) (p : Progresses) (X : Behaviour) (F2 : Forest Value) (p2 : Progresses) : Type 0 where
-    pub undoneBefore : T (isDone p 0 X) → ⊥
+    pub undoneBefore : T (isDone p X) → ⊥
     pub off : Off p p2 X
     pub clean : Clean p2 X
     pub suit : T (suits N rows p2 X)
@@ -169,12 +173,12 @@ module _ (N : Network) (rows : ℕ) (acc : Accepted N rows) where
     pub good : Good F2
     pub before : Behaviour
     pub after : Behaviour
-    pub isBefore : rest p 0 X ≡ before
-    pub isAfter : rest p2 0 X ≡ after
+    pub isBefore : rest p X ≡ before
+    pub isAfter : rest p2 X ≡ after
     pub leaf : Leaf F before F2 after
 
-  pub once-of : (q n : ℕ) (B : Behaviour) → behaviourIn N q n ≡ some B → Once alone B
-  once-of q n B e = let f = acc .behaviours q n B e in once B alone (f .eachOnce) (f .standing)
+  pub once-of : (q n : ℕ) (B : Behaviour) → behaviourIn N q n ≡ some B → EachRowOnce B
+  once-of q n B e = acc .behaviours q n B e .eachOnce
 
   pub made-of : (q n : ℕ) (B : Behaviour) → behaviourIn N q n ≡ some B → MadeOf N rows B
   made-of q n B e = acc .behaviours q n B e .made
@@ -186,7 +190,7 @@ module _ (N : Network) (rows : ℕ) (acc : Accepted N rows) where
     abbrev B : Behaviour
     B = h .what
 
-    onceB : Once alone B
+    onceB : EachRowOnce B
     onceB = once-of q n B (h .runs)
 
     madeB : MadeOf N rows B
@@ -195,14 +199,14 @@ module _ (N : Network) (rows : ℕ) (acc : Accepted N rows) where
     sortedB : WellSorted B
     sortedB = made-sorted N rows acc B madeB
 
-    sorted-at : (X : Behaviour) → Reaches p X B → WellSorted (rest p 0 X)
-    sorted-at X a = rest-sorted X 0 p (made-sorted N rows acc X (made-at N rows a madeB))
+    sorted-at : (X : Behaviour) → Reaches p X B → WellSorted (rest p X)
+    sorted-at X a = rest-sorted X p (made-sorted N rows acc X (made-at N rows a madeB))
 
     pub changed : (X : Behaviour) → Reaches p X B → (F2 : Forest Value) (p2 : Progresses) → Change B (S .tree) p X F2 p2 → (l : List Queued) → length l ≤ 4
-        → AllQueued N rows q l → SessionSound N rows q n (record { tree = F2; queue = l; progress = p2 })
+        → AllQueued N rows q l → SessionSound N rows q n (withQueue (withProgress (withTree S F2) p2) l)
     changed X a F2 p2 c l few ql =
         let act = row-active p p2 X B a onceB (c .off) in
-        let act2 = subst (λ (z : Behaviour). Active z (rest p2 0 X) (rest p 0 B) (rest p2 0 B)) (c .isBefore) act in
+        let act2 = subst (λ (z : Behaviour). Active z (rest p2 X) (rest p B) (rest p2 B)) (c .isBefore) act in
         record {
           what = B;
           runs = h .runs;
@@ -214,16 +218,16 @@ module _ (N : Network) (rows : ℕ) (acc : Accepted N rows) where
           opened = open-change p p2 X B onceB a (c .undoneBefore) (c .off) (c .opens) (h .opened);
           replies = c .replies;
           good = c .good;
-          well = reduction q (c .leaf) (subst (λ (z : Behaviour). Active (c .before) z (rest p 0 B) (rest p2 0 B)) (c .isAfter) act2) (h .good)
-              (subst WellSorted (c .isBefore) (sorted-at X a)) (rest-sorted B 0 p sortedB) (h .well);
+          well = reduction q (c .leaf) (subst (λ (z : Behaviour). Active (c .before) z (rest p B) (rest p2 B)) (c .isAfter) act2) (h .good)
+              (subst WellSorted (c .isBefore) (sorted-at X a)) (rest-sorted B p sortedB) (h .well);
           few = few;
           queued = ql;
         }
 
     -- A reached row's rest is typed in the session's own environment.
-    row-typed : (X : Behaviour) → Reaches p X B → (Δ : Types) × Typed q (rest p 0 X) (h .well .env) Δ
+    row-typed : (X : Behaviour) → Reaches p X B → (Δ : Types) × Typed q (rest p X) (h .well .env) Δ
     row-typed X a =
-        let u = hole q (λ i t. t) (sorted-at X a) (row-active p p X B a onceB (λ i f. refl)) (rest-sorted B 0 p sortedB) (h .well .env) (h .last)
+        let u = hole q (λ i t. t) (sorted-at X a) (row-active p p X B a onceB (λ i f. refl)) (rest-sorted B p sortedB) (h .well .env) (h .last)
         (h .well .rising) (h .well .typed) in
         (u .mid, u .part)
 
@@ -232,14 +236,14 @@ module _ (N : Network) (rows : ℕ) (acc : Accepted N rows) where
     tree-limit =
         let F = S .tree in
         let Γ = h .well .env in
-        let t = within-before q (rest p 0 B) Γ (h .last) (rest-sorted B 0 p sortedB) (h .well .typed) (h .limit) in
+        let t = within-before q (rest p B) Γ (h .last) (rest-sorted B p sortedB) (h .well .typed) (h .limit) in
         within-smaller F Γ (tree-within (_+_) sums F Γ (h .good .0) (h .well .rising) (h .well .fit))
         (tree-within max maxima F Γ (h .good .0) (h .well .rising) (h .well .fit)) t
 
     -- A step that advances the row r of X to s.
-    advanced : (X : Behaviour) (r : ℕ) (s : Progress) (F2 : Forest Value) → ((i : ℕ) → T (eqb i r) → T (hasRow i X)) → (T (isDone p 0 X) → ⊥)
+    advanced : (X : Behaviour) (r : ℕ) (s : Progress) (F2 : Forest Value) → ((i : ℕ) → T (eqb i r) → T (hasRow i X)) → (T (isDone p X) → ⊥)
         → ((i : ℕ) → T (hasRow i X) → T (isOpen (p i)) → T (eqb i r)) → (T (isOpen s) → Opens r X) → ((to : ReplyTo) → s ≡ received to → Answers N B r to)
-        → Clean (advance p r s) X → T (suits N rows (advance p r s) X) → Good F2 → (L L2 : Behaviour) → rest p 0 X ≡ L → rest (advance p r s) 0 X ≡ L2
+        → Clean (advance p r s) X → T (suits N rows (advance p r s) X) → Good F2 → (L L2 : Behaviour) → rest p X ≡ L → rest (advance p r s) X ≡ L2
         → Leaf (S .tree) L F2 L2 → Change B (S .tree) p X F2 (advance p r s)
     advanced X r s F2 own nd only new ans cl su gd L L2 e1 e2 lf =
         record {
@@ -261,8 +265,8 @@ module _ (N : Network) (rows : ℕ) (acc : Accepted N rows) where
 
     -- Local: assign.
     pub assign-sound : (r : ℕ) (x : Path) (e : Expression) → Reaches p (assign r x e) B → p r ≡ undone
-        → (y : Tree Value) × (evaluate (S .tree) e ≡ some y) × SessionSound N rows q n
-        (withTree S (setPayloadAt voidValue x (rootValue y) (S .tree)) (advance p r done))
+        → (y : Tree Value) × (evaluate (S .tree) e ≡ given y) × SessionSound N rows q n
+        (withProgress (withTree S (setPayloadAt voidValue x (rootValue y) (S .tree))) (advance p r done))
     unfolding Typed MadeOf isDone hasRow rest Clean suits
     assign-sound r x e a t =
         let X = assign r x e in
@@ -286,7 +290,7 @@ module _ (N : Network) (rows : ℕ) (acc : Accepted N rows) where
     -- Receive: one-way.
     pub oneWay-sound : (r : ℕ) (o : Operation) (x : Path) (m : Tree Value) → Reaches p (oneWay r o x) B → p r ≡ undone → GoodTree m → Fits m (o .request)
         → (l : List Queued) → length l ≤ 4 → AllQueued N rows q l
-        → SessionSound N rows q n (record { tree = replaceAt voidValue x m (S .tree); queue = l; progress = advance p r done })
+        → SessionSound N rows q n (withQueue (withProgress (withTree S (replaceAt voidValue x m (S .tree))) (advance p r done)) l)
     unfolding MadeOf isDone hasRow rest Clean suits
     oneWay-sound r o x m a t gm f l few ql =
         let X = oneWay r o x in
@@ -300,7 +304,7 @@ module _ (N : Network) (rows : ℕ) (acc : Accepted N rows) where
 
     -- Send: notification. What is sent is there and fits.
     pub notification-sound : (r : ℕ) (o : Operation) (e : Expression) → Reaches p (notification r o e) B → p r ≡ undone
-        → (y : Tree Value) × (evaluate (S .tree) e ≡ some y) × Fits y (o .request) × GoodTree y × SessionSound N rows q n (withProgress S (advance p r done))
+        → (y : Tree Value) × (evaluate (S .tree) e ≡ given y) × Fits y (o .request) × GoodTree y × SessionSound N rows q n (withProgress S (advance p r done))
     unfolding Typed MadeOf isDone hasRow rest Clean suits
     notification-sound r o e a t =
         let X = notification r o e in
@@ -321,7 +325,7 @@ module _ (N : Network) (rows : ℕ) (acc : Accepted N rows) where
 
     -- Send: solicit-response, which then waits.
     pub solicit-sound : (r : ℕ) (o : Operation) (e : Expression) (x : Path) → Reaches p (solicitResponse r o e x) B → p r ≡ undone
-        → (y : Tree Value) × (evaluate (S .tree) e ≡ some y) × Fits y (o .request) × GoodTree y × SessionSound N rows q n (withProgress S (advance p r waits))
+        → (y : Tree Value) × (evaluate (S .tree) e ≡ given y) × Fits y (o .request) × GoodTree y × SessionSound N rows q n (withProgress S (advance p r waits))
     unfolding Typed MadeOf isDone hasRow rest Clean suits
     solicit-sound r o e x a t =
         let X = solicitResponse r o e x in
@@ -343,7 +347,7 @@ module _ (N : Network) (rows : ℕ) (acc : Accepted N rows) where
     -- A waiting row takes its reply.
     pub waiting-sound : (r : ℕ) (o : Operation) (e : Expression) (x : Path) (m : Tree Value) → Reaches p (solicitResponse r o e x) B → p r ≡ waits
         → GoodTree m
-        → Fits m (o .reply) → SessionSound N rows q n (withTree S (replaceAt voidValue x m (S .tree)) (advance p r done))
+        → Fits m (o .reply) → SessionSound N rows q n (withProgress (withTree S (replaceAt voidValue x m (S .tree))) (advance p r done))
     unfolding MadeOf isDone hasRow rest Clean suits
     waiting-sound r o e x m a t gm f =
         let X = solicitResponse r o e x in
@@ -361,8 +365,8 @@ module _ (N : Network) (rows : ℕ) (acc : Accepted N rows) where
     pub request-sound : (r : ℕ) (o : Operation) (x c : Path) (d : Behaviour) (m : Tree Value) (to : ReplyTo) → Reaches p (requestResponse r o x c d) B
         → p r ≡ undone
         → GoodTree m → Fits m (o .request) → T (isDestination N rows to) → Answers N B r to → (l : List Queued) → length l ≤ 4 → AllQueued N rows q l
-        → SessionSound N rows q n (record { tree = replaceAt voidValue x m (S .tree); queue = l; progress = advance p r (received to) })
-    unfolding MadeOf isDone hasRow rest Clean suits Once
+        → SessionSound N rows q n (withQueue (withProgress (withTree S (replaceAt voidValue x m (S .tree))) (advance p r (received to))) l)
+    unfolding MadeOf isDone hasRow rest Clean suits EachRowOnce
     request-sound r o x c d m to a t gm f dest ans l few ql =
         let X = requestResponse r o x c d in
         let p2 = advance p r (received to) in
@@ -371,7 +375,7 @@ module _ (N : Network) (rows : ℕ) (acc : Accepted N rows) where
         let cx = clean-at a (h .clean) in
         let same = advance-below p r (received to) d (od .0) in
         let fr : Fresh p2 d = λ i u. sym (same i u) ∙ cx .0 t i u in
-        let sd : T (suits N rows p2 d) = suits-fresh N rows d alone p2 (od .1) fr in
+        let sd : T (suits N rows p2 d) = suits-fresh N rows d p2 fr in
         changed X a F2 p2
         (advanced X r (received to) F2 (λ i z. in-own i r (hasRow i d) z) (λ z. undone-not-done (p r) t z)
         (λ i z w. or-case (eqb i r) (hasRow i d) (λ v. v) (λ v. absurd (undone-open (p i) (cx .0 t i v) w)) z) (λ z. serving)
@@ -380,23 +384,23 @@ module _ (N : Network) (rows : ℕ) (acc : Accepted N rows) where
         (and-i (undoneDoneOrReceived N rows (p2 r)) (suits N rows p2 d)
         (subst (λ (s : Progress). T (undoneDoneOrReceived N rows s)) (sym (advance-same p r (received to))) dest) sd)
         (replace-good x m (S .tree) (made-at N rows a madeB .2) gm (h .good)) X (answering r o c d)
-        (ap (λ (s : Progress). ifDone s (ifReceived s X (answering r o c (rest p 0 d))) (nil r)) t)
-        (rest-served p2 r o x c d to (advance-same p r (received to)) ∙ ap (answering r o c) (rest-fresh d p2 (od .1) fr)) (receivesTwo m f))
+        (ap (λ (s : Progress). ifDone s (ifReceived s X (answering r o c (rest p d))) (nil r)) t)
+        (rest-served p2 r o x c d to (advance-same p r (received to)) ∙ ap (answering r o c) (rest-fresh d p2 fr)) (receivesTwo m f))
         l few ql
 
     -- Reply: what is answered is there, and fits.
     pub answer-sound : (r : ℕ) (o : Operation) (x c : Path) (d : Behaviour) (to : ReplyTo) → Reaches p (requestResponse r o x c d) B → p r ≡ received to
-        → T (isDone p 0 d)
+        → T (isDone p d)
         → (y : Tree Value) × (read c (S .tree) ≡ present y) × Fits y (o .reply) × GoodTree y × SessionSound N rows q n (withProgress S (advance p r done))
-    unfolding Typed MadeOf isDone hasRow rest Clean suits Once
+    unfolding Typed MadeOf isDone hasRow rest Clean suits EachRowOnce
     answer-sound r o x c d to a t dn =
         let X = requestResponse r o x c d in
         let p2 = advance p r done in
         let u = row-typed X a in
         let e1 = rest-served p r o x c d to t in
         let fd = done-finished d p dn in
-        let k : Typed q (answering r o c (rest p 0 d)) (h .well .env) (u .0) = subst (λ (z : Behaviour). Typed q z (h .well .env) (u .0)) e1 (u .1) in
-        let ed = finished-same q (rest p 0 d) (h .well .env) (u .0) fd (k .1) in
+        let k : Typed q (answering r o c (rest p d)) (h .well .env) (u .0) = subst (λ (z : Behaviour). Typed q z (h .well .env) (u .0)) e1 (u .1) in
+        let ed = finished-same q (rest p d) (h .well .env) (u .0) fd (k .1) in
         let g = reply-gives q (S .tree) (u .0) c (o .reply) (h .good) (subst (λ (z : Types). Subtypes (ownTypes (S .tree)) z) ed (h .well .fit)) (k .2) in
         let od = once-at a onceB in
         let cx = clean-at a (h .clean) in
@@ -414,17 +418,17 @@ module _ (N : Network) (rows : ℕ) (acc : Accepted N rows) where
               (and-i (undoneDoneOrReceived N rows (p2 r)) (suits N rows p2 d)
               (subst (λ (s : Progress). T (undoneDoneOrReceived N rows s)) (sym (advance-same p r done)) tt)
               (subst T (suits-same N rows d p p2 same) (sx .1)))
-              (h .good) (answering r o c (rest p 0 d)) (nil r) e1
-              (ap (λ (s : Progress). ifDone s (ifReceived s X (answering r o c (rest p2 0 d))) (nil r)) (advance-same p r done)) (answers fd))
+              (h .good) (answering r o c (rest p d)) (nil r) e1
+              (ap (λ (s : Progress). ifDone s (ifReceived s X (answering r o c (rest p2 d))) (nil r)) (advance-same p r done)) (answers fd))
               (S .queue) (h .few) (h .queued),
         )
 
     -- Local: if. Its condition is a bool, and either side may be taken.
     if-taken : (r : ℕ) (e : Expression) (x y : Behaviour) → Reaches p (ifThenElse r e x y) B → p r ≡ undone → (k : ℕ) (L2 : Behaviour) → T (ltb k 2)
-        → ((p2 : Progresses) → p2 r ≡ taken k → Fresh p2 x → Fresh p2 y → rest p2 0 (ifThenElse r e x y) ≡ L2)
+        → ((p2 : Progresses) → p2 r ≡ taken k → Fresh p2 x → Fresh p2 y → rest p2 (ifThenElse r e x y) ≡ L2)
         → Leaf (S .tree) (ifThenElse r e x y) (S .tree) L2
         → SessionSound N rows q n (withProgress S (advance p r (taken k)))
-    unfolding isDone hasRow rest Clean suits Once
+    unfolding isDone hasRow rest Clean suits EachRowOnce
     if-taken r e x y a t k L2 small e2 lf =
         let X = ifThenElse r e x y in
         let p2 = advance p r (taken k) in
@@ -442,34 +446,34 @@ module _ (N : Network) (rows : ℕ) (acc : Accepted N rows) where
         ((λ z. fx), (λ z. fy), clean-fresh x p2 fx, clean-fresh y p2 fy)
         (three N rows (undoneOrTaken 2 (p2 r)) (suits N rows p2 x) (suits N rows p2 y)
         (subst (λ (s : Progress). T (undoneOrTaken 2 s)) (sym (advance-same p r (taken k))) small)
-        (suits-fresh N rows x alone p2 (od .3) fx) (suits-fresh N rows y alone p2 (od .4) fy))
-        (h .good) X L2 (ap (λ (s : Progress). ifTaken s X (λ j. thenOrElse j (rest p 0 x) (rest p 0 y))) t) (e2 p2 (advance-same p r (taken k)) fx fy) lf)
+        (suits-fresh N rows x p2 fx) (suits-fresh N rows y p2 fy))
+        (h .good) X L2 (ap (λ (s : Progress). ifTaken s X (λ j. thenOrElse j (rest p x) (rest p y))) t) (e2 p2 (advance-same p r (taken k)) fx fy) lf)
         (S .queue) (h .few) (h .queued)
 
     pub if-sound : (r : ℕ) (e : Expression) (x y : Behaviour) → Reaches p (ifThenElse r e x y) B → p r ≡ undone
-        → (v : Tree Value) × (evaluate (S .tree) e ≡ some v) × (basicOf (rootValue v) ≡ bool)
+        → (v : Tree Value) × (evaluate (S .tree) e ≡ given v) × (basicOf (rootValue v) ≡ bool)
         × SessionSound N rows q n (withProgress S (advance p r (taken 0))) × SessionSound N rows q n (withProgress S (advance p r (taken 1)))
-    unfolding Typed MadeOf rest Once
+    unfolding Typed MadeOf rest EachRowOnce
     if-sound r e x y a t =
         let X = ifThenElse r e x y in
         let u = row-typed X a in
-        let e1 = ap (λ (s : Progress). ifTaken s X (λ j. thenOrElse j (rest p 0 x) (rest p 0 y))) t in
+        let e1 = ap (λ (s : Progress). ifTaken s X (λ j. thenOrElse j (rest p x) (rest p y))) t in
         let k : Typed q X (h .well .env) (u .0) = subst (λ (z : Behaviour). Typed q z (h .well .env) (u .0)) e1 (u .1) in
         let g = condition-gives q (S .tree) (h .well .env) e (h .good) (made-at N rows a madeB .1) (h .well .fit) (k .0) in
         let od = once-at a onceB in (
           g .0,
           g .1,
           g .2,
-          if-taken r e x y a t 0 x tt (λ p2 s fx fy. rest-then p2 r e x y s ∙ rest-fresh x p2 (od .3) fx) takesThen,
-          if-taken r e x y a t 1 y tt (λ p2 s fx fy. rest-else p2 r e x y 0 s ∙ rest-fresh y p2 (od .4) fy) takesElse,
+          if-taken r e x y a t 0 x tt (λ p2 s fx fy. rest-then p2 r e x y s ∙ rest-fresh x p2 fx) takesThen,
+          if-taken r e x y a t 1 y tt (λ p2 s fx fy. rest-else p2 r e x y 0 s ∙ rest-fresh y p2 fy) takesElse,
         )
 
     -- Local: while, for the first time or again: `before` is what its rest is.
-    while-both : (r : ℕ) (e : Expression) (b : Behaviour) → Reaches p (whileDo r e b) B → (T (isDone p 0 (whileDo r e b)) → ⊥)
-        → ((i : ℕ) → T (hasRow i (whileDo r e b)) → T (isOpen (p i)) → T (eqb i r)) → (L : Behaviour) → rest p 0 (whileDo r e b) ≡ L
+    while-both : (r : ℕ) (e : Expression) (b : Behaviour) → Reaches p (whileDo r e b) B → (T (isDone p (whileDo r e b)) → ⊥)
+        → ((i : ℕ) → T (hasRow i (whileDo r e b)) → T (isOpen (p i)) → T (eqb i r)) → (L : Behaviour) → rest p (whileDo r e b) ≡ L
         → Leaf (S .tree) L (S .tree) (sequence r b (whileDo r e b)) → Leaf (S .tree) L (S .tree) (nil r)
         → SessionSound N rows q n (withProgress S (advance (reopen p b) r (taken 0))) × SessionSound N rows q n (withProgress S (advance p r done))
-    unfolding isDone hasRow rest Clean suits Once
+    unfolding isDone hasRow rest Clean suits EachRowOnce
     while-both r e b a nd only L e1 enter leave =
         let X = whileDo r e b in
         let p2 = advance (reopen p b) r (taken 0) in
@@ -492,14 +496,14 @@ module _ (N : Network) (rows : ℕ) (acc : Accepted N rows) where
                 clean = clean-fresh b p2 fr;
                 suit = and-i (undoneDoneOrBody (p2 r)) (suits N rows p2 b)
                     (subst (λ (s : Progress). T (undoneDoneOrBody s)) (sym (advance-same (reopen p b) r (taken 0))) tt)
-                    (suits-fresh N rows b alone p2 (od .1) fr);
+                    (suits-fresh N rows b p2 fr);
                 opens = λ i z w. absurd (none-open i z w);
                 replies = back;
                 good = h .good;
                 before = L;
                 after = sequence r b X;
                 isBefore = e1;
-                isAfter = rest-loop p2 r e b 0 (advance-same (reopen p b) r (taken 0)) ∙ ap (λ (z : Behaviour). sequence r z X) (rest-fresh b p2 (od .1) fr);
+                isAfter = rest-loop p2 r e b 0 (advance-same (reopen p b) r (taken 0)) ∙ ap (λ (z : Behaviour). sequence r z X) (rest-fresh b p2 fr);
                 leaf = enter;
               })
               (S .queue) (h .few) (h .queued),
@@ -509,26 +513,26 @@ module _ (N : Network) (rows : ℕ) (acc : Accepted N rows) where
               (and-i (undoneDoneOrBody (p3 r)) (suits N rows p3 b) (subst (λ (s : Progress). T (undoneDoneOrBody s)) (sym (advance-same p r done)) tt)
               (subst T (suits-same N rows b p p3 same) (sx .1)))
               (h .good) L (nil r) e1
-              (ap (λ (s : Progress). ifDone s (ifTaken s X (λ j. sequence r (rest p3 0 b) X)) (nil r)) (advance-same p r done)) leave)
+              (ap (λ (s : Progress). ifDone s (ifTaken s X (λ j. sequence r (rest p3 b) X)) (nil r)) (advance-same p r done)) leave)
               (S .queue) (h .few) (h .queued),
         )
 
     pub while-sound : (r : ℕ) (e : Expression) (b : Behaviour) → Reaches p (whileDo r e b) B → p r ≡ undone
-        → (v : Tree Value) × (evaluate (S .tree) e ≡ some v) × (basicOf (rootValue v) ≡ bool)
+        → (v : Tree Value) × (evaluate (S .tree) e ≡ given v) × (basicOf (rootValue v) ≡ bool)
         × SessionSound N rows q n (withProgress S (advance (reopen p b) r (taken 0))) × SessionSound N rows q n (withProgress S (advance p r done))
     unfolding Typed MadeOf rest isDone
     while-sound r e b a t =
         let X = whileDo r e b in
         let u = row-typed X a in
-        let e1 = ap (λ (s : Progress). ifDone s (ifTaken s X (λ j. sequence r (rest p 0 b) X)) (nil r)) t in
+        let e1 = ap (λ (s : Progress). ifDone s (ifTaken s X (λ j. sequence r (rest p b) X)) (nil r)) t in
         let k : Typed q X (h .well .env) (u .0) = subst (λ (z : Behaviour). Typed q z (h .well .env) (u .0)) e1 (u .1) in
         let g = condition-gives q (S .tree) (h .well .env) e (h .good) (made-at N rows a madeB .1) (h .well .fit) (k .0) in
         let w = while-both r e b a (λ z. undone-not-done (p r) t z)
         (λ i z o. let v = open-below p X B i onceB a (h .opened) z o in absurd (quiet-first p (v .1) t (v .2))) X e1 enters leaves in
         (g .0, g .1, g .2, w .0, w .1)
 
-    pub again-sound : (r : ℕ) (e : Expression) (b : Behaviour) (j : ℕ) → Reaches p (whileDo r e b) B → p r ≡ taken j → T (isDone p 0 b)
-        → (v : Tree Value) × (evaluate (S .tree) e ≡ some v) × (basicOf (rootValue v) ≡ bool)
+    pub again-sound : (r : ℕ) (e : Expression) (b : Behaviour) (j : ℕ) → Reaches p (whileDo r e b) B → p r ≡ taken j → T (isDone p b)
+        → (v : Tree Value) × (evaluate (S .tree) e ≡ given v) × (basicOf (rootValue v) ≡ bool)
         × SessionSound N rows q n (withProgress S (advance (reopen p b) r (taken 0))) × SessionSound N rows q n (withProgress S (advance p r done))
     unfolding Typed MadeOf isDone
     again-sound r e b j a t dn =
@@ -536,35 +540,36 @@ module _ (N : Network) (rows : ℕ) (acc : Accepted N rows) where
         let u = row-typed X a in
         let e1 = rest-loop p r e b j t in
         let fd = done-finished b p dn in
-        let k : Typed q (sequence r (rest p 0 b) X) (h .well .env) (u .0) = subst (λ (z : Behaviour). Typed q z (h .well .env) (u .0)) e1 (u .1) in
-        let ed = finished-same q (rest p 0 b) (h .well .env) (k .0) fd (k .1) in
+        let k : Typed q (sequence r (rest p b) X) (h .well .env) (u .0) = subst (λ (z : Behaviour). Typed q z (h .well .env) (u .0)) e1 (u .1) in
+        let ed = finished-same q (rest p b) (h .well .env) (k .0) fd (k .1) in
         let g = condition-gives q (S .tree) (k .0) e (h .good) (made-at N rows a madeB .1)
         (subst (λ (z : Types). Subtypes (ownTypes (S .tree)) z) ed (h .well .fit)) (k .2 .0) in
         let w = while-both r e b a (λ z. subst (λ (s : Progress). T (ifDone s false true)) t z)
-        (λ i z o. let v = open-below p X B i onceB a (h .opened) z o in absurd (quiet-while p (v .1) o dn (v .2))) (sequence r (rest p 0 b) X) e1
+        (λ i z o. let v = open-below p X B i onceB a (h .opened) z o in absurd (quiet-while p (v .1) o dn (v .2))) (sequence r (rest p b) X) e1
         (reenters fd) (ends fd) in
         (g .0, g .1, g .2, w .0, w .1)
 
     -- A choice settled for its branch k, whose input then receives.
-    pub select-sound : (c k : ℕ) (m : Behaviour) → Reaches p (choice c m) B → p c ≡ undone → T (ltb k (branches m))
+    pub select-sound : (c k : ℕ) (m : Branches) → Reaches p (choice c m) B → p c ≡ undone → T (ltb k (branches m))
         → SessionSound N rows q n (withProgress S (advance p c (taken k)))
-    unfolding isDone hasRow rest Clean suits Once
+    unfolding isDone hasRow rest Clean suits EachRowOnce
     select-sound c k m a t small =
         let X = choice c m in
         let p2 = advance p c (taken k) in
         let od = once-at a onceB in
         let cx = clean-at a (h .clean) in
-        let fr : Fresh p2 m = λ i u. sym (advance-below p c (taken k) m (od .0) i u) ∙ cx .0 t i u in
+        let none = cx .0 (undone-untaken (p c) t) in
+        let fr : FreshBranches p2 m = λ i u. sym (advance-below-branches p c (taken k) m (od .0) i u) ∙ none i u in
         changed X a (S .tree) p2
-        (advanced X c (taken k) (S .tree) (λ i z. in-own i c (hasRow i m) z) (choice-undone p c m t)
-        (λ i z w. or-case (eqb i c) (hasRow i m) (λ v. v) (λ v. absurd (undone-open (p i) (cx .0 t i v) w)) z) (λ z. absurd z)
+        (advanced X c (taken k) (S .tree) (λ i z. in-own i c (hasRowIn i m) z) (choice-undone p c m t)
+        (λ i z w. or-case (eqb i c) (hasRowIn i m) (λ v. v) (λ v. absurd (undone-open (p i) (none i v) w)) z) (λ z. absurd z)
         (λ to z. absurd (taken-received z))
-        ((λ z. fr), clean-fresh m p2 fr)
-        (and-i (undoneOrTaken (branches m) (p2 c)) (suits N rows p2 m)
+        ((λ z. fr), clean-fresh-branches m p2 fr)
+        (and-i (undoneOrTaken (branches m) (p2 c)) (suitsBranches N rows p2 m)
         (subst (λ (s : Progress). T (undoneOrTaken (branches m) s)) (sym (advance-same p c (taken k))) small)
-        (suits-fresh N rows m inChoice p2 (od .1) fr))
-        (h .good) X (branchAt k m) (ap (λ (s : Progress). ifTaken s X (λ j. rest p j m)) t)
-        (rest-branch p2 c m k (advance-same p c (taken k)) ∙ rest-fresh (branchAt k m) p2 (branch-once m k (od .1))
+        (suits-fresh-branches N rows m p2 fr))
+        (h .good) X (branchAt k m) (ap (λ (s : Progress). ifTaken s X (λ j. branchRest p j m)) t)
+        (rest-branch p2 c m k (advance-same p c (taken k)) ∙ rest-fresh (branchAt k m) p2
         (λ i u. fr i (branch-rows m k i u))) (selects k))
         (S .queue) (h .few) (h .queued)
 

@@ -17,7 +17,7 @@ use Rattle.state.specs.Session.{Progress, Progresses, undone, Queued, Session, 
 use Rattle.state.specs.Shape.{operationAt, suitsOperation, suitsQueue, isUndone, suits, quietElsewhere, suitsBehaviour, suitsSlot, AllMessages}
 use Rattle.state.specs.Shape.{WellMade, MadeSlot, HasShape}
 use Rattle.soundness.specs.GoodTreesLaws.{proper-void}
-use Rattle.soundness.specs.Parts.{NotIn}
+use Rattle.network.specs.Shapes.{Outside}
 use Rattle.soundness.specs.Accepted.{Accepted}
 use Rattle.soundness.specs.MadeLaws.{row-below}
 use Rattle.soundness.specs.Invariant.{AllQueued, SessionSound, Sound}
@@ -36,7 +36,7 @@ queue-suits N rows q (m ∷ l) a =
     and-i (suitsOperation N rows q (m .replyTo) (operationAt (N .operations) (m .operation))) (suitsQueue N rows q l)
     (subst (λ (o : Optional Operation). T (suitsOperation N rows q (m .replyTo) o)) (sym (a .0 .there)) (a .0 .suit)) (queue-suits N rows q l (a .1))
 
-quiet-suits : (n : ℕ) (p : Progresses) (B : Behaviour) → ((r : ℕ) → NotIn r B → p r ≡ undone) → T (quietElsewhere n p B)
+quiet-suits : (n : ℕ) (p : Progresses) (B : Behaviour) → ((r : ℕ) → Outside r B → p r ≡ undone) → T (quietElsewhere n p B)
 unfolding quietElsewhere
 quiet-suits zero p B h = tt
 quiet-suits (suc n) p B h =

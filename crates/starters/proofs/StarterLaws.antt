@@ -5,7 +5,8 @@ use mathlib.Core.List.{List, [], _∷_}
 use mathlib.Core.Bool.{Bool, true, false, not, _&&_}
 use native.Mathlib.Omega.{arith}
 use borrow.Author.Tests.{le-leb}
-use Rattle.wire.specs.Wire.{u16At}
+use types.Run.{OneOf, miss}
+use denote.Enum.Declared.{tagOf}
 use Rattle.forest.specs.Compare.{T-of, of-T}
 use Rattle.forest.specs.Forest.{end, Rising}
 use Rattle.refusal.specs.declared.Refusal.{Refusal}
@@ -17,7 +18,7 @@ use Rattle.syntax.specs.Rows.{rowOf}
 use Rattle.typing.specs.Result.{Result, yields, require, Checked, refused, passed, atRow, next}
 use Rattle.typing.specs.Environment.{within}
 use Rattle.typing.specs.Checker.{limited, check}
-use Rattle.typing.specs.NetworkRules.{OneTypeEach, branchesOf, union, unionOf}
+use Rattle.typing.specs.NetworkRules.{OneTypeEach, sequencesOf, branchesOf, union, unionOf}
 use Rattle.typing.specs.NetworkLaws.{AllRising, each-one-sound}
 use Rattle.typing.specs.Branches.{unionFrom, oneTypeFrom}
 use Rattle.typing.specs.BranchesLaws.{oneType-in-order, union-in-order}
@@ -30,14 +31,16 @@ use Rattle.network.specs.Decode.{branchesFrom, behaviourOf}
 use Rattle.network.specs.TestLaws.{not-true, not-false, one-less, both-true}
 use Rattle.network.specs.RowLaws.{next-at}
 use Rattle.rows.specs.declared.BehaviourRow.{BehaviourRow}
-use Rattle.rows.specs.Readers.{behaviourRowAs, behaviourRowOf}
+use Rattle.rows.specs.declared.BranchRow.{BranchRow}
+use Rattle.rows.specs.Readers.{behaviourRowAs, behaviourRowOf, BranchAt}
+use Rattle.rows.proofs.BehaviourRow as rows
 use Rattle.environments.specs.declared.Environment.{Environment}
 use Rattle.environments.specs.declared.Step.{Step}
 use Rattle.environments.specs.Environment.{standing, Shape, StandsFor, stepOf, Answers}
 use Rattle.environments.specs.EnvironmentLaws.{answers-as, answers-done, answers-refused, answers-refuse, answers-pass, stands-empty}
 use Rattle.environments.specs.UnionLaws.{unionFrom-within, union-within, from-start}
 use Rattle.environments.specs.Tells.{OneTyped, Unites}
-use Rattle.row_parts.specs.Behaviours.{behaviourBy, Sub, BranchSubs, KeptBy}
+use Rattle.row_parts.specs.Behaviours.{BranchSubs}
 use Rattle.behaviours.specs.Checks.{Checks, Sequences}
 use Rattle.row_parts.specs.KindLaws.{row-is}
 use Rattle.outputs.specs.Outputs.{verdictOf}
@@ -54,28 +57,24 @@ run-next file at n left j z h = record {
 }
 
 list-none : (file : List ℕ) (j n : ℕ) → n ≡ 0 → branchList file j n ≡ []
-unfolding branchList branchesFrom branchesOf
-list-none file j n z = ap (λ (y : ℕ). branchesOf (branchesFrom file (behaviourOf file) j y)) z
-
-list-suc : (file : List ℕ) (j n : ℕ) → branchList file j (suc n) ≡ branchAt file j ∷ branchList file (suc j) n
-unfolding branchList branchesFrom branchesOf
-list-suc file j zero = refl
-list-suc file j (suc n) = refl
+unfolding branchList
+list-none file j n z = ap (branchList file j) z
 
 list-more : (file : List ℕ) (j n : ℕ) → (n ≡ 0 → ⊥) → branchList file j n ≡ branchAt file j ∷ branchList file (suc j) (n - 1)
-list-more file j n z = ap (branchList file j) (one-less n z) ∙ list-suc file j (n - 1)
+unfolding branchList
+list-more file j n z = ap (branchList file j) (one-less n z)
 
 -- ---- one branch
 
-pub gives-branch : (file : List ℕ) (q at left a b : ℕ) {e : Environment} {s : Step} → a ≡ u16At file (at + 2) → b ≡ u16At file (at + 4) → e ≡ standing end
-    → Sequences file q a b left e s → Gives file q at left s
-gives-branch file q at left a b {e} {s} p o z k = record {
-  tells = λ c n j h l.
-      let x = p ∙ ap (λ (y : ℕ). u16At file (y + 2)) (h .there) in
-      let y = o ∙ ap (λ (y : ℕ). u16At file (y + 4)) (h .there) in
+pub gives-branch : (file : List ℕ) (q at left : ℕ) {row : BranchRow} {e : Environment} {s : Step} → BranchAt file at row → e ≡ standing end
+    → Sequences file q (row .input) (row .follow) left e s → Gives file q at left s
+gives-branch file q at left {row} {e} {s} p z k = record {
+  tells = λ n j h l.
+      let x = p .input ∙ ap (fieldA file) (h .there) in
+      let y = p .follow ∙ ap (fieldB file) (h .there) in
       let d = h .subs j (omega arith) (omega arith) in
-      subst (λ (f : ℕ). Sequences file q f (fieldB file (behaviourAt file j)) left e s) x (subst (λ (f : ℕ). Sequences file q a f left e s) y k)
-      .tells c j end (subst (λ (f : Environment). StandsFor f end) (sym z) stands-empty) (h .form) (d .input) (d .follow);
+      subst (λ (f : ℕ). Sequences file q f (fieldB file (behaviourAt file j)) left e s) x (subst (λ (f : ℕ). Sequences file q (row .input) f left e s) y k)
+      .tells j end (subst (λ (f : Environment). StandsFor f end) (sym z) stands-empty) (h .form) (d .input) (d .follow);
 }
 
 pub ruleset branch-laws = (gives-branch)
@@ -86,9 +85,9 @@ some-branch (suc n) z = omega arith
 
 -- ---- each of several
 
-each-more : (q : ℕ) (B : Behaviour) (Bs : List Behaviour) → verdictOf (checkEach q (B ∷ Bs)) ≡ verdictOf (next (check q (rowOf B) B end) (λ Γ. checkEach q Bs))
+each-more : (q : ℕ) (B : Behaviour) (Bs : List Behaviour) → verdictOf (checkEach q (B ∷ Bs)) ≡ verdictOf (next (check q B end) (λ Γ. checkEach q Bs))
 unfolding checkEach next
-each-more q B Bs = go (check q (rowOf B) B end) (checkEach q Bs)
+each-more q B Bs = go (check q B end) (checkEach q Bs)
   where
     go : (x : Checked Types) (y : Checked (List Types)) → verdictOf (next x (λ Γ. next y (λ Γs. passed (Γ ∷ Γs)))) ≡ verdictOf (next x (λ Γ. y))
     go (refused w) y = refl
@@ -128,19 +127,19 @@ each-none file q at n left z = record {
 }
 
 module _ (file : List ℕ) (q at n left : ℕ) {s : Step} (z : n ≡ 0 → ⊥) (k : Gives file q at left s) where
-  answered : (j : ℕ) → Run file at n left j → Answers s (check q (rowOf (branchAt file j)) (branchAt file j) end)
-  answered j h = k .tells (rowOf (branchAt file j)) n j h (some-branch n z)
+  answered : (j : ℕ) → Run file at n left j → Answers s (check q (branchAt file j) end)
+  answered j h = k .tells n j h (some-branch n z)
 
   -- Where all pass: the first environment and the others.
   split : (j : ℕ) (Γs : List Types) → Run file at n left j → checkEach q (branchList file j n) ≡ passed Γs
-      → (Γ : Types) × (Δs : List Types) × (Γs ≡ Γ ∷ Δs) × StandsFor (s .environment) Γ × (checkEach q (branchList file (suc j) (n - 1)) ≡ passed Δs) × (check q (rowOf (branchAt file j)) (branchAt file j) end ≡ passed Γ)
+      → (Γ : Types) × (Δs : List Types) × (Γs ≡ Γ ∷ Δs) × StandsFor (s .environment) Γ × (checkEach q (branchList file (suc j) (n - 1)) ≡ passed Δs) × (check q (branchAt file j) end ≡ passed Γ)
   unfolding checkEach next stepOf
   split j Γs h e =
-      go (check q (rowOf (branchAt file j)) (branchAt file j) end) (checkEach q (branchList file (suc j) (n - 1))) refl refl (answered j h)
+      go (check q (branchAt file j) end) (checkEach q (branchList file (suc j) (n - 1))) refl refl (answered j h)
       (sym (ap (checkEach q) (list-more file j n z)) ∙ e)
     where
-      go : (x : Checked Types) (y : Checked (List Types)) → check q (rowOf (branchAt file j)) (branchAt file j) end ≡ x → checkEach q (branchList file (suc j) (n - 1)) ≡ y → Answers s x → next x (λ Γ. next y (λ Δs. passed (Γ ∷ Δs))) ≡ passed Γs
-          → (Γ : Types) × (Δs : List Types) × (Γs ≡ Γ ∷ Δs) × StandsFor (s .environment) Γ × (checkEach q (branchList file (suc j) (n - 1)) ≡ passed Δs) × (check q (rowOf (branchAt file j)) (branchAt file j) end ≡ passed Γ)
+      go : (x : Checked Types) (y : Checked (List Types)) → check q (branchAt file j) end ≡ x → checkEach q (branchList file (suc j) (n - 1)) ≡ y → Answers s x → next x (λ Γ. next y (λ Δs. passed (Γ ∷ Δs))) ≡ passed Γs
+          → (Γ : Types) × (Δs : List Types) × (Γs ≡ Γ ∷ Δs) × StandsFor (s .environment) Γ × (checkEach q (branchList file (suc j) (n - 1)) ≡ passed Δs) × (check q (branchAt file j) end ≡ passed Γ)
       go (refused w) y o i a f = absurd (not-refused f)
       go (passed Γ) (refused w) o i a f = absurd (not-refused f)
       go (passed Γ) (passed Δs) o i a f = (Γ, Δs, same-lists f, record { is = ap (λ (t : Step). t .environment) (a .is); shape = a .shape }, i, o)
@@ -397,28 +396,48 @@ pub ruleset gather-laws = (gathers-none, gathers-refused, gathers-more, gathers-
 
 -- ---- starters and clients
 
+-- The kinds that are no choice.
+abbrev others : List ℕ
+others = 0 ∷ 1 ∷ 2 ∷ 3 ∷ 4 ∷ 5 ∷ 6 ∷ 7 ∷ 8 ∷ 9 ∷ 11 ∷ 12 ∷ []
+
+-- A row whose kind is a choice is read as one.
 choice-row : (file : List ℕ) (r : ℕ) → kindAt file r ≡ BehaviourKind.Choice
     → behaviourRowOf file r ≡ BehaviourRow.Choice (fieldA file (behaviourAt file r)) (fieldB file (behaviourAt file r))
 unfolding behaviourRowOf behaviourRowAs
 choice-row file r e =
     ap (λ (y : BehaviourKind). behaviourRowAs y (fieldA file (behaviourAt file r)) (fieldB file (behaviourAt file r)) (fieldC file (behaviourAt file r)) (fieldD file (behaviourAt file r))) e
 
-branches-listed : (q r first n : ℕ) (file : List ℕ) → checkStarter q (choice r (branchesFrom file (behaviourOf file) first n))
-    ≡ next (checkEach q (branchList file first n)) (λ Γs. atRow r (require (oneTypeEach Γs) EnvironmentsDiffer (limited (yields (unionOf Γs)))))
-unfolding branchList branchesOf rowOf
-branches-listed q r first n file = refl
+sequences-listed : (file : List ℕ) (n j : ℕ) → sequencesOf (branchesFrom file (behaviourOf file) j (suc n)) ≡ branchList file j (suc n)
+unfolding sequencesOf branchesFrom branchList
+sequences-listed file zero j = refl
+sequences-listed file (suc n) j = ap (λ (l : List Behaviour). branchAt file j ∷ l) (sequences-listed file n (suc j))
 
-module _ (file : List ℕ) (q r : ℕ) {left row first n at : ℕ} (a : left ≡ behaviourCount file) (b : row ≡ behaviourAt file r) (c : first ≡ u16At file (row + 2))
-    (d : n ≡ u16At file (row + 4)) (e : at ≡ behaviourAt file first) where
-  kept : WellFormed file → r < behaviourCount file → kindAt file r ≡ BehaviourKind.Choice
+branches-listed : (q r first n : ℕ) (file : List ℕ) → checkStarter q (choice r (branchesFrom file (behaviourOf file) first (suc n)))
+    ≡ next (checkEach q (branchList file first (suc n))) (λ Γs. atRow r (require (oneTypeEach Γs) EnvironmentsDiffer (limited (yields (unionOf Γs)))))
+unfolding branchesOf rowOf
+branches-listed q r first n file =
+    ap (λ (l : List Behaviour). next (checkEach q l) (λ Γs. atRow r (require (oneTypeEach Γs) EnvironmentsDiffer (limited (yields (unionOf Γs))))))
+    (sequences-listed file n first)
+
+-- The row is no choice.
+pub starts-other : (file : List ℕ) (q r : ℕ) {x : BehaviourRow} {s : Step} → x ≡ behaviourRowOf file r → OneOf others (tagOf rows.the-type x) → Starts file q r s
+starts-other file q r {x} e h = record {
+  tells = λ w l i. absurd (miss others 10 tt (subst (λ (y : BehaviourRow). OneOf others (tagOf rows.the-type y)) (e ∙ choice-row file r i) h));
+}
+
+module _ (file : List ℕ) (q r : ℕ) {left at first n : ℕ} {x : BehaviourRow} (a : left ≡ behaviourCount file) (b : x ≡ behaviourRowOf file r)
+    (c : x ≡ BehaviourRow.Choice first n) (e : at ≡ behaviourAt file first) where
+  kept : WellFormed file → r < behaviourCount file
       → (checkStarter q (behaviourOf file r) ≡ next (checkEach q (branchList file first n)) (λ Γs. atRow r (require (oneTypeEach Γs) EnvironmentsDiffer (limited (yields (unionOf Γs))))))
       × Run file at n left first
-  kept w l i =
-      let x = c ∙ ap (λ (y : ℕ). u16At file (y + 2)) b in
-      let y = d ∙ ap (λ (y : ℕ). u16At file (y + 4)) b in
-      let h = row-is file w r left (record { exists = l; enough = omega arith }) refl (choice-row file r i ∙ (ap (λ (z : ℕ). BehaviourRow.Choice z (fieldB file (behaviourAt file r))) (sym x)
-      ∙ ap (BehaviourRow.Choice first) (sym y))) in
-      (ap (checkStarter q) (h .0) ∙ branches-listed q r first n file, record { form = w; there = e; subs = h .1 .1 })
+  kept w l =
+      let h = row-is file w r left (record { exists = l; enough = omega arith }) b c in
+      let z : n ≡ suc (n - 1) = omega (arith, h .1 .0) in
+      (ap (checkStarter q) (h .0) ∙ listed (n - 1) z, record { form = w; there = e; subs = h .1 .1 })
+    where
+      listed : (m : ℕ) → n ≡ suc m → checkStarter q (choice r (branchesFrom file (behaviourOf file) first n))
+          ≡ next (checkEach q (branchList file first n)) (λ Γs. atRow r (require (oneTypeEach Γs) EnvironmentsDiffer (limited (yields (unionOf Γs)))))
+      listed m z = rw z (branches-listed q r first m file)
 
   in-order : (Γs : List Types) → AllRising Γs → concluded r end Γs ≡ atRow r (require (oneTypeEach Γs) EnvironmentsDiffer (limited (yields (unionOf Γs))))
   in-order Γs w = go (oneTypeEach Γs) refl
@@ -435,7 +454,7 @@ module _ (file : List ℕ) (q r : ℕ) {left row first n at : ℕ} (a : left ≡
   unfolding next
   starts-gathered {u} {x} p m i = record {
     tells = λ w l o.
-        let h = kept w l o in
+        let h = kept w l in
         answers-as (go (checkEach q (branchList file first n)) (λ Γs y. m .rises i first Γs (h .1) y) ∙ sym (h .0))
         (m .tells i first end (subst (λ (f : Environment). StandsFor f end) (sym p) stands-empty) (h .1));
   }
@@ -450,7 +469,7 @@ module _ (file : List ℕ) (q r : ℕ) {left row first n at : ℕ} (a : left ≡
     unfolding next
     starts-refused {why} {s} f p = record {
       tells = λ w l i.
-          let h = kept w l i in
+          let h = kept w l in
           answers-as (sym (h .0 ∙ ap (λ (y : Checked (List Types)). next y (λ Γs. atRow r (require (oneTypeEach Γs) EnvironmentsDiffer (limited (yields (unionOf Γs))))))
           (all-refused (checkEach q (branchList file first n)) (sym (k .tells first (h .1)) ∙ f)))) (answers-refuse why p);
     }
@@ -463,7 +482,7 @@ module _ (file : List ℕ) (q r : ℕ) {left row first n at : ℕ} (a : left ≡
     unfolding next
     starts-joined {s} f m = record {
       tells = λ w l i.
-          let h = kept w l i in
+          let h = kept w l in
           let g = all-passed (checkEach q (branchList file first n)) (sym (k .tells first (h .1)) ∙ f) in
           answers-as (sym (h .0 ∙ ap (λ (y : Checked (List Types)). next y (λ Γs. atRow r (require (oneTypeEach Γs) EnvironmentsDiffer (limited (yields (unionOf Γs)))))) (g .1)))
           (m .tells first (g .0) (h .1) (g .1) (k .rises first (g .0) (h .1) (g .1)));
@@ -473,12 +492,12 @@ module _ (file : List ℕ) (q r : ℕ) {left row first n at : ℕ} (a : left ≡
         all-passed (refused w) g = absurd (let z : _≡_ {A = ℕ} 0 1 = cc in omega arith)
         all-passed (passed Γs) g = (Γs, refl)
 
-pub ruleset start-laws = (starts-gathered, starts-refused, starts-joined)
+pub ruleset start-laws = (starts-other, starts-gathered, starts-refused, starts-joined)
 
 pub client-checks : (file : List ℕ) (q r : ℕ) {left : ℕ} {e : Environment} {s : Step} → left ≡ behaviourCount file → e ≡ standing end → Checks file q r left e s → Clients file q r s
 client-checks file q r {left} {e} a p k = record {
   tells = λ w l.
-      k .tells (rowOf (behaviourOf file r)) end (subst (λ (f : Environment). StandsFor f end) (sym p) stands-empty) w (record { exists = l; enough = omega arith });
+      k .tells end (subst (λ (f : Environment). StandsFor f end) (sym p) stands-empty) w (record { exists = l; enough = omega arith });
 }
 
 pub ruleset client-laws = (client-checks)

@@ -1,14 +1,14 @@
 -- What the functions of this crate tell, for every file that none of 2 to 5 refuses; on other bytes they end and say nothing.
 use mathlib.Core.Path.{_≡_}
-use mathlib.Core.List.{List}
+use mathlib.Core.List.{List, [], _∷_}
 use mathlib.Core.Bool.{Bool, true}
-use Prim.Native.Nat.{ℕ, _+_, _<_, _≤_}
+use Prim.Native.Nat.{ℕ, zero, suc, _+_, _<_, _≤_}
 use Rattle.refusal.specs.declared.Verdict.{Verdict}
 use Rattle.forest.specs.Forest.{end}
 use Rattle.syntax.specs.Syntax.{Types, Behaviour, sequence}
 use Rattle.typing.specs.Result.{yields, require, Checked, passed, atRow, next}
 use Rattle.typing.specs.Checker.{limited, check}
-use Rattle.typing.specs.NetworkRules.{branchesOf, unionOf}
+use Rattle.typing.specs.NetworkRules.{unionOf}
 use Rattle.typing.specs.NetworkLaws.{AllRising}
 use Rattle.refusal.specs.declared.Refusal.the-variants.{EnvironmentsDiffer}
 use Rattle.typing.specs.Branches.{unionFrom, oneTypeFrom}
@@ -17,7 +17,7 @@ use Rattle.network.specs.declared.BehaviourKind.{BehaviourKind}
 use Rattle.network.specs.Form.{WellFormed}
 use Rattle.network.specs.Layout.{behaviourCount, behaviourAt}
 use Rattle.network.specs.Rows.{fieldA, fieldB, kindAt}
-use Rattle.network.specs.Decode.{branchesFrom, behaviourOf}
+use Rattle.network.specs.Decode.{behaviourOf}
 use Rattle.environments.specs.declared.Environment.{Environment}
 use Rattle.environments.specs.declared.Step.{Step}
 use Rattle.environments.specs.Environment.{StandsFor, Answers}
@@ -25,12 +25,13 @@ use Rattle.row_parts.specs.Behaviours.{BranchSubs}
 use Rattle.outputs.specs.Outputs.{verdictOf}
 use Rattle.starters.specs.declared.Gathered.{Gathered}
 
--- The branch at row j, and the n branches from row j on, as behaviours.
+-- The branch at row j, and the n branches from row j on, each as the sequence of its input and what follows.
 abbrev pub branchAt : List ℕ → ℕ → Behaviour
 branchAt file j = sequence j (behaviourOf file (fieldA file (behaviourAt file j))) (behaviourOf file (fieldB file (behaviourAt file j)))
 
 unfoldable pub branchList : List ℕ → ℕ → ℕ → List Behaviour
-branchList file j n = branchesOf (branchesFrom file (behaviourOf file) j n)
+branchList file j zero = []
+branchList file j (suc n) = branchAt file j ∷ branchList file (suc j) n
 
 -- The parts of each of the n branches from row j on are rows of the file.
 pub record Run (file : List ℕ) (at n left j : ℕ) : Type 0 where
@@ -40,7 +41,7 @@ pub record Run (file : List ℕ) (at n left j : ℕ) : Type 0 where
 
 -- What the branch at `at` gives.
 pub record Gives (file : List ℕ) (q at left : ℕ) (s : Step) : Type 0 where
-  pub tells : (c n j : ℕ) → Run file at n left j → 0 < n → Answers s (check q c (branchAt file j) end)
+  pub tells : (n j : ℕ) → Run file at n left j → 0 < n → Answers s (check q (branchAt file j) end)
 
 pub record Each (file : List ℕ) (q at n left : ℕ) (v : Verdict) : Type 0 where
   pub tells : (j : ℕ) → Run file at n left j → v ≡ verdictOf (checkEach q (branchList file j n))

@@ -8,6 +8,7 @@ use environments::Environment;
 use environments::Step;
 use refusal::Refusal;
 use refusal::Verdict;
+use rows::BehaviourRow;
 
 // What the branches give, one after the other; or that it is not sure.
 pub struct Gathered {
@@ -20,12 +21,13 @@ fn branch(file: &[u8], sets: &[u8], q: u16, at: usize, left: u16) -> Step
     requires { ⌜ (at < 2000000) × Separates (now file) (now sets) ⌝ }
     ensures { λ s. ⌜ Gives (now (file .entry)) q at left s ⌝ }
 {
+    let row = rows::branch_at(file, at);
     behaviours::sequence(
         file,
         sets,
         q,
-        wire::u16_at(file, at + 2),
-        wire::u16_at(file, at + 4),
+        row.input,
+        row.follow,
         left,
         environments::empty(),
     )
@@ -171,9 +173,9 @@ pub fn check_starter(file: &[u8], sets: &[u8], q: u16, r: u16) -> Step
     ensures { λ s. ⌜ Starts (now (file .entry)) q r s ⌝ }
 {
     let left = layout::behaviour_count(file);
-    let row = layout::behaviour_at(file, r);
-    let first = wire::u16_at(file, row + 2);
-    let n = wire::u16_at(file, row + 4);
+    let BehaviourRow::Choice(first, n) = rows::behaviour_row(file, r) else {
+        return environments::pass(environments::empty());
+    };
     let at = layout::behaviour_at(file, first);
     let all = gather(file, sets, q, r, at, n, left, environments::empty());
     if all.sure {

@@ -3,7 +3,7 @@
 -- written, then how bytes are read.
 use mathlib.Core.Bool.{_&&_}
 use mathlib.Core.List.{List, [], _∷_, _++_}
-use Prim.Native.Nat.{ℕ, zero, suc, _+_, _-_, _*_, _/_, _%_}
+use Prim.Native.Nat.{ℕ, zero, suc, _+_, _-_, _/_, _%_}
 use lib.Dec.{eqb, ltb}
 use lib.ListN.{length}
 use Rattle.forest.specs.Forest.{Forest, end, Tree, tree, Lookup, absent, present, childrenOf}
@@ -11,7 +11,8 @@ use Rattle.scalar.specs.Value.{Value, pick}
 use Rattle.wire.specs.Wire.{byteAt, u16At, u32At, part}
 use Rattle.tree.specs.Encode.{encode, rooted, empty, treeDeep, treeMany}
 use Rattle.tree.specs.Decode.{decode, decodeMessage}
-use Rattle.state.specs.Session.{ReplyTo, nobody, outsider, waitingRow, Progress, undone, done, waits, received, taken, Progresses, Queued, Session, Slot, free, live, State}
+use Rattle.state.specs.Places.{slotSize, treeRoom, messageRoom, entrySize, lengthPlace, treePlace, queuePlace, keptSize, slotStart, rowStart}
+use Rattle.state.specs.Session.{ReplyTo, nobody, outsider, waitingRow, Progress, undone, done, waits, received, taken, Progresses, Queued, Session, sessionOf, Slot, free, live, State}
 
 -- n zeros.
 unfoldable pub zeros : ℕ → List ℕ
@@ -54,12 +55,12 @@ messageBytes m = encode (rooted m)
 unfoldable pub entryBytes : Queued → List ℕ
 entryBytes m =
     ((m .operation + 1) ∷ replyKind (m .replyTo) ∷ u16Bytes (length (messageBytes (m .message)))) ++
-    (replyBytes (m .replyTo) ++ padded 336 (messageBytes (m .message)))
+    (replyBytes (m .replyTo) ++ padded messageRoom (messageBytes (m .message)))
 
 -- The queue's entries, oldest first, then unused ones, which are zeros.
 unfoldable pub queueBytes : ℕ → List Queued → List ℕ
 queueBytes zero l = []
-queueBytes (suc n) [] = zeros 344 ++ queueBytes n []
+queueBytes (suc n) [] = zeros entrySize ++ queueBytes n []
 queueBytes (suc n) (m ∷ l) = entryBytes m ++ queueBytes n l
 
 -- A received row says where its reply goes. (No state of a file's shape has one that answers nobody.)
@@ -84,13 +85,15 @@ rowsBytes p = joined (λ r. progressBytes (p r)) 0 256
 abbrev pub treeBytes : Forest Value → List ℕ
 treeBytes F = encode (rooted (tree empty F))
 
--- A slot, 4,096 bytes: zeros if free. If live: 1, 0, the tree's length as a u16, 12 zeros (kept), the tree in 1,024 bytes, four
--- queue entries, 256 rows, 144 zeros (kept).
+-- The head of a live slot, 16 bytes: 1, a byte kept 0, the tree's length as a u16, 12 bytes kept 0. HeadLaws has its laws.
+unfoldable pub headBytes : Session → List ℕ
+headBytes S = (1 ∷ 0 ∷ u16Bytes (length (treeBytes (S .tree)))) ++ zeros 12
+
+-- A slot, 4,096 bytes: zeros if free. If live: its head, the tree in 1,024 bytes, four queue entries, 256 rows, 144 zeros (kept).
 unfoldable pub slotBytes : Slot → List ℕ
-slotBytes free = zeros 4096
+slotBytes free = zeros slotSize
 slotBytes (live S) =
-    (1 ∷ 0 ∷ u16Bytes (length (treeBytes (S .tree)))) ++ (zeros 12 ++ (padded 1024 (treeBytes (S .tree)) ++
-    (queueBytes 4 (S .queue) ++ (rowsBytes (S .progress) ++ zeros 144))))
+    headBytes S ++ (padded treeRoom (treeBytes (S .tree)) ++ (queueBytes 4 (S .queue) ++ (rowsBytes (S .progress) ++ zeros keptSize)))
 
 -- The slot k = 4 x service + session.
 abbrev pub slotAt : State → ℕ → Slot
@@ -121,7 +124,7 @@ readEntry s at = record {
 -- The used entries, of n, from `at` on.
 unfoldable pub readQueue : List ℕ → ℕ → ℕ → List Queued
 readQueue s zero at = []
-readQueue s (suc n) at = pick (eqb (byteAt s at) 0) [] (readEntry s at ∷ readQueue s n (at + 344))
+readQueue s (suc n) at = pick (eqb (byteAt s at) 0) [] (readEntry s at ∷ readQueue s n (at + entrySize))
 
 -- The progress in the six bytes from `at` on.
 unfoldable pub readProgress : List ℕ → ℕ → Progress
@@ -135,15 +138,18 @@ readProgress s at =
 
 -- The progress of a row in the slot that starts at `at`.
 abbrev pub readRow : List ℕ → ℕ → Progresses
-readRow s at r = readProgress s (at + 2416 + 6 * r)
+readRow s at r = readProgress s (rowStart at r)
+
+-- The length of the tree in the slot that starts at `at`, and the tree.
+abbrev pub treeLength : List ℕ → ℕ → ℕ
+treeLength s at = u16At s (at + lengthPlace)
+
+abbrev pub readTree : List ℕ → ℕ → Forest Value
+readTree s at = childrenOf (decode treeDeep treeMany (part s (at + treePlace) (treeLength s at)))
 
 -- The session in the slot that starts at `at`; rows past 255 have no progress.
 unfoldable pub readSession : List ℕ → ℕ → Session
-readSession s at = record {
-  tree = childrenOf (decode treeDeep treeMany (part s (at + 16) (u16At s (at + 2))));
-  queue = readQueue s 4 (at + 1040);
-  progress = λ r. pick (ltb r 256) (readRow s at r) undone;
-}
+readSession s at = sessionOf (readTree s at) (readQueue s 4 (at + queuePlace)) (λ r. pick (ltb r 256) (readRow s at r) undone)
 
 -- The slot that starts at `at`.
 unfoldable pub readSlot : List ℕ → ℕ → Slot
@@ -151,4 +157,4 @@ readSlot s at = pick (eqb (byteAt s at) 0) free (live (readSession s at))
 
 -- The slots of services 0 to 3 and sessions 0 to 3; every other is free.
 unfoldable pub readState : List ℕ → State
-readState s = λ q n. pick (ltb q 4 && ltb n 4) (readSlot s (4096 * (4 * q + n))) free
+readState s = λ q n. pick (ltb q 4 && ltb n 4) (readSlot s (slotStart q n)) free

@@ -8,8 +8,9 @@ use Rattle.scalar.specs.Basic.{int, void}
 use Rattle.scalar.specs.Value.{Value, value}
 use Rattle.wire.specs.Wire.{withPart}
 use Rattle.tree.specs.Encode.{encode, count}
-use Rattle.state.specs.Session.{done, undone, advance, Session, live}
-use Rattle.state.specs.Bytes.{zeros, progressBytes, rowsBytes, treeBytes, slotBytes}
+use Rattle.state.specs.Places.{queueSize, rowsSize, keptSize}
+use Rattle.state.specs.Session.{done, undone, advance, Session, live, withTree, withProgress, newSession}
+use Rattle.state.specs.Bytes.{zeros, progressBytes, rowsBytes, treeBytes, headBytes, slotBytes}
 use Rattle.state.specs.FreshLaws.{no-queue, no-progress}
 use Rattle.state.specs.ChangeLaws.{advance-bytes}
 
@@ -19,7 +20,7 @@ assigned = node 5 (value void []) (node 7 (value int (12 ∷ 0 ∷ 0 ∷ 0 ∷ [
 
 -- The client after the move: row 0 is done.
 abbrev pub moved : Session
-moved = record { tree = assigned; queue = []; progress = advance (λ i. undone) 0 done }
+moved = withProgress (withTree newSession assigned) (advance (λ i. undone) 0 done)
 
 -- The tree's bytes, 19 of them.
 pub assigned-bytes : treeBytes assigned ≡ 0 ∷ 0 ∷ 6 ∷ 1 ∷ 0 ∷ 5 ∷ 0 ∷ 6 ∷ 1 ∷ 0 ∷ 7 ∷ 0 ∷ 1 ∷ 0 ∷ 4 ∷ 12 ∷ 0 ∷ 0 ∷ 0 ∷ []
@@ -27,9 +28,9 @@ unfolding encode count
 assigned-bytes = refl
 
 pub moved-bytes : slotBytes (live moved)
-    ≡ (1 ∷ 0 ∷ 19 ∷ 0 ∷ []) ++ (zeros 12 ++ ((treeBytes assigned ++ zeros 1005) ++ (zeros 1376 ++ (withPart (zeros 1536) 0 (1 ∷ zeros 5) ++ zeros 144))))
-unfolding slotBytes encode count progressBytes
+    ≡ (1 ∷ 0 ∷ 19 ∷ 0 ∷ []) ++ (zeros 12 ++ ((treeBytes assigned ++ zeros 1005) ++ (zeros queueSize ++ (withPart (zeros rowsSize) 0 (1 ∷ zeros 5) ++ zeros keptSize))))
+unfolding slotBytes headBytes encode count progressBytes
 moved-bytes =
-    let r : rowsBytes (advance (λ i. undone) 0 done) ≡ withPart (zeros 1536) 0 (progressBytes done) =
+    let r : rowsBytes (advance (λ i. undone) 0 done) ≡ withPart (zeros rowsSize) 0 (progressBytes done) =
     advance-bytes (λ i. undone) 0 done (omega arith) ∙ ap (λ (x : List ℕ). withPart x 0 (progressBytes done)) no-progress in
     rw (no-queue 4, r)

@@ -1,14 +1,12 @@
 -- The tests of Form hold exactly where the bytes are the byte form of what is read from them.
 use mathlib.Core.Path.{_≡_, refl, sym, ap, _∙_}
-use mathlib.Core.List.{List, [], _∷_, _++_, append-assoc, append-nil}
+use mathlib.Core.List.{List, [], _∷_, _++_, append-nil}
 use mathlib.Core.Bool.{Bool, true, false, _&&_}
 use Prim.Native.Nat.{ℕ, zero, suc, _+_, _-_, _*_, _/_, _%_, _≤_, _<_}
 use native.Mathlib.Nat.{add-zero, zero-add, mul-zero, mul-suc}
-use native.Mathlib.Numerals.{add-one}
 use native.Mathlib.Omega.{arith}
 use native.Mathlib.Decide.{decLt}
 use lib.ListN.{length, drop, take-append-drop, length-append}
-use lib.Seq.{drop-cons, drop-drop, drop-at}
 use lib.Dec.{eqb, leb, ltb}
 use borrow.Author.Tests.{eq-eqb, ne-eqb, eqb-true, eqb-false, leb-true, le-leb, lt-leb, lt-ltb}
 use Rattle.forest.specs.Forest.{Forest, tree, childrenOf}
@@ -20,50 +18,18 @@ use Rattle.tree.specs.Encode.{Octets, WellFormed, empty, messageDeep, messageMa
 use Rattle.tree.specs.Decode.{decode, decodeMessage, isMessage, isSessionTree}
 use Rattle.tree.specs.DecodeLaws.{decode-complete, message-sound, message-complete, session-sound, session-complete}
 use Rattle.tree.specs.EncodeLaws.{and-left, and-right, octets-part}
+use Rattle.state.specs.Places.{slotSize, headSize, treeRoom, messageRoom, entrySize, queueSize, rowSize, rowsSize, treePlace, queuePlace, rowsPlace, keptPlace, keptSize, slotStart}
 use Rattle.state.specs.Session.{ReplyTo, nobody, outsider, waitingRow, Progress, undone, done, waits, received, taken, Progresses, Queued, Session, Slot, free, live}
-use Rattle.state.specs.Bytes.{zeros, joined, padded, u16Bytes, u32Bytes, replyKind, replyBytes, messageBytes, entryBytes, queueBytes, progressBytes, rowsBytes, treeBytes, slotBytes, slotAt, stateBytes, readReply, treeOr, readEntry, readQueue, readProgress, readSession, readSlot, readState}
+use Rattle.state.specs.Bytes.{zeros, joined, padded, u16Bytes, u32Bytes, replyKind, replyBytes, messageBytes, entryBytes, queueBytes, progressBytes, rowsBytes, treeBytes, headBytes, slotBytes, slotAt, stateBytes, readReply, treeOr, readEntry, readQueue, readProgress, treeLength, readSession, readSlot, readState}
 use Rattle.state.specs.Shape.{AllMessages, MadeSlot, suitsSlot, suitsServices, sameBytes, decodeState}
-use Rattle.state.specs.Form.{allZero, progressForm, rowsForm, entryForm, queueForm, treeForm, liveForm, slotForm, slotsStand, slotsForm}
-use Rattle.state.specs.PartLaws.{length-zeros, length-padded, Holds, holds-first, holds-rest, holds-part}
+use Rattle.state.specs.Form.{allZero, progressForm, rowsForm, entryForm, queueForm, headForm, treeForm, liveForm, slotForm, slotsStand, slotsForm}
+use Rattle.state.specs.PartLaws.{length-padded, Holds, holds-first, holds-rest, holds-part}
 use Rattle.state.specs.SizeLaws.{message-size, session-tree-size, entry-size, reply-size, progress-size, rows-size, Fits, made-fits, slot-size, Sized, sized-length}
-use Rattle.state.specs.ReadLaws.{holds-head, holds-tail, holds-zeros, holds-u16, entry-used, Parts, slot-parts, state-slot}
+use Rattle.state.specs.HoldLaws.{holds-head, holds-tail, holds-zeros, holds-u16, holds-nil, holds-join, holds-cons, zero-holds, holds-zero, two-holds, u16-holds, u32-holds}
+use Rattle.state.specs.HeadLaws.{head-size, head-live, head-length, head-tested, tested-head}
+use Rattle.state.specs.ReadLaws.{entry-used, Parts, slot-parts, state-slot}
 use Rattle.state.specs.FreshLaws.{no-queue}
 use Rattle.state.specs.ShapeLaws.{services-suit, suit-services, both-ways, same-true, same-equal, below-next, entry-made, session-made, slot-made}
-
--- ---- bytes that stand somewhere, one by one
-
-pub holds-nil : (s : List ℕ) (at : ℕ) → Holds s at []
-holds-nil s at = record { after = drop at s; bytes = refl }
-
-pub holds-cons : {s : List ℕ} {at : ℕ} {a : ℕ} {l : List ℕ} → at < length s → byteAt s at ≡ a → Holds s (at + 1) l → Holds s at (a ∷ l)
-holds-cons {s} {at} {a} {l} i e h = record {
-  after = h .after;
-  bytes = drop-cons s at 0 i ∙ rw (e, ← add-one at, h .bytes);
-}
-
-pub holds-join : {s : List ℕ} {at : ℕ} (a b : List ℕ) (n : ℕ) → length a ≡ n → Holds s at a → Holds s (at + n) b → Holds s at (a ++ b)
-holds-join {s} {at} a b n e h k = record {
-  after = k .after;
-  bytes =
-      let r : h .after ≡ b ++ k .after =
-      sym (drop-at a (h .after) n e) ∙ ap (drop n) (sym (h .bytes)) ∙ drop-drop n at s ∙ k .bytes in
-      h .bytes ∙ rw r (sym (append-assoc a b (k .after)));
-}
-
--- ---- zeros
-
-pub zero-holds : (s : List ℕ) (at n : ℕ) → at + n ≤ length s → allZero s at n ≡ true → Holds s at (zeros n)
-unfolding allZero zeros
-zero-holds s at zero i h = holds-nil s at
-zero-holds s at (suc n) i h =
-    let r = allZero s (at + 1) n in
-    holds-cons (omega arith) (eqb-true (byteAt s at) 0 (and-left (eqb (byteAt s at) 0) r h))
-    (zero-holds s (at + 1) n (omega arith) (and-right (eqb (byteAt s at) 0) r h))
-
-pub holds-zero : {s : List ℕ} {at : ℕ} (n : ℕ) → Holds s at (zeros n) → allZero s at n ≡ true
-unfolding allZero zeros
-holds-zero zero h = refl
-holds-zero {s} {at} (suc n) h = rw (holds-head h, holds-zero n (holds-tail h))
 
 -- ---- a row's progress
 
@@ -109,47 +75,13 @@ progress-code s at h = by (decLt (byteAt s at) 7)
         rw (ne-eqb c 3 (λ e. omega arith), ne-eqb c 4 (λ e. omega arith), ne-eqb c 5 (λ e. omega arith), lt-leb c 6 (omega arith)) at h in
         absurd (let z : _≡_ {A = ℕ} 0 1 = cc in omega arith)
 
--- The bytes of a number.
-record Bytes4 (a b c d : ℕ) : Type 0 where
-  first : a ≡ (a + 256 * b + 65536 * (c + 256 * d)) % 256
-  second : b ≡ (a + 256 * b + 65536 * (c + 256 * d)) / 256 % 256
-  third : c ≡ (a + 256 * b + 65536 * (c + 256 * d)) / 65536 % 256
-  fourth : d ≡ (a + 256 * b + 65536 * (c + 256 * d)) / 16777216
-
-bytes-4 : (a b c d : ℕ) → a < 256 → b < 256 → c < 256 → Bytes4 a b c d
-bytes-4 a b c d i j k =
-    let v = a + 256 * b + 65536 * (c + 256 * d) in
-    let e : v / 256 ≡ b + 256 * (c + 256 * d) = omega arith in
-    let f : v / 65536 ≡ c + 256 * d = omega arith in
-    record {
-      first = omega arith;
-      second = rw e (omega arith);
-      third = rw f (omega arith);
-      fourth = omega arith;
-    }
-
 module _ (s : List ℕ) (o : Octets s) where
-  two-holds : (at : ℕ) {a b : ℕ} → at + 2 ≤ length s → byteAt s at ≡ a → byteAt s (at + 1) ≡ b → Holds s at (a ∷ b ∷ [])
-  two-holds at i e f = holds-cons (omega arith) e (holds-cons (omega arith) f (holds-nil s (at + 1 + 1)))
-
-  u16-holds : (at : ℕ) → at + 2 ≤ length s → Holds s at (u16Bytes (u16At s at))
-  unfolding u16At
-  u16-holds at i = let a = o .small at in two-holds at i (omega arith) (omega arith)
-
-  u32-holds : (at : ℕ) → at + 4 ≤ length s → Holds s at (u32Bytes (u32At s at))
-  unfolding u32At u16At
-  u32-holds at i =
-      let w = bytes-4 (byteAt s at) (byteAt s (at + 1)) (byteAt s (at + 2)) (byteAt s (at + 2 + 1)) (o .small at) (o .small (at + 1)) (o .small (at + 2)) in
-      let v = u32At s at in
-      holds-join (v % 256 ∷ v / 256 % 256 ∷ []) (v / 65536 % 256 ∷ v / 16777216 ∷ []) 2 refl
-      (two-holds at (omega arith) (w .first) (w .second)) (two-holds (at + 2) (omega arith) (w .third) (w .fourth))
-
   waiting-holds : (at : ℕ) → at + 4 ≤ length s → Holds s at (byteAt s at ∷ byteAt s (at + 1) ∷ u16Bytes (u16At s (at + 2)))
   waiting-holds at i =
       holds-join (byteAt s at ∷ byteAt s (at + 1) ∷ []) (u16Bytes (u16At s (at + 2))) 2 refl
-      (two-holds at (omega arith) refl refl) (u16-holds (at + 2) (omega arith))
+      (two-holds s o at (omega arith) refl refl) (u16-holds s o (at + 2) (omega arith))
 
-  progress-holds : (at : ℕ) → at + 6 ≤ length s → progressForm s at ≡ true → Holds s at (progressBytes (readProgress s at))
+  progress-holds : (at : ℕ) → at + rowSize ≤ length s → progressForm s at ≡ true → Holds s at (progressBytes (readProgress s at))
   unfolding progressForm readProgress progressBytes readReply zeros
   progress-holds at i h = by (byteAt s at) refl (code (byteAt s at) (progress-code s at h))
     where
@@ -158,14 +90,14 @@ module _ (s : List ℕ) (o : Octets s) where
       by c e done′ = rw e (holds-cons (omega arith) e (zero-holds s (at + 1) 5 (omega arith) (rw e at h)))
       by c e waits′ = rw e (holds-cons (omega arith) e (zero-holds s (at + 1) 5 (omega arith) (rw e at h)))
       by c e taken′ =
-          rw e (holds-join (3 ∷ byteAt s (at + 1) ∷ []) (zeros 4) 2 refl (two-holds at (omega arith) e refl)
+          rw e (holds-join (3 ∷ byteAt s (at + 1) ∷ []) (zeros 4) 2 refl (two-holds s o at (omega arith) e refl)
           (zero-holds s (at + 2) 4 (omega arith) (rw e at h)))
       by c e outsider′ =
           let z = eqb-true (byteAt s (at + 1)) 0 (rw e at h) in
-          rw e (holds-join (4 ∷ 0 ∷ []) (u32Bytes (u32At s (at + 2))) 2 refl (two-holds at (omega arith) e z) (u32-holds (at + 2) (omega arith)))
+          rw e (holds-join (4 ∷ 0 ∷ []) (u32Bytes (u32At s (at + 2))) 2 refl (two-holds s o at (omega arith) e z) (u32-holds s o (at + 2) (omega arith)))
       by c e waitingRow′ =
           let z = eqb-true (byteAt s (at + 1)) 0 (rw e at h) in
-          rw e (holds-join (5 ∷ 0 ∷ []) _ 2 refl (two-holds at (omega arith) e z) (waiting-holds (at + 2) (omega arith)))
+          rw e (holds-join (5 ∷ 0 ∷ []) _ 2 refl (two-holds s o at (omega arith) e z) (waiting-holds (at + 2) (omega arith)))
       by c e nobody′ = rw e (holds-cons (omega arith) e (zero-holds s (at + 1) 5 (omega arith) (rw e at h)))
 
 -- ---- rows
@@ -176,25 +108,25 @@ holds-rows p k zero h = refl
 holds-rows p k (suc n) h =
     let rest = joined (λ r. progressBytes (p r)) (suc k) n in
     let a = holds-first (progressBytes (p k)) rest h in
-    let b = holds-rest (progressBytes (p k)) rest 6 (progress-size (p k)) h in
+    let b = holds-rest (progressBytes (p k)) rest rowSize (progress-size (p k)) h in
     rw (holds-progress (p k) a, holds-rows p (suc k) n b)
 
-rows-hold : (s : List ℕ) → Octets s → (p : Progresses) (at k n : ℕ) → at + 6 * n ≤ length s → ((i : ℕ) → i < n → p (k + i) ≡ readProgress s (at + 6 * i))
+rows-hold : (s : List ℕ) → Octets s → (p : Progresses) (at k n : ℕ) → at + rowSize * n ≤ length s → ((i : ℕ) → i < n → p (k + i) ≡ readProgress s (at + rowSize * i))
     → rowsForm s at n ≡ true → Holds s at (joined (λ r. progressBytes (p r)) k n)
 unfolding rowsForm joined
 rows-hold s o p at k zero i e h = holds-nil s at
 rows-hold s o p at k (suc n) i e h =
     let f : p k ≡ readProgress s at = rw (add-zero k, add-zero at) at (e 0 (omega arith)) in
     let a = progressForm s at in
-    let b = rowsForm s (at + 6) n in
+    let b = rowsForm s (at + rowSize) n in
     let one : Holds s at (progressBytes (p k)) = rw f (progress-holds s o at (omega arith) (and-left a b h)) in
-    let rest = rows-hold s o p (at + 6) (suc k) n (omega arith) (λ i l. later i (e (suc i) (omega arith))) (and-right a b h) in
-    holds-join (progressBytes (p k)) (joined (λ r. progressBytes (p r)) (suc k) n) 6 (progress-size (p k)) one rest
+    let rest = rows-hold s o p (at + rowSize) (suc k) n (omega arith) (λ i l. later i (e (suc i) (omega arith))) (and-right a b h) in
+    holds-join (progressBytes (p k)) (joined (λ r. progressBytes (p r)) (suc k) n) rowSize (progress-size (p k)) one rest
   where
-    later : (i : ℕ) → p (k + suc i) ≡ readProgress s (at + 6 * suc i) → p (suc k + i) ≡ readProgress s (at + 6 + 6 * i)
+    later : (i : ℕ) → p (k + suc i) ≡ readProgress s (at + rowSize * suc i) → p (suc k + i) ≡ readProgress s (at + rowSize + rowSize * i)
     later i g =
         let u : suc k + i ≡ k + suc i = omega arith in
-        let v : at + 6 + 6 * i ≡ at + 6 * suc i = omega arith in
+        let v : at + rowSize + rowSize * i ≡ at + rowSize * suc i = omega arith in
         rw (u, v) g
 
 -- ---- an entry of the queue
@@ -214,16 +146,16 @@ unfolding entryForm entryBytes
 holds-entry-form {s} {at} m w h =
     let to = m .replyTo in
     let l = messageBytes (m .message) in
-    let tail = holds-rest ((m .operation + 1) ∷ replyKind to ∷ u16Bytes (length l)) (replyBytes to ++ padded 336 l) 4 refl h in
+    let tail = holds-rest ((m .operation + 1) ∷ replyKind to ∷ u16Bytes (length l)) (replyBytes to ++ padded messageRoom l) 4 refl h in
     let k : byteAt s (at + 1) ≡ replyKind to = holds-head (holds-tail h) in
     let len : u16At s (at + 2) ≡ length l = holds-u16 (length l) (holds-rest ((m .operation + 1) ∷ replyKind to ∷ []) _ 2 refl h) in
-    let r : pick (eqb (replyKind to) 0) (allZero s (at + 4) 4) true ≡ true = holds-reply to (holds-first (replyBytes to) (padded 336 l) tail) in
+    let r : pick (eqb (replyKind to) 0) (allZero s (at + 4) 4) true ≡ true = holds-reply to (holds-first (replyBytes to) (padded messageRoom l) tail) in
     let e : at + 4 + 4 ≡ at + 8 = omega arith in
-    let bytes : Holds s (at + 8) (padded 336 l) = rw e at (holds-rest (replyBytes to) (padded 336 l) 4 (reply-size to) tail) in
+    let bytes : Holds s (at + 8) (padded messageRoom l) = rw e at (holds-rest (replyBytes to) (padded messageRoom l) 4 (reply-size to) tail) in
     let is = message-complete l (m .message) (record { bytes = refl; good = w }) in
-    let p : part s (at + 8) (length l) ≡ l = holds-part (holds-first l (zeros (336 - length l)) bytes) (length l) refl in
-    let z = holds-zero (336 - length l) (holds-rest l (zeros (336 - length l)) (length l) refl bytes) in
-    let f = le-leb (length l) 336 (message-size (m .message) w) in
+    let p : part s (at + 8) (length l) ≡ l = holds-part (holds-first l (zeros (messageRoom - length l)) bytes) (length l) refl in
+    let z = holds-zero (messageRoom - length l) (holds-rest l (zeros (messageRoom - length l)) (length l) refl bytes) in
+    let f = le-leb (length l) messageRoom (message-size (m .message) w) in
     rw (k, small-kind to, r, len, f, p, is, z)
 
 module _ (s : List ℕ) (o : Octets s) where
@@ -252,19 +184,19 @@ module _ (s : List ℕ) (o : Octets s) where
   message-back : (l : List ℕ) → Octets l → isMessage l ≡ true → messageBytes (treeOr (decodeMessage l)) ≡ l
   message-back l p h = let w = message-sound l p h in rw (decode-complete messageDeep messageMany l (w .0) (w .1)) (sym (w .1 .bytes))
 
-  entry-holds : (at : ℕ) → at + 344 ≤ length s → (byteAt s at ≡ 0 → ⊥) → entryForm s at ≡ true → Holds s at (entryBytes (readEntry s at))
+  entry-holds : (at : ℕ) → at + entrySize ≤ length s → (byteAt s at ≡ 0 → ⊥) → entryForm s at ≡ true → Holds s at (entryBytes (readEntry s at))
   unfolding entryForm entryBytes readEntry
   entry-holds at i u h =
       let c = byteAt s (at + 1) in
       let n = u16At s (at + 2) in
       let l = part s (at + 8) n in
-      let z = allZero s (at + 8 + n) (336 - n) in
+      let z = allZero s (at + 8 + n) (messageRoom - n) in
       let r = pick (eqb c 0) (allZero s (at + 4) 4) true in
-      let h1 = and-left (leb c 2 && r) (leb n 336 && (isMessage l && z)) h in
-      let h2 = and-right (leb c 2 && r) (leb n 336 && (isMessage l && z)) h in
-      let h3 = and-right (leb n 336) (isMessage l && z) h2 in
+      let h1 = and-left (leb c 2 && r) (leb n messageRoom && (isMessage l && z)) h in
+      let h2 = and-right (leb c 2 && r) (leb n messageRoom && (isMessage l && z)) h in
+      let h3 = and-right (leb n messageRoom) (isMessage l && z) h2 in
       let kc = and-left (leb c 2) r h1 in
-      let small : n ≤ 336 = leb-true n 336 (and-left (leb n 336) (isMessage l && z) h2) in
+      let small : n ≤ messageRoom = leb-true n messageRoom (and-left (leb n messageRoom) (isMessage l && z) h2) in
       let back = message-back l (octets-part s (at + 8) n o) (and-left (isMessage l) z h3) in
       let len : length l ≡ n = length-part s (at + 8) n (omega arith) in
       let op : byteAt s at ≡ byteAt s at - 1 + 1 = omega (arith, positive (byteAt s at) u) in
@@ -273,10 +205,10 @@ module _ (s : List ℕ) (o : Octets s) where
       let a = two-holds s o at (omega arith) op (sym (kind-back c (at + 4) kc)) in
       let b : Holds s (at + 2) (u16Bytes (length l)) = rw len (u16-holds s o (at + 2) (omega arith)) in
       let d = reply-holds c (at + 4) (omega arith) kc (and-right (leb c 2) r h1) in
-      let f : Holds s (at + 4 + 4) (padded 336 l) = rw e (padded-holds (at + 8) 336 n l (omega arith) small refl (and-right (isMessage l) z h3)) in
+      let f : Holds s (at + 4 + 4) (padded messageRoom l) = rw e (padded-holds (at + 8) messageRoom n l (omega arith) small refl (and-right (isMessage l) z h3)) in
       let front : List ℕ = (byteAt s at - 1 + 1) ∷ replyKind to ∷ [] in
-      rw back (holds-join (front ++ u16Bytes (length l)) (replyBytes to ++ padded 336 l) 4 refl (holds-join front (u16Bytes (length l)) 2 refl a b)
-      (holds-join (replyBytes to) (padded 336 l) 4 (reply-size to) d f))
+      rw back (holds-join (front ++ u16Bytes (length l)) (replyBytes to ++ padded messageRoom l) 4 refl (holds-join front (u16Bytes (length l)) 2 refl a b)
+      (holds-join (replyBytes to) (padded messageRoom l) 4 (reply-size to) d f))
     where
       positive : (x : ℕ) → (x ≡ 0 → ⊥) → 0 < x
       positive zero u = absurd (u refl)
@@ -288,43 +220,43 @@ holds-queue : {s : List ℕ} {at : ℕ} (n : ℕ) (l : List Queued) → AllMessa
 unfolding queueForm queueBytes AllMessages
 holds-queue zero l w h = refl
 holds-queue {s} {at} (suc n) [] w h =
-    let z : Holds s at (zeros (344 * suc n)) = rw (no-queue (suc n)) at h in
-    rw (holds-zeros (omega arith) z) (holds-zero (344 * suc n) z)
+    let z : Holds s at (zeros (entrySize * suc n)) = rw (no-queue (suc n)) at h in
+    rw (holds-zeros (omega arith) z) (holds-zero (entrySize * suc n) z)
 holds-queue {s} {at} (suc n) (m ∷ l) w h =
     let a = holds-first (entryBytes m) (queueBytes n l) h in
-    let b = holds-rest (entryBytes m) (queueBytes n l) 344 (entry-size m (message-size (m .message) (w .0))) h in
+    let b = holds-rest (entryBytes m) (queueBytes n l) entrySize (entry-size m (message-size (m .message) (w .0))) h in
     rw (entry-used m a, holds-entry-form m (w .0) a, holds-queue n l (w .1) b)
 
-queue-holds : (s : List ℕ) → Octets s → (at n : ℕ) → at + 344 * n ≤ length s → queueForm s at n ≡ true → Holds s at (queueBytes n (readQueue s n at))
+queue-holds : (s : List ℕ) → Octets s → (at n : ℕ) → at + entrySize * n ≤ length s → queueForm s at n ≡ true → Holds s at (queueBytes n (readQueue s n at))
 unfolding queueForm queueBytes readQueue
 queue-holds s o at zero i h = holds-nil s at
-queue-holds s o at (suc n) i h = by (eqb (byteAt s at) 0) refl h (queue-holds s o (at + 344) n (omega arith))
+queue-holds s o at (suc n) i h = by (eqb (byteAt s at) 0) refl h (queue-holds s o (at + entrySize) n (omega arith))
   where
-    by : (t : Bool) → eqb (byteAt s at) 0 ≡ t → pick t (allZero s at (344 * suc n)) (entryForm s at && queueForm s (at + 344) n) ≡ true
-        → (queueForm s (at + 344) n ≡ true → Holds s (at + 344) (queueBytes n (readQueue s n (at + 344))))
-        → Holds s at (queueBytes (suc n) (pick t [] (readEntry s at ∷ readQueue s n (at + 344))))
-    by true e h k = rw (no-queue (suc n)) (zero-holds s at (344 * suc n) i h)
+    by : (t : Bool) → eqb (byteAt s at) 0 ≡ t → pick t (allZero s at (entrySize * suc n)) (entryForm s at && queueForm s (at + entrySize) n) ≡ true
+        → (queueForm s (at + entrySize) n ≡ true → Holds s (at + entrySize) (queueBytes n (readQueue s n (at + entrySize))))
+        → Holds s at (queueBytes (suc n) (pick t [] (readEntry s at ∷ readQueue s n (at + entrySize))))
+    by true e h k = rw (no-queue (suc n)) (zero-holds s at (entrySize * suc n) i h)
     by false e h k =
-        let a = and-left (entryForm s at) (queueForm s (at + 344) n) h in
-        let b = and-right (entryForm s at) (queueForm s (at + 344) n) h in
+        let a = and-left (entryForm s at) (queueForm s (at + entrySize) n) h in
+        let b = and-right (entryForm s at) (queueForm s (at + entrySize) n) h in
         let c = entry-holds s o at (omega arith) (eqb-false (byteAt s at) 0 e) a in
         let w = entry-made s o at in
-        holds-join (entryBytes (readEntry s at)) (queueBytes n (readQueue s n (at + 344))) 344 (entry-size (readEntry s at) (message-size _ w)) c (k b)
+        holds-join (entryBytes (readEntry s at)) (queueBytes n (readQueue s n (at + entrySize))) entrySize (entry-size (readEntry s at) (message-size _ w)) c (k b)
 
 -- ---- a live slot's tree
 
 tree-back : (l : List ℕ) → Octets l → isSessionTree l ≡ true → treeBytes (childrenOf (decode treeDeep treeMany l)) ≡ l
 tree-back l o h = let w = session-sound l o h in rw (decode-complete treeDeep treeMany l (tree empty (w .0)) (w .1)) (sym (w .1 .bytes))
 
-holds-tree : {s : List ℕ} (at : ℕ) (F : Forest Value) → WellFormed treeDeep treeMany (tree empty F) → u16At s (at + 2) ≡ length (treeBytes F)
-    → Holds s (at + 16) (padded 1024 (treeBytes F)) → treeForm s at ≡ true
+holds-tree : {s : List ℕ} (at : ℕ) (F : Forest Value) → WellFormed treeDeep treeMany (tree empty F) → treeLength s at ≡ length (treeBytes F)
+    → Holds s (at + treePlace) (padded treeRoom (treeBytes F)) → treeForm s at ≡ true
 unfolding treeForm
 holds-tree {s} at F w e h =
     let l = treeBytes F in
     let d = session-complete l F (record { bytes = refl; good = w }) in
-    let p = holds-part (holds-first l (zeros (1024 - length l)) h) (length l) refl in
-    let z = holds-zero (1024 - length l) (holds-rest l (zeros (1024 - length l)) (length l) refl h) in
-    let f = le-leb (length l) 1024 (omega (arith, session-tree-size F w)) in
+    let p = holds-part (holds-first l (zeros (treeRoom - length l)) h) (length l) refl in
+    let z = holds-zero (treeRoom - length l) (holds-rest l (zeros (treeRoom - length l)) (length l) refl h) in
+    let f = le-leb (length l) treeRoom (omega (arith, session-tree-size F w)) in
     rw (e, f, p, d, z)
 
 -- ---- a slot
@@ -332,84 +264,72 @@ holds-tree {s} at F w e h =
 -- What stands in the form of a slot passes the test.
 pub holds-slot : {s : List ℕ} {at : ℕ} (x : Slot) → MadeSlot x → Holds s at (slotBytes x) → slotForm s at ≡ true
 unfolding slotForm liveForm slotBytes
-holds-slot free w h = rw (holds-zeros (omega arith) h) (holds-zero 4096 h)
+holds-slot free w h = rw (holds-zeros (omega arith) h) (holds-zero slotSize h)
 holds-slot {s} {at} (live S) w h =
     let p = slot-parts S (made-fits w) h in
     rw (
-      p .flag,
-      p .kept,
-      holds-zero 12 (p .keptAfter),
-      holds-tree at (S .tree) (w .bounded) (p .size) (p .tree),
+      head-live S (p .head),
+      head-tested S (p .head),
+      holds-tree at (S .tree) (w .bounded) (head-length S (p .head)) (p .tree),
       holds-queue 4 (S .queue) (w .messages) (p .queue),
       holds-rows (S .progress) 0 256 (p .rows),
-      holds-zero 144 (p .keptLast),
+      holds-zero keptSize (p .kept),
     )
 
 module _ (s : List ℕ) (o : Octets s) where
   -- A live slot from its parts.
-  parts-slot : (at : ℕ) (S : Session) → at + 4096 ≤ length s → Fits S → Parts s at S → Holds s at (slotBytes (live S))
+  parts-slot : (at : ℕ) (S : Session) → at + slotSize ≤ length s → Fits S → Parts s at S → Holds s at (slotBytes (live S))
   unfolding slotBytes
   parts-slot at S i f p =
       let t = treeBytes (S .tree) in
-      let l = u16Bytes (length t) in
       let q = queueBytes 4 (S .queue) in
       let r = rowsBytes (S .progress) in
-      let a : Holds s (at + 2) l = rw (p .size) at (u16-holds s o (at + 2) (omega arith)) in
-      let b : Holds s (at + 2416) (r ++ zeros 144) =
-      holds-join r (zeros 144) 1536 (rows-size (S .progress)) (p .rows) (rw (further at 2416 1536) (p .keptLast)) in
-      let c : Holds s (at + 1040) (q ++ (r ++ zeros 144)) = holds-join q (r ++ zeros 144) 1376 (f .queueFits) (p .queue) (rw (further at 1040 1376) b) in
-      let d : Holds s (at + 16) (padded 1024 t ++ (q ++ (r ++ zeros 144))) =
-      holds-join (padded 1024 t) _ 1024 (length-padded 1024 t (f .treeFits)) (p .tree) (rw (further at 16 1024) c) in
-      let e : Holds s (at + 4) (zeros 12 ++ (padded 1024 t ++ (q ++ (r ++ zeros 144)))) =
-      holds-join (zeros 12) (padded 1024 t ++ (q ++ (r ++ zeros 144))) 12 (length-zeros 12) (p .keptAfter) (rw (further at 4 12) d) in
-      holds-join (1 ∷ 0 ∷ l) _ 4 refl (holds-join (1 ∷ 0 ∷ []) l 2 refl (two-holds s o at (omega arith) (p .flag) (p .kept)) a) e
+      let b : Holds s (at + rowsPlace) (r ++ zeros keptSize) =
+      holds-join r (zeros keptSize) rowsSize (rows-size (S .progress)) (p .rows) (rw (further at rowsPlace rowsSize) (p .kept)) in
+      let c : Holds s (at + queuePlace) (q ++ (r ++ zeros keptSize)) = holds-join q (r ++ zeros keptSize) queueSize (f .queueFits) (p .queue) (rw (further at queuePlace queueSize) b) in
+      let d : Holds s (at + treePlace) (padded treeRoom t ++ (q ++ (r ++ zeros keptSize))) =
+      holds-join (padded treeRoom t) _ treeRoom (length-padded treeRoom t (f .treeFits)) (p .tree) (rw (further at treePlace treeRoom) c) in
+      holds-join (headBytes S) _ headSize (head-size S) (p .head) d
     where
       further : (at a b : ℕ) → at + a + b ≡ at + (a + b)
       further at a b = omega arith
 
-  live-parts : (at : ℕ) → at + 4096 ≤ length s → liveForm s at ≡ true → Parts s at (readSession s at)
+  live-parts : (at : ℕ) → at + slotSize ≤ length s → liveForm s at ≡ true → Parts s at (readSession s at)
   unfolding liveForm treeForm readSession
   live-parts at i h =
-      let n = u16At s (at + 2) in
-      let l = part s (at + 16) n in
-      let f1 = eqb (byteAt s at) 1 in
-      let f2 = eqb (byteAt s (at + 1)) 0 in
-      let f3 = allZero s (at + 4) 12 in
-      let z = allZero s (at + 16 + n) (1024 - n) in
-      let f4 = leb n 1024 && (isSessionTree l && z) in
-      let f5 = queueForm s (at + 1040) 4 in
-      let f6 = rowsForm s (at + 2416) 256 in
-      let f7 = allZero s (at + 3952) 144 in
-      let h1 = and-left ((f1 && f2) && (f3 && f4)) (f5 && (f6 && f7)) h in
-      let h2 = and-right ((f1 && f2) && (f3 && f4)) (f5 && (f6 && f7)) h in
-      let flags = and-left (f1 && f2) (f3 && f4) h1 in
-      let h34 = and-right (f1 && f2) (f3 && f4) h1 in
-      let h4 = and-right f3 f4 h34 in
-      let small : n ≤ 1024 = leb-true n 1024 (and-left (leb n 1024) (isSessionTree l && z) h4) in
-      let h5 = and-right (leb n 1024) (isSessionTree l && z) h4 in
-      let back = tree-back l (octets-part s (at + 16) n o) (and-left (isSessionTree l) z h5) in
+      let n = treeLength s at in
+      let l = part s (at + treePlace) n in
+      let f1 = headForm s at in
+      let z = allZero s (at + treePlace + n) (treeRoom - n) in
+      let f4 = leb n treeRoom && (isSessionTree l && z) in
+      let f5 = queueForm s (at + queuePlace) 4 in
+      let f6 = rowsForm s (at + rowsPlace) 256 in
+      let f7 = allZero s (at + keptPlace) keptSize in
+      let h1 = and-left (f1 && f4) (f5 && (f6 && f7)) h in
+      let h2 = and-right (f1 && f4) (f5 && (f6 && f7)) h in
+      let h4 = and-right f1 f4 h1 in
+      let small : n ≤ treeRoom = leb-true n treeRoom (and-left (leb n treeRoom) (isSessionTree l && z) h4) in
+      let h5 = and-right (leb n treeRoom) (isSessionTree l && z) h4 in
+      let back = tree-back l (octets-part s (at + treePlace) n o) (and-left (isSessionTree l) z h5) in
       let h67 = and-right f5 (f6 && f7) h2 in
       record {
-        flag = eqb-true (byteAt s at) 1 (and-left f1 f2 flags);
-        kept = eqb-true (byteAt s (at + 1)) 0 (and-right f1 f2 flags);
-        size = sym (ap length back ∙ length-part s (at + 16) n (omega arith));
-        keptAfter = zero-holds s (at + 4) 12 (omega arith) (and-left f3 f4 h34);
-        tree = rw back (padded-holds s o (at + 16) 1024 n l (omega arith) small refl (and-right (isSessionTree l) z h5));
-        queue = queue-holds s o (at + 1040) 4 (omega arith) (and-left f5 (f6 && f7) h2);
-        rows = rows-hold s o _ (at + 2416) 0 256 (omega arith) (λ k u. rw (zero-add k, lt-ltb k 256 u) refl) (and-left f6 f7 h67);
-        keptLast = zero-holds s (at + 3952) 144 (omega arith) (and-right f6 f7 h67);
+        head = tested-head s o at (readSession s at) (omega arith) (and-left f1 f4 h1) (sym (ap length back ∙ length-part s (at + treePlace) n (omega arith)));
+        tree = rw back (padded-holds s o (at + treePlace) treeRoom n l (omega arith) small refl (and-right (isSessionTree l) z h5));
+        queue = queue-holds s o (at + queuePlace) 4 (omega arith) (and-left f5 (f6 && f7) h2);
+        rows = rows-hold s o _ (at + rowsPlace) 0 256 (omega arith) (λ k u. rw (zero-add k, lt-ltb k 256 u) refl) (and-left f6 f7 h67);
+        kept = zero-holds s (at + keptPlace) keptSize (omega arith) (and-right f6 f7 h67);
       }
 
-  live-holds : (at : ℕ) → at + 4096 ≤ length s → liveForm s at ≡ true → Holds s at (slotBytes (live (readSession s at)))
+  live-holds : (at : ℕ) → at + slotSize ≤ length s → liveForm s at ≡ true → Holds s at (slotBytes (live (readSession s at)))
   live-holds at i h = parts-slot at (readSession s at) i (made-fits (session-made s o at)) (live-parts at i h)
 
   -- What passes it is the form of what is read there.
-  pub slot-holds : (at : ℕ) → at + 4096 ≤ length s → slotForm s at ≡ true → Holds s at (slotBytes (readSlot s at))
+  pub slot-holds : (at : ℕ) → at + slotSize ≤ length s → slotForm s at ≡ true → Holds s at (slotBytes (readSlot s at))
   unfolding slotForm readSlot slotBytes
   slot-holds at i h = by (eqb (byteAt s at) 0) h
     where
-      by : (t : Bool) → pick t (allZero s at 4096) (liveForm s at) ≡ true → Holds s at (slotBytes (pick t free (live (readSession s at))))
-      by true h = zero-holds s at 4096 i h
+      by : (t : Bool) → pick t (allZero s at slotSize) (liveForm s at) ≡ true → Holds s at (slotBytes (pick t free (live (readSession s at))))
+      by true h = zero-holds s at slotSize i h
       by false h = live-holds at i h
 
 -- ---- the whole
@@ -438,7 +358,7 @@ holds-all {s} {l} h e =
     nothing (a ∷ x) n = absurd (omega arith)
 
 -- The slot k of what is read.
-read-at : (s : List ℕ) (k : ℕ) → k < 16 → slotAt (readState s) k ≡ readSlot s (4096 * k)
+read-at : (s : List ℕ) (k : ℕ) → k < 16 → slotAt (readState s) k ≡ readSlot s (slotSize * k)
 unfolding readState
 read-at s k i =
     let e : 4 * (k / 4) + k % 4 ≡ k = omega arith in
@@ -448,18 +368,18 @@ read-sized : (s : List ℕ) → Octets s → Sized (readState s)
 unfolding readState
 read-sized s o = record { each = λ k. by (k / 4) (k % 4) (ltb (k / 4) 4 && ltb (k % 4) 4) }
   where
-    by : (q n : ℕ) (t : Bool) → length (slotBytes (pick t (readSlot s (4096 * (4 * q + n))) free)) ≡ 4096
-    by q n true = slot-size (readSlot s (4096 * (4 * q + n))) (slot-made s o (4096 * (4 * q + n)))
+    by : (q n : ℕ) (t : Bool) → length (slotBytes (pick t (readSlot s (slotStart q n)) free)) ≡ slotSize
+    by q n true = slot-size (readSlot s (slotStart q n)) (slot-made s o (slotStart q n))
     by q n false = slot-size free tt
 
-each-form : (s : List ℕ) (n : ℕ) → slotsForm s n ≡ true → (k : ℕ) → k < n → slotForm s (4096 * k) ≡ true
+each-form : (s : List ℕ) (n : ℕ) → slotsForm s n ≡ true → (k : ℕ) → k < n → slotForm s (slotSize * k) ≡ true
 unfolding slotsForm
 each-form s zero h k i = absurd (omega arith)
 each-form s (suc n) h k i =
-    let a = slotForm s (4096 * n) in
-    below-next (λ k. slotForm s (4096 * k) ≡ true) n k i (and-left a (slotsForm s n) h) (each-form s n (and-right a (slotsForm s n) h) k)
+    let a = slotForm s (slotSize * n) in
+    below-next (λ k. slotForm s (slotSize * k) ≡ true) n k i (and-left a (slotsForm s n) h) (each-form s n (and-right a (slotsForm s n) h) k)
 
-all-form : (s : List ℕ) (n : ℕ) → ((k : ℕ) → k < n → slotForm s (4096 * k) ≡ true) → slotsForm s n ≡ true
+all-form : (s : List ℕ) (n : ℕ) → ((k : ℕ) → k < n → slotForm s (slotSize * k) ≡ true) → slotsForm s n ≡ true
 unfolding slotsForm
 all-form s zero h = refl
 all-form s (suc n) h = rw (h n (omega arith), all-form s n (λ k i. h k (omega arith)))
@@ -470,21 +390,21 @@ module _ (s : List ℕ) (o : Octets s) where
   unfolding stateBytes
   form-bytes n h =
       let z = read-sized s o in
-      holds-all (joined-holds s (λ k. slotBytes (slotAt (readState s) k)) 4096 (z .each) 0 0 16 (λ k i. slot k i)) (sized-length z ∙ sym n)
+      holds-all (joined-holds s (λ k. slotBytes (slotAt (readState s) k)) slotSize (z .each) 0 0 16 (λ k i. slot k i)) (sized-length z ∙ sym n)
     where
-      slot : (k : ℕ) → k < 16 → Holds s (0 + 4096 * k) (slotBytes (slotAt (readState s) (0 + k)))
-      slot k i = rw (zero-add (4096 * k), zero-add k, read-at s k i) (slot-holds s o (4096 * k) (omega arith) (each-form s 16 h k i))
+      slot : (k : ℕ) → k < 16 → Holds s (0 + slotSize * k) (slotBytes (slotAt (readState s) (0 + k)))
+      slot k i = rw (zero-add (slotSize * k), zero-add k, read-at s k i) (slot-holds s o (slotSize * k) (omega arith) (each-form s 16 h k i))
 
   -- And the other way round.
   pub bytes-form : stateBytes (readState s) ≡ s → slotsForm s 16 ≡ true
   bytes-form e = all-form s 16 (λ k i. slot k i)
     where
-      slot : (k : ℕ) → k < 16 → slotForm s (4096 * k) ≡ true
+      slot : (k : ℕ) → k < 16 → slotForm s (slotSize * k) ≡ true
       slot k i =
           let h = state-slot (read-sized s o) (k / 4) (k % 4) (omega arith) (omega arith) in
           let d : 4 * (k / 4) + k % 4 ≡ k = omega arith in
-          let a : Holds s (4096 * k) (slotBytes (slotAt (readState s) k)) = rw (d, e) at h in
-          holds-slot (readSlot s (4096 * k)) (slot-made s o (4096 * k)) (rw (read-at s k i) at a)
+          let a : Holds s (slotSize * k) (slotBytes (slotAt (readState s) k)) = rw (d, e) at h in
+          holds-slot (readSlot s (slotSize * k)) (slot-made s o (slotSize * k)) (rw (read-at s k i) at a)
 
   pub same-form : sameBytes (stateBytes (readState s)) s ≡ (eqb (length s) 65536 && slotsForm s 16)
   same-form = both-ways _ _ to from
@@ -510,7 +430,7 @@ module _ (s : List ℕ) (o : Octets s) where
 module _ (N : Network) (rows : ℕ) (s : List ℕ) where
   -- The test of one slot.
   abbrev stands : ℕ → Bool
-  stands k = slotForm s (4096 * k) && suitsSlot N rows (k / 4) (k % 4) (readSlot s (4096 * k))
+  stands k = slotForm s (slotSize * k) && suitsSlot N rows (k / 4) (k % 4) (readSlot s (slotSize * k))
 
   each-stands : (n : ℕ) → slotsStand N rows s n ≡ true → (k : ℕ) → k < n → stands k ≡ true
   unfolding slotsStand
@@ -538,7 +458,7 @@ module _ (N : Network) (rows : ℕ) (s : List ℕ) where
           let k = 4 * q + n in
           let e : k / 4 ≡ q = omega arith in
           let f : k % 4 ≡ n = omega arith in
-          let b = and-right (slotForm s (4096 * k)) (suitsSlot N rows (k / 4) (k % 4) (readSlot s (4096 * k))) (each-stands 16 h k (omega arith)) in
+          let b = and-right (slotForm s (slotSize * k)) (suitsSlot N rows (k / 4) (k % 4) (readSlot s (slotSize * k))) (each-stands 16 h k (omega arith)) in
           let c : suitsSlot N rows (k / 4) (k % 4) (slotAt (readState s) k) ≡ true = rw (read-at s k (omega arith)) b in
           rw (e, f) at c
 
@@ -546,7 +466,7 @@ module _ (N : Network) (rows : ℕ) (s : List ℕ) where
       from h =
           rw (
             suit-services N rows (readState s) 4 (slot h),
-            all-form s 16 (λ k i. and-left (slotForm s (4096 * k)) (suitsSlot N rows (k / 4) (k % 4) (readSlot s (4096 * k))) (each-stands 16 h k i)),
+            all-form s 16 (λ k i. and-left (slotForm s (slotSize * k)) (suitsSlot N rows (k / 4) (k % 4) (readSlot s (slotSize * k))) (each-stands 16 h k i)),
           )
 
   -- 14, slot by slot: the bytes stand for the state that is read from them, or for none.

@@ -3,7 +3,7 @@ use mathlib.Core.Path.{_≡_, refl, sym, ap, _∙_, fun-ext}
 use mathlib.Core.Bool.{Bool, true, false}
 use mathlib.Core.List.{List, [], _∷_, _++_}
 use Prim.Native.Nat.{ℕ, zero, suc, _+_, _*_, _/_, _%_, _≤_, _<_}
-use native.Mathlib.Nat.{add-zero, zero-add, mul-zero, mul-suc}
+use native.Mathlib.Nat.{zero-add, mul-zero, mul-suc}
 use native.Mathlib.Omega.{arith}
 use native.Mathlib.Decide.{decLt, ℕ-discrete}
 use lib.ListN.{length, set, take, drop, length-set, take-append-drop, replicate}
@@ -15,10 +15,12 @@ use Rattle.syntax.specs.Syntax.{Optional, none, some, Network, Behaviour}
 use Rattle.wire.specs.Wire.{part, withPart}
 use Rattle.wire.specs.WireLaws.{length-part}
 use Rattle.tree.specs.Encode.{encode, count}
-use Rattle.state.specs.Session.{undone, free, live, State, setSlot, newSession}
-use Rattle.state.specs.SizeLaws.{Sized, sized-length, slot-size}
+use Rattle.state.specs.Places.{slotSize, entrySize, queueSize, rowsSize, keptSize, rowSize}
+use Rattle.state.specs.Session.{undone, free, live, setSlot, newSession}
+use Rattle.state.specs.SizeLaws.{Sized, slot-size}
 use Rattle.state.specs.ShapeLaws.{new-made, no-service}
-use Rattle.state.specs.ChangeLaws.{set-other, set-bytes, slot-part}
+use Rattle.state.specs.ChangeLaws.{set-other}
+use Rattle.state.specs.HeadLaws.{head-new}
 use Rattle.state.specs.Shape.{serviceAt, clientOf, freshSlot, freshState, freshUpTo}
 use Rattle.state.specs.Bytes.{zeros, joined, queueBytes, progressBytes, rowsBytes, slotBytes, stateBytes}
 
@@ -40,20 +42,20 @@ joined-zeros f w h k (suc n) =
     rw (e, h k, joined-zeros f w h (suc k) n) (zeros-join w (w * n))
 
 -- An empty queue.
-pub no-queue : (n : ℕ) → queueBytes n [] ≡ zeros (344 * n)
+pub no-queue : (n : ℕ) → queueBytes n [] ≡ zeros (entrySize * n)
 unfolding queueBytes zeros
 no-queue zero = refl
-no-queue (suc n) = let e : 344 * suc n ≡ 344 + 344 * n = omega arith in rw (e, no-queue n) (zeros-join 344 (344 * n))
+no-queue (suc n) = let e : entrySize * suc n ≡ entrySize + entrySize * n = omega arith in rw (e, no-queue n) (zeros-join entrySize (entrySize * n))
 
 -- No row begun.
-pub no-progress : rowsBytes (λ i. undone) ≡ zeros 1536
+pub no-progress : rowsBytes (λ i. undone) ≡ zeros rowsSize
 unfolding progressBytes
-no-progress = joined-zeros (λ i. progressBytes undone) 6 (λ i. refl) 0 256
+no-progress = joined-zeros (λ i. progressBytes undone) rowSize (λ i. refl) 0 256
 
 -- The slot of a new session.
 pub new-bytes : slotBytes (live newSession) ≡ 1 ∷ 0 ∷ 5 ∷ 0 ∷ (zeros 12 ++ (0 ∷ 0 ∷ 6 ∷ 0 ∷ 0 ∷ zeros 4075))
 unfolding slotBytes encode count
-new-bytes = rw (no-queue 4, no-progress, zeros-join 1536 144, zeros-join 1376 1680, zeros-join 1019 3056) refl
+new-bytes = rw (head-new, no-queue 4, no-progress, zeros-join rowsSize keptSize, zeros-join queueSize 1680, zeros-join 1019 3056) refl
 
 -- ---- by stores
 
@@ -86,7 +88,7 @@ next-zeros : (n : ℕ) → zeros (5 + n) ≡ 0 ∷ 0 ∷ 0 ∷ 0 ∷ 0 ∷ zeros
 unfolding zeros
 next-zeros n = let e : 5 + n ≡ suc (suc (suc (suc (suc n)))) = omega arith in rw e refl
 
-slot-zeros : zeros 4096 ≡ 0 ∷ 0 ∷ 0 ∷ 0 ∷ (zeros 12 ++ (0 ∷ 0 ∷ 0 ∷ 0 ∷ 0 ∷ zeros 4075))
+slot-zeros : zeros slotSize ≡ 0 ∷ 0 ∷ 0 ∷ 0 ∷ (zeros 12 ++ (0 ∷ 0 ∷ 0 ∷ 0 ∷ 0 ∷ zeros 4075))
 slot-zeros = front-zeros 4092 ∙ ap (λ (x : List ℕ). 0 ∷ 0 ∷ 0 ∷ 0 ∷ x) (sym (zeros-join 12 4080) ∙ ap (λ (x : List ℕ). zeros 12 ++ x) (next-zeros 4075))
 
 -- Three stores in a free slot make a new session of it.
@@ -97,28 +99,7 @@ new-stores = new-bytes ∙ rw (slot-zeros, twelve-zeros) refl
 -- A state without a session is all zeros.
 pub free-bytes : stateBytes (λ q n. free) ≡ zeros 65536
 unfolding stateBytes slotBytes
-free-bytes = joined-zeros (λ k. slotBytes free) 4096 (λ i. refl) 0 16
-
--- A free session becomes new by three stores.
-pub start-bytes : {G : State} → Sized G → (q n : ℕ) → q < 4 → n < 4 → G q n ≡ free
-    → stateBytes (setSlot G q n (live newSession))
-    ≡ set (set (set (stateBytes G) (4096 * (4 * q + n)) 1) (4096 * (4 * q + n) + 2) 5) (4096 * (4 * q + n) + 18) 6
-start-bytes {G} z q n i j e =
-    let s = stateBytes G in
-    let at = 4096 * (4 * q + n) in
-    let l = slotBytes free in
-    let h : at ≤ length s = omega (arith, sized-length z) in
-    let k : length l ≡ 4096 = slot-size free tt in
-    let p : part s at 4096 ≡ l = slot-part z q n i j ∙ ap slotBytes e in
-    let b : withPart s at l ≡ s = ap (withPart s at) (sym p) ∙ part-back s at 4096 (omega (arith, sized-length z)) in
-    let s1 : withPart s at (set l 0 1) ≡ set s at 1 = store-part s at l 0 1 h (omega arith) ∙ rw (add-zero at, b) in
-    let k1 = length-set l 0 1 in
-    let s2 : withPart s at (set (set l 0 1) 2 5) ≡ set (set s at 1) (at + 2) 5 = store-part s at (set l 0 1) 2 5 h (omega arith) ∙ rw s1 in
-    let k2 = length-set (set l 0 1) 2 5 in
-    set-bytes z q n (live newSession) (slot-size (live newSession) new-made) i j
-    ∙ ap (withPart s at) new-stores
-    ∙ store-part s at (set (set l 0 1) 2 5) 18 6 h (omega arith)
-    ∙ rw s2
+free-bytes = joined-zeros (λ k. slotBytes free) slotSize (λ i. refl) 0 16
 
 -- ---- fresh state, one service after another
 
@@ -169,7 +150,7 @@ module _ (N : Network) (k : ℕ) where
 pub fresh-sized : (N : Network) (k : ℕ) → Sized (freshUpTo N k)
 fresh-sized N k = record { each = λ j. by (ltb (j / 4) k) (eqb (j % 4) 0) (clientOf (serviceAt (N .services) (j / 4))) }
   where
-    by : (t u : Bool) (b : Optional Behaviour) → length (slotBytes (pick t (pick u (freshSlot b) free) free)) ≡ 4096
+    by : (t u : Bool) (b : Optional Behaviour) → length (slotBytes (pick t (pick u (freshSlot b) free) free)) ≡ slotSize
     by true true none = slot-size free tt
     by true true (some B) = slot-size (live newSession) new-made
     by true false b = slot-size free tt

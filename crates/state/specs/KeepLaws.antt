@@ -7,35 +7,51 @@ use Prim.Native.Nat.{ℕ, zero, suc, _≤_, _<_}
 use native.Mathlib.Omega.{arith}
 use native.Mathlib.Decide.{ℕ-discrete}
 use borrow.Author.Tests.{eq-eqb, ne-eqb}
-use Rattle.scalar.specs.Value.{pick}
+use lib.ListN.{length}
+use Rattle.forest.specs.Forest.{Forest, tree}
+use Rattle.scalar.specs.Value.{Value, pick}
 use Rattle.syntax.specs.Syntax.{Optional, none, some, Network, Behaviour}
 use Rattle.syntax.specs.Rows.{rowOf, hasRow}
-use Rattle.tree.specs.Encode.{WellFormed, messageDeep, messageMany}
+use Rattle.tree.specs.Encode.{WellFormed, empty, messageDeep, messageMany, treeDeep, treeMany}
 use Rattle.tree.specs.EncodeLaws.{and-left, and-right}
-use Rattle.state.specs.Session.{Progress, undone, Progresses, advance, reopen, Queued, Session, Slot, free, live, State, setSlot}
-use Rattle.state.specs.Shape.{isUndone, suits, quietElsewhere, suitsOperation, suitsQueue, operationAt, behaviourIn, suitsBehaviour, suitsSlot, AllMessages, MadeSlot, HasShape}
-use Rattle.state.specs.RowShape.{suitsRow, PartOf}
+use Rattle.state.specs.Session.{Progress, undone, Progresses, advance, reopen, Queued, Session, withTree, withQueue, withProgress, Slot, free, live, State, setSlot}
+use Rattle.state.specs.Shape.{isUndone, suits, quietElsewhere, suitsOperation, suitsQueue, operationAt, behaviourIn, suitsBehaviour, suitsSlot, AllMessages, WellMade, MadeSlot, HasShape}
+use Rattle.state.specs.RowShape.{suitsRow, PartOf, BranchRowOf, PartSuits}
 use Rattle.state.specs.RowLaws.{undone-row, suits-row, rows-suit}
 use Rattle.state.specs.ChangeLaws.{set-same, set-other, advance-other}
 
 -- ---- progress that changes
 
 module _ (N : Network) (rows : ℕ) (p : Progresses) (B : Behaviour) (h : suits N rows p B ≡ true) where
-  -- The row r at a progress that suits every part with that row (in a file there is one).
+  -- The row r at a progress that suits every part with that row (in a file there is one), and undone if it is a branch's.
   pub advance-suits : (r : ℕ) (x : Progress) → ((b : Behaviour) → PartOf b B → rowOf b ≡ r → suitsRow N rows x b ≡ true)
-      → suits N rows (advance p r x) B ≡ true
-  advance-suits r x k = rows-suit N rows (advance p r x) B (λ b i. by b i (ℕ-discrete (rowOf b) r))
+      → ((b : Behaviour) → PartOf b B → BranchRowOf r b → isUndone x ≡ true) → suits N rows (advance p r x) B ≡ true
+  advance-suits r x k u = rows-suit N rows (advance p r x) B (λ b i. record {
+    own = by b i (ℕ-discrete (rowOf b) r);
+    branchRows = λ j l. undone-at b i j l (ℕ-discrete j r);
+  })
     where
       by : (b : Behaviour) → PartOf b B → Dec (rowOf b ≡ r) → suitsRow N rows (advance p r x (rowOf b)) b ≡ true
       by b i (yes e) = rw (eq-eqb (rowOf b) r e) (k b i e)
-      by b i (no e) = rw (ne-eqb (rowOf b) r e) (suits-row N rows p B b h i)
+      by b i (no e) = rw (ne-eqb (rowOf b) r e) (suits-row N rows p B b h i .own)
+
+      undone-at : (b : Behaviour) → PartOf b B → (j : ℕ) → BranchRowOf j b → Dec (j ≡ r) → isUndone (advance p r x j) ≡ true
+      undone-at b i j l (yes e) = rw (eq-eqb j r e) (u b i (rw e at l))
+      undone-at b i j l (no e) = rw (ne-eqb j r e) (suits-row N rows p B b h i .branchRows j l)
 
   pub reopen-suits : (C : Behaviour) → suits N rows (reopen p C) B ≡ true
-  reopen-suits C = rows-suit N rows (reopen p C) B (λ b i. by b i (hasRow (rowOf b) C))
+  reopen-suits C = rows-suit N rows (reopen p C) B (λ b i. record {
+    own = by b i (hasRow (rowOf b) C);
+    branchRows = λ j l. undone-at b i j l (hasRow j C);
+  })
     where
       by : (b : Behaviour) → PartOf b B → (t : Bool) → suitsRow N rows (pick t undone (p (rowOf b))) b ≡ true
       by b i true = undone-row N rows b
-      by b i false = suits-row N rows p B b h i
+      by b i false = suits-row N rows p B b h i .own
+
+      undone-at : (b : Behaviour) → PartOf b B → (j : ℕ) → BranchRowOf j b → (t : Bool) → isUndone (pick t undone (p j)) ≡ true
+      undone-at b i j l true = refl
+      undone-at b i j l false = suits-row N rows p B b h i .branchRows j l
 
 -- Rows that are none of the behaviour's stay undone.
 pub advance-quiet : (n : ℕ) (p : Progresses) (B : Behaviour) (r : ℕ) (x : Progress) → hasRow r B ≡ true
@@ -100,6 +116,21 @@ pub remove-messages : (a : List Queued) (m : Queued) (b : List Queued) → AllMe
 unfolding AllMessages
 remove-messages [] m b h = h .1
 remove-messages (c ∷ a) m b h = (h .0, remove-messages a m b (h .1))
+
+-- ---- a session with another part
+
+module _ {S : Session} (w : WellMade S) where
+  pub made-tree : (F : Forest Value) → WellFormed treeDeep treeMany (tree empty F) → WellMade (withTree S F)
+  made-tree F g = record { bounded = g; upToFour = w .upToFour; messages = w .messages; noRowsPast = w .noRowsPast }
+
+  pub made-queue : (l : List Queued) → length l ≤ 4 → AllMessages l → WellMade (withQueue S l)
+  made-queue l h m = record { bounded = w .bounded; upToFour = h; messages = m; noRowsPast = w .noRowsPast }
+
+  pub made-progress : (p : Progresses) → ((i : ℕ) → 256 ≤ i → p i ≡ undone) → WellMade (withProgress S p)
+  made-progress p h = record { bounded = w .bounded; upToFour = w .upToFour; messages = w .messages; noRowsPast = h }
+
+  pub made-row : (r : ℕ) (x : Progress) → r < 256 → WellMade (withProgress S (advance (S .progress) r x))
+  made-row r x l = made-progress (advance (S .progress) r x) (advance-past (S .progress) r x l (w .noRowsPast))
 
 -- ---- a live session
 

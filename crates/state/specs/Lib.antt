@@ -1,6 +1,9 @@
 pub mod Session
+pub mod Places
 pub mod Bytes
 pub mod PartLaws
+pub mod HoldLaws
+pub mod HeadLaws
 pub mod SizeLaws
 pub mod ReadLaws
 pub mod ShapeLaws

@@ -2,26 +2,29 @@
 use mathlib.Core.Path.{_≡_, refl}
 use mathlib.Core.List.{List, [], _∷_, _++_}
 use mathlib.Core.Bool.{Bool, true, false, _&&_, _||_}
+use mathlib.Core.Logic.{_⊎_, inl, inr}
 use Prim.Native.Nat.{ℕ, zero, suc, _+_, _-_, _/_, _%_, _≤_, _<_}
 use native.Mathlib.Omega.{arith}
 use native.Mathlib.Decide.{decLt}
 use lib.ListN.{length, getD, List·getD-append}
 use lib.Seq.{getD-append-add}
 use lib.Dec.{eqb, leb, ltb}
-use borrow.Author.Tests.{ne-eqb, eqb-true, ltb-true, leb-true}
+use borrow.Author.Tests.{eqb-true, ltb-true, leb-true}
 use Rattle.forest.specs.Forest.{Forest, Tree, tree, nodes}
-use Rattle.scalar.specs.Value.{Value, value, pick, isValue}
-use Rattle.syntax.specs.Syntax.{Optional, none, some, Network, Operation, Behaviour, nil, oneWay, requestResponse, notification, solicitResponse, ifThenElse, whileDo, sequence, parallel, assign, choice, branch, lastBranch, waiting, answering}
-use Rattle.syntax.specs.Rows.{rowOf, hasRow, entry, isInputOperation}
+use Rattle.scalar.specs.Value.{Value, value, pick}
+use Rattle.scalar.specs.ValueLaws.{value-basic, value-size}
+use Rattle.syntax.specs.Syntax.{Optional, none, some, Network, Operation, Behaviour, nil, oneWay, requestResponse, notification, solicitResponse, ifThenElse, whileDo, sequence, parallel, assign, choice, waiting, answering, Branches}
+use Rattle.syntax.specs.Rows.{rowOf, hasRow, atRow, entry, isInputOperation}
 use Rattle.tree.specs.Encode.{count, encode, rooted, empty, Octets, Proper, WellFormed, messageDeep, messageMany, treeDeep, treeMany}
 use Rattle.tree.specs.EncodeLaws.{and-left, and-right, count-nodes, encode-octets, octets-nil}
+use Rattle.state.specs.Places.{slotSize, treeRoom, messageRoom, entrySize, keptSize}
 use Rattle.state.specs.Session.{ReplyTo, nobody, outsider, waitingRow, Progress, undone, done, waits, received, taken, Progresses, Queued, Session, Slot, free, live, State}
-use Rattle.state.specs.Bytes.{zeros, joined, padded, u16Bytes, replyKind, replyBytes, messageBytes, entryBytes, queueBytes, progressBytes, rowsBytes, treeBytes, slotBytes, slotAt, stateBytes}
+use Rattle.state.specs.Bytes.{zeros, joined, padded, u16Bytes, replyKind, replyBytes, messageBytes, entryBytes, queueBytes, progressBytes, rowsBytes, treeBytes, headBytes, slotBytes, slotAt, stateBytes}
 use Rattle.state.specs.Shape.{isDestination, isNobody, isUndone, undoneOrDone, undoneDoneOrWaits, undoneDoneOrReceived, undoneOrTaken, undoneDoneOrBody, branches, suits, quietElsewhere, suitsOperation, suitsQueue, operationAt, behaviourIn, suitsBehaviour, suitsSlot, AllMessages, WellMade, MadeSlot, HasShape}
 use Rattle.state.specs.PartLaws.{byte-zeros}
-use Rattle.state.specs.SizeLaws.{value-size, message-size, session-tree-size}
-use Rattle.state.specs.RowShape.{suitsRow, PartOf}
-use Rattle.state.specs.RowLaws.{suits-row, row-part, quiet-each}
+use Rattle.state.specs.SizeLaws.{message-size, session-tree-size}
+use Rattle.state.specs.RowShape.{suitsRow, PartOf, InBranch, PartSuits}
+use Rattle.state.specs.RowLaws.{suits-row, at-row, row-found, quiet-each}
 
 -- ---- lists of bytes
 
@@ -55,29 +58,11 @@ octets-u16 v h = octets-cons (omega arith) (octets-cons (omega arith) octets-nil
 
 -- ---- trees
 
-value-basic : (b : ℕ) (v : List ℕ) → isValue b v ≡ true → b < 256
-unfolding isValue
-value-basic b v h = by (decLt b 7)
-  where
-    by : Dec (b < 7) → b < 256
-    by (yes l) = omega arith
-    by (no l) =
-        let f : false ≡ true = simp (
-          ne-eqb b 0 (λ e. omega arith),
-          ne-eqb b 1 (λ e. omega arith),
-          ne-eqb b 2 (λ e. omega arith),
-          ne-eqb b 3 (λ e. omega arith),
-          ne-eqb b 4 (λ e. omega arith),
-          ne-eqb b 5 (λ e. omega arith),
-          ne-eqb b 6 (λ e. omega arith),
-        ) at h in
-        absurd (let z : _≡_ {A = ℕ} 0 1 = cc in omega arith)
-
 node-octets : (i b : ℕ) (v : List ℕ) (ks : Forest Value) (t : List ℕ) → i < 65536 → Proper (value b v) → nodes ks < 256 → Octets t
     → Octets (i % 256 ∷ i / 256 ∷ b ∷ count ks ∷ length v ∷ (v ++ t))
 node-octets i b v ks t h p n o =
-    octets-cons (omega arith) (octets-cons (omega arith) (octets-cons (value-basic b v (p .valid))
-    (octets-cons (omega (arith, count-nodes ks)) (octets-cons (omega (arith, value-size v b (p .valid))) (octets-append v t (p .bytes) o)))))
+    octets-cons (omega arith) (octets-cons (omega arith) (octets-cons (omega (arith, value-basic b v (p .valid)))
+    (octets-cons (omega (arith, count-nodes ks)) (octets-cons (omega (arith, value-size b v (p .valid))) (octets-append v t (p .bytes) o)))))
 
 tree-octets : (deep many : ℕ) (t : Tree Value) → many < 256 → WellFormed deep many t → Octets (encode (rooted t))
 unfolding encode
@@ -90,7 +75,7 @@ pub record WithinLimits (N : Network) (rows : ℕ) : Type 0 where
   pub services : length (N .services) ≤ 4
   pub operations : length (N .operations) ≤ 64
   pub behaviours : rows ≤ 256
-  pub choices : (q n : ℕ) (B : Behaviour) → behaviourIn N q n ≡ some B → (r : ℕ) (m : Behaviour) → PartOf (choice r m) B → branches m ≤ 8
+  pub choices : (q n : ℕ) (B : Behaviour) → behaviourIn N q n ≡ some B → (r : ℕ) (m : Branches) → PartOf (choice r m) B → branches m ≤ 8
 
 module _ {N : Network} {rows : ℕ} (w : WithinLimits N rows) where
   -- ---- where replies go
@@ -140,13 +125,13 @@ module _ {N : Network} {rows : ℕ} (w : WithinLimits N rows) where
           let k = operation-row (N .operations) (m .operation) o e in
           octets-cons (omega (arith, w .operations)) (octets-cons (kind-octet (m .replyTo))
           (octets-append (u16Bytes (length l)) _ (octets-u16 (length l) (omega (arith, message-size (m .message) f)))
-          (octets-append (replyBytes (m .replyTo)) (padded 336 l) (reply-octets (o .twoWay) (m .replyTo) r)
-          (octets-append l (zeros (336 - length l)) (tree-octets messageDeep messageMany (m .message) (omega arith) f) (octets-zeros (336 - length l))))))
+          (octets-append (replyBytes (m .replyTo)) (padded messageRoom l) (reply-octets (o .twoWay) (m .replyTo) r)
+          (octets-append l (zeros (messageRoom - length l)) (tree-octets messageDeep messageMany (m .message) (omega arith) f) (octets-zeros (messageRoom - length l))))))
 
   queue-octets : (q n : ℕ) (l : List Queued) → AllMessages l → suitsQueue N rows q l ≡ true → Octets (queueBytes n l)
   unfolding queueBytes AllMessages suitsQueue
   queue-octets q zero l f h = octets-nil
-  queue-octets q (suc n) [] f h = octets-append (zeros 344) (queueBytes n []) (octets-zeros 344) (queue-octets q n [] f h)
+  queue-octets q (suc n) [] f h = octets-append (zeros entrySize) (queueBytes n []) (octets-zeros entrySize) (queue-octets q n [] f h)
   queue-octets q (suc n) (m ∷ l) f h =
       let a = suitsOperation N rows q (m .replyTo) (operationAt (N .operations) (m .operation)) in
       octets-append (entryBytes m) (queueBytes n l) (entry-octets q m (f .0) (and-left a (suitsQueue N rows q l) h))
@@ -204,7 +189,7 @@ module _ {N : Network} {rows : ℕ} (w : WithinLimits N rows) where
   body-small (received to) h = absurd (let z : _≡_ {A = ℕ} 0 1 = cc in omega arith)
   body-small (taken k) h = omega (arith, eqb-true k 0 h)
 
-  row-small : (x : Progress) (b : Behaviour) → ((r : ℕ) (m : Behaviour) → b ≡ choice r m → branches m ≤ 8) → suitsRow N rows x b ≡ true → Small x
+  row-small : (x : Progress) (b : Behaviour) → ((r : ℕ) (m : Branches) → b ≡ choice r m → branches m ≤ 8) → suitsRow N rows x b ≡ true → Small x
   unfolding suitsRow
   row-small x (nil r) k h = undone-small x h
   row-small x (oneWay r o y) k h = done-small x h
@@ -217,8 +202,6 @@ module _ {N : Network} {rows : ℕ} (w : WithinLimits N rows) where
   row-small x (parallel r a z) k h = undone-small x h
   row-small x (assign r y e) k h = done-small x h
   row-small x (choice r m) k h = taken-small (branches m) x (omega (arith, k r m refl)) h
-  row-small x (branch r a z m) k h = undone-small x h
-  row-small x (lastBranch r a z) k h = undone-small x h
   row-small x (waiting r o y) k h = undone-small x h
   row-small x (answering r o c d) k h = undone-small x h
 
@@ -232,18 +215,28 @@ module _ {N : Network} {rows : ℕ} (w : WithinLimits N rows) where
   progress-octets (received (outsider k)) h = octets-cons (omega arith) (octets-cons (omega arith) (destination-octets (outsider k) h))
   progress-octets (received (waitingRow q n r)) h = octets-cons (omega arith) (octets-cons (omega arith) (destination-octets (waitingRow q n r) h))
 
-  rows-octets : (p : Progresses) (B : Behaviour) → ((r : ℕ) (m : Behaviour) → PartOf (choice r m) B → branches m ≤ 8)
+  rows-octets : (p : Progresses) (B : Behaviour) → ((r : ℕ) (m : Branches) → PartOf (choice r m) B → branches m ≤ 8)
       → suits N rows p B ≡ true → quietElsewhere 256 p B ≡ true → Octets (rowsBytes p)
   rows-octets p B c h q =
       octets-joined (λ r. progressBytes (p r)) 0 256 (λ r l. progress-octets (p r) (by r (hasRow r B) refl (quiet-each p B 256 q r (omega arith))))
     where
       by : (r : ℕ) (t : Bool) → hasRow r B ≡ t → (t || isUndone (p r)) ≡ true → Small (p r)
-      by r true e u =
-          let f = row-part r B e in
-          rw (f .2) at (row-small (p (rowOf (f .0))) (f .0) (λ i m g. c i m (rw g at (f .1))) (suits-row N rows p B (f .0) h (f .1)))
+      by r true e u = found (row-found r B e)
+        where
+          found : ((b : Behaviour) × (atRow r B ≡ some b)) ⊎ InBranch r B → Small (p r)
+          found (inl w) =
+              let f = at-row B r (w .0) (w .1) in
+              rw (f .1) at (row-small (p (rowOf (w .0))) (w .0) (λ i m g. c i m (rw g at (f .0))) (suits-row N rows p B (w .0) h (f .0) .own))
+          found (inr w) = undone-small (p r) (suits-row N rows p B (w .0) h (w .1) .branchRows r (w .2))
       by r false e u = undone-small (p r) u
 
   -- ---- slots and states
+
+  head-octets : (S : Session) → length (treeBytes (S .tree)) < 65536 → Octets (headBytes S)
+  unfolding headBytes
+  head-octets S l =
+      octets-append (1 ∷ 0 ∷ u16Bytes (length (treeBytes (S .tree)))) (zeros 12)
+      (octets-cons (omega arith) (octets-cons (omega arith) (octets-u16 (length (treeBytes (S .tree))) l))) (octets-zeros 12)
 
   live-octets : (q n : ℕ) (S : Session) (B : Behaviour) → behaviourIn N q n ≡ some B → WellMade S → suitsBehaviour N rows q S (some B) ≡ true
       → Octets (slotBytes (live S))
@@ -254,19 +247,17 @@ module _ {N : Network} {rows : ℕ} (w : WithinLimits N rows) where
       let u = suits N rows (S .progress) B in
       let v = quietElsewhere 256 (S .progress) B in
       let h′ = and-right s (u && v) h in
-      octets-append (1 ∷ 0 ∷ u16Bytes (length t)) _
-      (octets-cons (omega arith) (octets-cons (omega arith) (octets-u16 (length t) (omega (arith, session-tree-size (S .tree) (f .bounded))))))
-      (octets-append (zeros 12) _ (octets-zeros 12)
-      (octets-append (padded 1024 t) _
-      (octets-append t (zeros (1024 - length t)) (tree-octets treeDeep treeMany (tree empty (S .tree)) (omega arith) (f .bounded))
-      (octets-zeros (1024 - length t)))
+      octets-append (headBytes S) _ (head-octets S (omega (arith, session-tree-size (S .tree) (f .bounded))))
+      (octets-append (padded treeRoom t) _
+      (octets-append t (zeros (treeRoom - length t)) (tree-octets treeDeep treeMany (tree empty (S .tree)) (omega arith) (f .bounded))
+      (octets-zeros (treeRoom - length t)))
       (octets-append (queueBytes 4 (S .queue)) _ (queue-octets q 4 (S .queue) (f .messages) (and-left s (u && v) h))
-      (octets-append (rowsBytes (S .progress)) (zeros 144)
-      (rows-octets (S .progress) B (w .choices q n B e) (and-left u v h′) (and-right u v h′)) (octets-zeros 144)))))
+      (octets-append (rowsBytes (S .progress)) (zeros keptSize)
+      (rows-octets (S .progress) B (w .choices q n B e) (and-left u v h′) (and-right u v h′)) (octets-zeros keptSize))))
 
   slot-octets : (q n : ℕ) (x : Slot) → MadeSlot x → suitsSlot N rows q n x ≡ true → Octets (slotBytes x)
   unfolding slotBytes
-  slot-octets q n free f h = octets-zeros 4096
+  slot-octets q n free f h = octets-zeros slotSize
   slot-octets q n (live S) f h = by (behaviourIn N q n) refl h
     where
       by : (x : Optional Behaviour) → behaviourIn N q n ≡ x → suitsBehaviour N rows q S x ≡ true → Octets (slotBytes (live S))

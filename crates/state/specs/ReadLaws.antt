@@ -1,5 +1,5 @@
 -- What the bytes of each part of a state are read as: the part itself. So `read-state`: a state of the shape is read back from its bytes.
-use mathlib.Core.Path.{_≡_, refl, sym, ap, _∙_, fun-ext}
+use mathlib.Core.Path.{_≡_, refl, sym, ap, fun-ext}
 use mathlib.Core.List.{List, [], _∷_, _++_}
 use mathlib.Core.Bool.{false, _&&_}
 use mathlib.Core.Logic.{inl, inr}
@@ -13,40 +13,18 @@ use borrow.Author.Tests.{ne-eqb, lt-ltb, le-ltb}
 use Rattle.forest.specs.Forest.{Forest, Tree, tree, childrenOf}
 use Rattle.scalar.specs.Value.{Value, pick}
 use Rattle.syntax.specs.Syntax.{Network}
-use Rattle.wire.specs.Wire.{byteAt, u16At, u32At}
+use Rattle.wire.specs.Wire.{byteAt, u16At}
 use Rattle.tree.specs.Encode.{empty, WellFormed, messageDeep, messageMany, treeDeep, treeMany}
 use Rattle.tree.specs.Decode.{decode, decodeMessage}
 use Rattle.tree.specs.DecodeLaws.{decode-complete}
-use Rattle.state.specs.Session.{ReplyTo, nobody, outsider, waitingRow, Progress, undone, done, waits, received, taken, Progresses, Queued, Session, Slot, free, live, State}
-use Rattle.state.specs.Bytes.{zeros, joined, padded, u16Bytes, u32Bytes, replyKind, replyBytes, messageBytes, entryBytes, queueBytes, progressBytes, rowsBytes, treeBytes, slotBytes, slotAt, stateBytes, readReply, treeOr, readEntry, readQueue, readProgress, readRow, readSession, readSlot, readState}
+use Rattle.state.specs.Places.{slotSize, headSize, treeRoom, messageRoom, entrySize, queueSize, rowSize, rowsSize, treePlace, queuePlace, rowsPlace, keptPlace, keptSize, slotStart}
+use Rattle.state.specs.Session.{ReplyTo, nobody, outsider, waitingRow, Progress, undone, done, waits, received, taken, Progresses, Queued, Session, sessionOf, Slot, free, live, State}
+use Rattle.state.specs.Bytes.{zeros, joined, padded, u16Bytes, u32Bytes, replyKind, replyBytes, messageBytes, entryBytes, queueBytes, progressBytes, rowsBytes, treeBytes, headBytes, slotBytes, slotAt, stateBytes, readReply, treeOr, readEntry, readQueue, readProgress, readRow, readSession, readSlot, readState}
 use Rattle.state.specs.Shape.{AllMessages, WellMade, MadeSlot, HasShape, Stands}
-use Rattle.state.specs.PartLaws.{length-zeros, byte-zeros, length-padded, Holds, holds-whole, holds-first, holds-rest, holds-byte, holds-part, holds-joined}
+use Rattle.state.specs.PartLaws.{length-padded, Holds, holds-whole, holds-first, holds-rest, holds-part, holds-joined}
+use Rattle.state.specs.HoldLaws.{holds-head, holds-tail, holds-zeros, holds-u16, holds-u32}
+use Rattle.state.specs.HeadLaws.{head-size, head-live, head-length}
 use Rattle.state.specs.SizeLaws.{message-size, entry-size, reply-size, progress-size, rows-size, Fits, made-fits, Sized, shape-sized}
-
--- ---- numbers
-
-module _ {s : List ℕ} {at : ℕ} where
-  pub holds-head : {a : ℕ} {l : List ℕ} → Holds s at (a ∷ l) → byteAt s at ≡ a
-  holds-head h = rw (add-zero at) at (holds-byte h 0 (omega arith))
-
-  pub holds-tail : {a : ℕ} {l : List ℕ} → Holds s at (a ∷ l) → Holds s (at + 1) l
-  holds-tail {a} {l} h = holds-rest (a ∷ []) l 1 refl h
-
-  pub holds-zeros : {n : ℕ} → 0 < n → Holds s at (zeros n) → byteAt s at ≡ 0
-  holds-zeros {n} l h = rw (add-zero at) at (holds-byte h 0 (omega (arith, length-zeros n))) ∙ byte-zeros n 0
-
-pub holds-u16 : {s : List ℕ} {at : ℕ} (v : ℕ) {l : List ℕ} → Holds s at (v % 256 ∷ v / 256 ∷ l) → u16At s at ≡ v
-unfolding u16At
-holds-u16 v h = omega (arith, holds-head h, holds-head (holds-tail h))
-
-pub holds-u32 : {s : List ℕ} {at : ℕ} (v : ℕ) → Holds s at (u32Bytes v) → u32At s at ≡ v
-unfolding u16At u32At
-holds-u32 {s} {at} v h =
-    let a = holds-byte h 1 (omega arith) in
-    let b = holds-byte h 2 (omega arith) in
-    let c = holds-byte h 3 (omega arith) in
-    let e : at + 2 + 1 ≡ at + 3 = omega arith in
-    rw e (omega (arith, holds-head h, a, b, c))
 
 -- ---- where replies go
 
@@ -87,14 +65,14 @@ read-entry {s} {at} m w h =
     let l = messageBytes (m .message) in
     let t = holds-tail h in
     let len : u16At s (at + 2) ≡ length l = holds-u16 (length l) (holds-rest ((m .operation + 1) ∷ replyKind (m .replyTo) ∷ []) _ 2 refl h) in
-    let tail = holds-rest ((m .operation + 1) ∷ replyKind (m .replyTo) ∷ u16Bytes (length l)) (replyBytes (m .replyTo) ++ padded 336 l) 4 refl h in
-    let bytes = holds-first l _ (holds-rest (replyBytes (m .replyTo)) (padded 336 l) 4 (reply-size (m .replyTo)) tail) in
+    let tail = holds-rest ((m .operation + 1) ∷ replyKind (m .replyTo) ∷ u16Bytes (length l)) (replyBytes (m .replyTo) ++ padded messageRoom l) 4 refl h in
+    let bytes = holds-first l _ (holds-rest (replyBytes (m .replyTo)) (padded messageRoom l) 4 (reply-size (m .replyTo)) tail) in
     let e : at + 8 ≡ at + 4 + 4 = omega arith in
     let op : m .operation + 1 - 1 ≡ m .operation = omega arith in
     same-queued m
     (rw (holds-head h) op)
     (rw (e, len, holds-part bytes (length l) refl) (read-message (m .message) w))
-    (rw (holds-head t) (read-reply (m .replyTo) (holds-first (replyBytes (m .replyTo)) (padded 336 l) tail)))
+    (rw (holds-head t) (read-reply (m .replyTo) (holds-first (replyBytes (m .replyTo)) (padded messageRoom l) tail)))
 
 pub entry-used : {s : List ℕ} {at : ℕ} (m : Queued) → Holds s at (entryBytes m) → eqb (byteAt s at) 0 ≡ false
 unfolding entryBytes
@@ -104,66 +82,58 @@ pub read-queue : {s : List ℕ} {at : ℕ} (n : ℕ) (l : List Queued) → lengt
 unfolding readQueue queueBytes AllMessages
 read-queue zero [] i w h = refl
 read-queue zero (m ∷ l) i w h = absurd (omega arith)
-read-queue {s} {at} (suc n) [] i w h = rw (holds-zeros (omega arith) (holds-first (zeros 344) (queueBytes n []) h))
+read-queue {s} {at} (suc n) [] i w h = rw (holds-zeros (omega arith) (holds-first (zeros entrySize) (queueBytes n []) h))
 read-queue {s} {at} (suc n) (m ∷ l) i w h =
     let a = holds-first (entryBytes m) (queueBytes n l) h in
-    let b = holds-rest (entryBytes m) (queueBytes n l) 344 (entry-size m (message-size (m .message) (w .0))) h in
+    let b = holds-rest (entryBytes m) (queueBytes n l) entrySize (entry-size m (message-size (m .message) (w .0))) h in
     rw (entry-used m a, read-entry m (w .0) a, read-queue n l (omega arith) (w .1) b)
 
 -- The entry of one message, and the first unused entry.
 pub holds-entry : {s : List ℕ} {at : ℕ} (n : ℕ) (a : List Queued) (m : Queued) (b : List Queued) → length a < n → AllMessages a
-    → Holds s at (queueBytes n (a ++ (m ∷ b))) → Holds s (at + 344 * length a) (entryBytes m)
+    → Holds s at (queueBytes n (a ++ (m ∷ b))) → Holds s (at + entrySize * length a) (entryBytes m)
 unfolding queueBytes AllMessages
 holds-entry zero a m b i w h = absurd (omega arith)
 holds-entry {s} {at} (suc n) [] m b i w h = rw (add-zero at) (holds-first (entryBytes m) (queueBytes n b) h)
 holds-entry {s} {at} (suc n) (c ∷ a) m b i w h =
-    let e : at + 344 * suc (length a) ≡ at + 344 + 344 * length a = omega arith in
-    let r = holds-rest (entryBytes c) (queueBytes n (a ++ (m ∷ b))) 344 (entry-size c (message-size (c .message) (w .0))) h in
+    let e : at + entrySize * suc (length a) ≡ at + entrySize + entrySize * length a = omega arith in
+    let r = holds-rest (entryBytes c) (queueBytes n (a ++ (m ∷ b))) entrySize (entry-size c (message-size (c .message) (w .0))) h in
     rw e (holds-entry n a m b (omega arith) (w .1) r)
 
 pub first-unused : {s : List ℕ} {at : ℕ} (n : ℕ) (l : List Queued) → length l < n → AllMessages l → Holds s at (queueBytes n l)
-    → byteAt s (at + 344 * length l) ≡ 0
+    → byteAt s (at + entrySize * length l) ≡ 0
 unfolding queueBytes AllMessages
 first-unused zero l i w h = absurd (omega arith)
-first-unused {s} {at} (suc n) [] i w h = rw (add-zero at) (holds-zeros (omega arith) (holds-first (zeros 344) (queueBytes n []) h))
+first-unused {s} {at} (suc n) [] i w h = rw (add-zero at) (holds-zeros (omega arith) (holds-first (zeros entrySize) (queueBytes n []) h))
 first-unused {s} {at} (suc n) (m ∷ l) i w h =
-    let e : at + 344 * suc (length l) ≡ at + 344 + 344 * length l = omega arith in
-    rw e (first-unused n l (omega arith) (w .1) (holds-rest (entryBytes m) (queueBytes n l) 344 (entry-size m (message-size (m .message) (w .0))) h))
+    let e : at + entrySize * suc (length l) ≡ at + entrySize + entrySize * length l = omega arith in
+    rw e (first-unused n l (omega arith) (w .1) (holds-rest (entryBytes m) (queueBytes n l) entrySize (entry-size m (message-size (m .message) (w .0))) h))
 
 -- ---- a slot
 
 -- Where the parts of a live slot's bytes stand.
 pub record Parts (s : List ℕ) (at : ℕ) (S : Session) : Type 0 where
-  pub flag : byteAt s at ≡ 1
-  pub kept : byteAt s (at + 1) ≡ 0
-  pub size : u16At s (at + 2) ≡ length (treeBytes (S .tree))
-  pub keptAfter : Holds s (at + 4) (zeros 12)
-  pub tree : Holds s (at + 16) (padded 1024 (treeBytes (S .tree)))
-  pub queue : Holds s (at + 1040) (queueBytes 4 (S .queue))
-  pub rows : Holds s (at + 2416) (rowsBytes (S .progress))
-  pub keptLast : Holds s (at + 3952) (zeros 144)
+  pub head : Holds s at (headBytes S)
+  pub tree : Holds s (at + treePlace) (padded treeRoom (treeBytes (S .tree)))
+  pub queue : Holds s (at + queuePlace) (queueBytes 4 (S .queue))
+  pub rows : Holds s (at + rowsPlace) (rowsBytes (S .progress))
+  pub kept : Holds s (at + keptPlace) (zeros keptSize)
 
 pub slot-parts : {s : List ℕ} {at : ℕ} (S : Session) → Fits S → Holds s at (slotBytes (live S)) → Parts s at S
 unfolding slotBytes
 slot-parts {s} {at} S f h =
     let t = treeBytes (S .tree) in
-    let l = u16Bytes (length t) in
     let q = queueBytes 4 (S .queue) in
     let r = rowsBytes (S .progress) in
-    let a : Holds s (at + 4) (zeros 12 ++ (padded 1024 t ++ (q ++ (r ++ zeros 144)))) = holds-rest (1 ∷ 0 ∷ l) _ 4 refl h in
-    let b : Holds s (at + 16) (padded 1024 t ++ (q ++ (r ++ zeros 144))) = rw (further at 4 12) at (holds-rest (zeros 12) _ 12 (length-zeros 12) a) in
-    let c : Holds s (at + 1040) (q ++ (r ++ zeros 144)) =
-    rw (further at 16 1024) at (holds-rest (padded 1024 t) _ 1024 (length-padded 1024 t (f .treeFits)) b) in
-    let d : Holds s (at + 2416) (r ++ zeros 144) = rw (further at 1040 1376) at (holds-rest q _ 1376 (f .queueFits) c) in
+    let b : Holds s (at + treePlace) (padded treeRoom t ++ (q ++ (r ++ zeros keptSize))) = holds-rest (headBytes S) _ headSize (head-size S) h in
+    let c : Holds s (at + queuePlace) (q ++ (r ++ zeros keptSize)) =
+    rw (further at treePlace treeRoom) at (holds-rest (padded treeRoom t) _ treeRoom (length-padded treeRoom t (f .treeFits)) b) in
+    let d : Holds s (at + rowsPlace) (r ++ zeros keptSize) = rw (further at queuePlace queueSize) at (holds-rest q _ queueSize (f .queueFits) c) in
     record {
-      flag = holds-head h;
-      kept = holds-head (holds-tail h);
-      size = holds-u16 (length t) (holds-rest (1 ∷ 0 ∷ []) _ 2 refl h);
-      keptAfter = holds-first (zeros 12) _ a;
-      tree = holds-first (padded 1024 t) _ b;
+      head = holds-first (headBytes S) _ h;
+      tree = holds-first (padded treeRoom t) _ b;
       queue = holds-first q _ c;
       rows = holds-first r _ d;
-      keptLast = rw (further at 2416 1536) at (holds-rest r _ 1536 (rows-size (S .progress)) d);
+      kept = rw (further at rowsPlace rowsSize) at (holds-rest r _ rowsSize (rows-size (S .progress)) d);
     }
   where
     further : (at a b : ℕ) → at + a + b ≡ at + (a + b)
@@ -173,17 +143,17 @@ pub read-tree : (F : Forest Value) → WellFormed treeDeep treeMany (tree empty 
 read-tree F w = ap childrenOf (decode-complete treeDeep treeMany (treeBytes F) (tree empty F) (record { bytes = refl; good = w }))
 
 same-session : (S : Session) {F : Forest Value} {l : List Queued} {p : Progresses} → F ≡ S .tree → l ≡ S .queue → p ≡ S .progress
-    → record { tree = F; queue = l; progress = p } ≡ S
-same-session S e f g = λ i. record { tree = e i; queue = f i; progress = g i }
+    → sessionOf F l p ≡ S
+same-session S e f g = λ i. sessionOf (e i) (f i) (g i)
 
 -- The six bytes of the row r.
-pub holds-row : {s : List ℕ} {at : ℕ} (p : Progresses) → Holds s at (rowsBytes p) → (r : ℕ) → r < 256 → Holds s (at + 6 * r) (progressBytes (p r))
-holds-row p h r l = rw (zero-add r) at (holds-joined (λ i. progressBytes (p i)) 6 (λ i. progress-size (p i)) 0 256 r l h)
+pub holds-row : {s : List ℕ} {at : ℕ} (p : Progresses) → Holds s at (rowsBytes p) → (r : ℕ) → r < 256 → Holds s (at + rowSize * r) (progressBytes (p r))
+holds-row p h r l = rw (zero-add r) at (holds-joined (λ i. progressBytes (p i)) rowSize (λ i. progress-size (p i)) 0 256 r l h)
 
-pub read-row : {s : List ℕ} {at : ℕ} (p : Progresses) → Holds s at (rowsBytes p) → (r : ℕ) → r < 256 → readProgress s (at + 6 * r) ≡ p r
+pub read-row : {s : List ℕ} {at : ℕ} (p : Progresses) → Holds s at (rowsBytes p) → (r : ℕ) → r < 256 → readProgress s (at + rowSize * r) ≡ p r
 read-row p h r l = read-progress (p r) (holds-row p h r l)
 
-pub read-rows : {s : List ℕ} (at : ℕ) (p : Progresses) → ((r : ℕ) → 256 ≤ r → p r ≡ undone) → Holds s (at + 2416) (rowsBytes p)
+pub read-rows : {s : List ℕ} (at : ℕ) (p : Progresses) → ((r : ℕ) → 256 ≤ r → p r ≡ undone) → Holds s (at + rowsPlace) (rowsBytes p)
     → (λ (r : ℕ). pick (ltb r 256) (readRow s at r) undone) ≡ p
 read-rows {s} at p w h = fun-ext (λ r. by r (decLt r 256))
   where
@@ -197,32 +167,32 @@ read-session {s} {at} S w h =
     let p = slot-parts S (made-fits w) h in
     let t = treeBytes (S .tree) in
     same-session S
-    (rw (p .size, holds-part (holds-first t _ (p .tree)) (length t) refl) (read-tree (S .tree) (w .bounded)))
+    (rw (head-length S (p .head), holds-part (holds-first t _ (p .tree)) (length t) refl) (read-tree (S .tree) (w .bounded)))
     (read-queue 4 (S .queue) (w .upToFour) (w .messages) (p .queue))
     (read-rows at (S .progress) (w .noRowsPast) (p .rows))
 
 pub read-slot : {s : List ℕ} {at : ℕ} (x : Slot) → MadeSlot x → Holds s at (slotBytes x) → readSlot s at ≡ x
 unfolding readSlot slotBytes
 read-slot free w h = rw (holds-zeros (omega arith) h)
-read-slot (live S) w h = rw (slot-parts S (made-fits w) h .flag) (ap live (read-session S w h))
+read-slot (live S) w h = rw (head-live S (slot-parts S (made-fits w) h .head)) (ap live (read-session S w h))
 
 -- ---- a state
 
--- The slot of a service and session stands at 4096 * (4 * service + session).
-pub state-slot : {G : State} → Sized G → (q n : ℕ) → q < 4 → n < 4 → Holds (stateBytes G) (4096 * (4 * q + n)) (slotBytes (G q n))
+-- The slot of a service and session stands at its start.
+pub state-slot : {G : State} → Sized G → (q n : ℕ) → q < 4 → n < 4 → Holds (stateBytes G) (slotStart q n) (slotBytes (G q n))
 unfolding stateBytes
 state-slot {G} z q n i j =
     let f : ℕ → List ℕ = λ k. slotBytes (slotAt G k) in
     let k = 4 * q + n in
     let a : k / 4 ≡ q = omega arith in
     let b : k % 4 ≡ n = omega arith in
-    rw (zero-add (4096 * k), zero-add k, a, b) at (holds-joined f 4096 (z .each) 0 16 k (omega arith) (holds-whole (joined f 0 16)))
+    rw (zero-add (slotSize * k), zero-add k, a, b) at (holds-joined f slotSize (z .each) 0 16 k (omega arith) (holds-whole (joined f 0 16)))
 
 pub read-state : {N : Network} {rows : ℕ} {G : State} → HasShape N rows G → readState (stateBytes G) ≡ G
 unfolding readState
 read-state {G = G} h = fun-ext (λ q. fun-ext (λ n. by q n (decLt q 4) (decLt n 4)))
   where
-    by : (q n : ℕ) → Dec (q < 4) → Dec (n < 4) → pick (ltb q 4 && ltb n 4) (readSlot (stateBytes G) (4096 * (4 * q + n))) free ≡ G q n
+    by : (q n : ℕ) → Dec (q < 4) → Dec (n < 4) → pick (ltb q 4 && ltb n 4) (readSlot (stateBytes G) (slotStart q n)) free ≡ G q n
     by q n (yes i) (yes j) = rw (lt-ltb q 4 i, lt-ltb n 4 j) (read-slot (G q n) (h .made q n i j) (state-slot (shape-sized h) q n i j))
     by q n (yes i) (no j) = rw (lt-ltb q 4 i, le-ltb n 4 (omega arith)) (sym (h .elsewhere q n (inr (omega arith))))
     by q n (no i) j = rw (le-ltb q 4 (omega arith)) (sym (h .elsewhere q n (inl (omega arith))))
@@ -230,15 +200,15 @@ read-state {G = G} h = fun-ext (λ q. fun-ext (λ n. by q n (decLt q 4) (decLt n
 -- ---- bytes that stand for a state
 
 module _ {N : Network} {rows : ℕ} {s : List ℕ} {G : State} (h : Stands N rows s G) (q n : ℕ) (i : q < 4) (j : n < 4) where
-  pub stands-slot : Holds s (4096 * (4 * q + n)) (slotBytes (G q n))
+  pub stands-slot : Holds s (slotStart q n) (slotBytes (G q n))
   stands-slot = rw (h .bytes) (state-slot (shape-sized (h .shape)) q n i j)
 
-  pub stands-read : readSlot s (4096 * (4 * q + n)) ≡ G q n
+  pub stands-read : readSlot s (slotStart q n) ≡ G q n
   stands-read = read-slot (G q n) (h .shape .made q n i j) stands-slot
 
-  pub stands-free : G q n ≡ free → byteAt s (4096 * (4 * q + n)) ≡ 0
+  pub stands-free : G q n ≡ free → byteAt s (slotStart q n) ≡ 0
   unfolding slotBytes
-  stands-free e = holds-zeros {n = 4096} (omega arith) (rw e at stands-slot)
+  stands-free e = holds-zeros {n = slotSize} (omega arith) (rw e at stands-slot)
 
-  pub stands-live : (S : Session) → G q n ≡ live S → Parts s (4096 * (4 * q + n)) S
+  pub stands-live : (S : Session) → G q n ≡ live S → Parts s (slotStart q n) S
   stands-live S e = slot-parts S (made-fits (rw e at (h .shape .made q n i j))) (rw e at stands-slot)

@@ -59,6 +59,20 @@ State = ℕ → ℕ → Slot
 abbrev pub setSlot : State → ℕ → ℕ → Slot → State
 setSlot G q n x = λ i j. pick (eqb i q) (pick (eqb j n) x (G i j)) (G i j)
 
+-- A session by its parts. Sessions are made by this and changed by the next three, so that a new part is added to these.
+abbrev pub sessionOf : Forest Value → List Queued → Progresses → Session
+sessionOf F l p = record { tree = F; queue = l; progress = p }
+
+-- The session with another tree; with another queue; with another progress.
+abbrev pub withTree : Session → Forest Value → Session
+withTree S F = record { tree = F; queue = S .queue; progress = S .progress }
+
+abbrev pub withQueue : Session → List Queued → Session
+withQueue S l = record { tree = S .tree; queue = l; progress = S .progress }
+
+abbrev pub withProgress : Session → Progresses → Session
+withProgress S p = record { tree = S .tree; queue = S .queue; progress = p }
+
 -- A session in which nothing was done: an empty tree and queue, every row undone.
 abbrev pub newSession : Session
-newSession = record { tree = end; queue = []; progress = λ i. undone }
+newSession = sessionOf end [] (λ i. undone)

@@ -11,7 +11,7 @@ use lib.ListN.{length}
 use Rattle.forest.specs.Forest.{tree}
 use Rattle.scalar.specs.Value.{pick}
 use Rattle.syntax.specs.Syntax.{Optional, none, some, Service, Network, Operation, Behaviour, nil, oneWay, requestResponse, notification, solicitResponse}
-use Rattle.syntax.specs.Syntax.{ifThenElse, whileDo, sequence, parallel, assign, choice, branch, lastBranch, waiting, answering}
+use Rattle.syntax.specs.Syntax.{ifThenElse, whileDo, sequence, parallel, assign, choice, waiting, answering, Branches, lastBranch, branch}
 use Rattle.syntax.specs.Rows.{hasRow, entry, isInputOperation}
 use Rattle.tree.specs.Encode.{WellFormed, empty, messageDeep, messageMany, treeDeep, treeMany}
 use Rattle.state.specs.Session.{ReplyTo, nobody, outsider, waitingRow, Progress, undone, done, waits, received, taken, Progresses}
@@ -104,40 +104,30 @@ undoneDoneOrBody (received to) = false
 undoneDoneOrBody (taken k) = eqb k 0
 
 -- How many branches a choice has.
-unfoldable pub branches : Behaviour → ℕ
-branches (nil r) = 0
-branches (oneWay r o x) = 0
-branches (requestResponse r o x c d) = 0
-branches (notification r o e) = 0
-branches (solicitResponse r o e x) = 0
-branches (ifThenElse r e a b) = 0
-branches (whileDo r e b) = 0
-branches (sequence r a b) = 0
-branches (parallel r a b) = 0
-branches (assign r x e) = 0
-branches (choice r m) = 0
-branches (branch r a b m) = suc (branches m)
+unfoldable pub branches : Branches → ℕ
 branches (lastBranch r a b) = 1
-branches (waiting r o x) = 0
-branches (answering r o c d) = 0
+branches (branch r a b m) = suc (branches m)
 
--- Each row of the behaviour has a progress of its kind. (The last two kinds stand only in a rest, never in what a session runs.)
-unfoldable pub suits : Network → ℕ → Progresses → Behaviour → Bool
-suits N rows p (nil r) = isUndone (p r)
-suits N rows p (oneWay r o x) = undoneOrDone (p r)
-suits N rows p (requestResponse r o x c d) = undoneDoneOrReceived N rows (p r) && suits N rows p d
-suits N rows p (notification r o e) = undoneOrDone (p r)
-suits N rows p (solicitResponse r o e x) = undoneDoneOrWaits (p r)
-suits N rows p (ifThenElse r e a b) = undoneOrTaken 2 (p r) && (suits N rows p a && suits N rows p b)
-suits N rows p (whileDo r e b) = undoneDoneOrBody (p r) && suits N rows p b
-suits N rows p (sequence r a b) = isUndone (p r) && (suits N rows p a && suits N rows p b)
-suits N rows p (parallel r a b) = isUndone (p r) && (suits N rows p a && suits N rows p b)
-suits N rows p (assign r x e) = undoneOrDone (p r)
-suits N rows p (choice r m) = undoneOrTaken (branches m) (p r) && suits N rows p m
-suits N rows p (branch r a b m) = isUndone (p r) && ((suits N rows p a && suits N rows p b) && suits N rows p m)
-suits N rows p (lastBranch r a b) = isUndone (p r) && (suits N rows p a && suits N rows p b)
-suits N rows p (waiting r o x) = isUndone (p r)
-suits N rows p (answering r o c d) = isUndone (p r) && suits N rows p d
+unfoldable mutual
+  -- Each row of the behaviour has a progress of its kind. (The last two kinds stand only in a rest, never in what a session runs.)
+  pub suits : Network → ℕ → Progresses → Behaviour → Bool
+  suits N rows p (nil r) = isUndone (p r)
+  suits N rows p (oneWay r o x) = undoneOrDone (p r)
+  suits N rows p (requestResponse r o x c d) = undoneDoneOrReceived N rows (p r) && suits N rows p d
+  suits N rows p (notification r o e) = undoneOrDone (p r)
+  suits N rows p (solicitResponse r o e x) = undoneDoneOrWaits (p r)
+  suits N rows p (ifThenElse r e a b) = undoneOrTaken 2 (p r) && (suits N rows p a && suits N rows p b)
+  suits N rows p (whileDo r e b) = undoneDoneOrBody (p r) && suits N rows p b
+  suits N rows p (sequence r a b) = isUndone (p r) && (suits N rows p a && suits N rows p b)
+  suits N rows p (parallel r a b) = isUndone (p r) && (suits N rows p a && suits N rows p b)
+  suits N rows p (assign r x e) = undoneOrDone (p r)
+  suits N rows p (choice r m) = undoneOrTaken (branches m) (p r) && suitsBranches N rows p m
+  suits N rows p (waiting r o x) = isUndone (p r)
+  suits N rows p (answering r o c d) = isUndone (p r) && suits N rows p d
+
+  pub suitsBranches : Network → ℕ → Progresses → Branches → Bool
+  suitsBranches N rows p (lastBranch r a b) = isUndone (p r) && (suits N rows p a && suits N rows p b)
+  suitsBranches N rows p (branch r a b m) = isUndone (p r) && ((suits N rows p a && suits N rows p b) && suitsBranches N rows p m)
 
 -- Rows that are none of the behaviour's have no progress.
 unfoldable pub quietElsewhere : ℕ → Progresses → Behaviour → Bool

@@ -5,7 +5,7 @@ use mathlib.Core.Path.{_≡_, refl, sym, ap, subst, _∙_}
 use mathlib.Core.List.{List, [], _∷_}
 use mathlib.Core.Bool.{Bool, true, false, _&&_, _||_}
 use mathlib.Core.Logic.{_⊎_, inl, inr}
-use Prim.Native.Nat.{ℕ, zero, suc, _+_, _*_, _≤_, _<_}
+use Prim.Native.Nat.{ℕ, zero, suc, _+_, _≤_, _<_}
 use native.Mathlib.Omega.{arith}
 use native.Mathlib.Decide.{decLt, ℕ-discrete}
 use lib.ListN.{length}
@@ -14,15 +14,16 @@ use borrow.Author.Tests.{eq-eqb, ne-eqb, eqb-true, lt-ltb, le-ltb}
 use Rattle.forest.specs.Forest.{end, tree, Lookup, absent, present, childrenOf, Rising, measure}
 use Rattle.scalar.specs.Value.{Value, pick}
 use Rattle.syntax.specs.Rows.{entry}
-use Rattle.syntax.specs.Syntax.{Optional, none, some, Network, Service, Behaviour, nil, oneWay, requestResponse, notification, solicitResponse, ifThenElse, whileDo, sequence, parallel, assign, choice, branch, lastBranch, waiting, answering}
+use Rattle.syntax.specs.Syntax.{Optional, none, some, Network, Service, Behaviour, nil, oneWay, requestResponse, notification, solicitResponse, ifThenElse, whileDo, sequence, parallel, assign, choice, waiting, answering, Branches, lastBranch, branch}
 use Rattle.wire.specs.Wire.{byteAt, u16At, part}
 use Rattle.tree.specs.Encode.{empty, Octets, Sound, WellFormed, messageDeep, messageMany, treeDeep, treeMany}
 use Rattle.tree.specs.Decode.{decode, decodeMessage}
 use Rattle.tree.specs.EncodeLaws.{and-left, and-right, octets-part, empty-proper}
 use Rattle.tree.specs.DecodeLaws.{decode-sound}
+use Rattle.state.specs.Places.{entrySize, treePlace, queuePlace, slotStart}
 use Rattle.state.specs.Session.{undone, free, live, State, newSession}
-use Rattle.state.specs.Bytes.{stateBytes, treeOr, readEntry, readQueue, readSession, readSlot, readState}
-use Rattle.state.specs.Shape.{suitsSlot, suitsSlots, suitsServices, AllMessages, WellMade, MadeSlot, HasShape, Stands, sameBytes, decodeState, serviceAt, clientOf, suitsBehaviour, suitsQueue, suits, quietElsewhere, freshSlot, freshState}
+use Rattle.state.specs.Bytes.{stateBytes, treeOr, readEntry, readQueue, treeLength, readSession, readSlot, readState}
+use Rattle.state.specs.Shape.{suitsSlot, suitsSlots, suitsServices, AllMessages, WellMade, MadeSlot, HasShape, Stands, sameBytes, decodeState, serviceAt, clientOf, suitsBehaviour, suitsQueue, suits, suitsBranches, quietElsewhere, freshSlot, freshState}
 use Rattle.state.specs.SizeLaws.{state-length}
 use Rattle.state.specs.ReadLaws.{read-state}
 
@@ -47,9 +48,9 @@ module _ (s : List ℕ) (o : Octets s) where
   queue-length : (n at : ℕ) → length (readQueue s n at) ≤ n
   unfolding readQueue
   queue-length zero at = omega arith
-  queue-length (suc n) at = by (eqb (byteAt s at) 0) (queue-length n (at + 344))
+  queue-length (suc n) at = by (eqb (byteAt s at) 0) (queue-length n (at + entrySize))
     where
-      by : (b : Bool) → length (readQueue s n (at + 344)) ≤ n → length (pick b [] (readEntry s at ∷ readQueue s n (at + 344))) ≤ suc n
+      by : (b : Bool) → length (readQueue s n (at + entrySize)) ≤ n → length (pick b [] (readEntry s at ∷ readQueue s n (at + entrySize))) ≤ suc n
       by true h = omega arith
       by false h = omega arith
 
@@ -62,20 +63,20 @@ module _ (s : List ℕ) (o : Octets s) where
   queue-made : (n at : ℕ) → AllMessages (readQueue s n at)
   unfolding readQueue AllMessages
   queue-made zero at = tt
-  queue-made (suc n) at = by (eqb (byteAt s at) 0) (queue-made n (at + 344))
+  queue-made (suc n) at = by (eqb (byteAt s at) 0) (queue-made n (at + entrySize))
     where
-      by : (b : Bool) → AllMessages (readQueue s n (at + 344)) → AllMessages (pick b [] (readEntry s at ∷ readQueue s n (at + 344)))
+      by : (b : Bool) → AllMessages (readQueue s n (at + entrySize)) → AllMessages (pick b [] (readEntry s at ∷ readQueue s n (at + entrySize)))
       by true h = tt
       by false h = (entry-made at, h)
 
   pub session-made : (at : ℕ) → WellMade (readSession s at)
   unfolding readSession
   session-made at =
-      let l = part s (at + 16) (u16At s (at + 2)) in
+      let l = part s (at + treePlace) (treeLength s at) in
       record {
-        bounded = tree-made l (octets-part s (at + 16) (u16At s (at + 2)) o) (decode treeDeep treeMany l) refl;
-        upToFour = queue-length 4 (at + 1040);
-        messages = queue-made 4 (at + 1040);
+        bounded = tree-made l (octets-part s (at + treePlace) (treeLength s at) o) (decode treeDeep treeMany l) refl;
+        upToFour = queue-length 4 (at + queuePlace);
+        messages = queue-made 4 (at + queuePlace);
         noRowsPast = λ r h. rw (le-ltb r 256 h);
       }
 
@@ -160,16 +161,16 @@ decode-state-complete {N} {rows} {s} {G} h =
 read-shape : (N : Network) (rows : ℕ) (s : List ℕ) → Octets s → suitsServices N rows (readState s) 4 ≡ true → HasShape N rows (readState s)
 unfolding readState
 read-shape N rows s o e = record {
-  made = λ q n i j. rw (lt-ltb q 4 i, lt-ltb n 4 j) (slot-made s o (4096 * (4 * q + n)));
+  made = λ q n i j. rw (lt-ltb q 4 i, lt-ltb n 4 j) (slot-made s o (slotStart q n));
   suited = services-suit N rows (readState s) 4 e;
   elsewhere = outside;
 }
   where
-    inside : (q n : ℕ) → Dec (q < 4) → 4 ≤ n → pick (ltb q 4 && ltb n 4) (readSlot s (4096 * (4 * q + n))) free ≡ free
+    inside : (q n : ℕ) → Dec (q < 4) → 4 ≤ n → pick (ltb q 4 && ltb n 4) (readSlot s (slotStart q n)) free ≡ free
     inside q n (yes i) j = rw (lt-ltb q 4 i, le-ltb n 4 j)
     inside q n (no i) j = rw (le-ltb q 4 (omega arith))
 
-    outside : (q n : ℕ) → (4 ≤ q) ⊎ (4 ≤ n) → pick (ltb q 4 && ltb n 4) (readSlot s (4096 * (4 * q + n))) free ≡ free
+    outside : (q n : ℕ) → (4 ≤ q) ⊎ (4 ≤ n) → pick (ltb q 4 && ltb n 4) (readSlot s (slotStart q n)) free ≡ free
     outside q n (inl i) = rw (le-ltb q 4 i)
     outside q n (inr j) = inside q n (decLt q 4) j
 
@@ -224,23 +225,27 @@ unfolding quietElsewhere
 undone-quiet zero B = refl
 undone-quiet (suc n) B = rw (or-true, undone-quiet n B)
 
-undone-suits : (N : Network) (rows : ℕ) (B : Behaviour) → suits N rows (λ i. undone) B ≡ true
-unfolding suits
-undone-suits N rows (nil r) = refl
-undone-suits N rows (oneWay r o x) = refl
-undone-suits N rows (requestResponse r o x c d) = undone-suits N rows d
-undone-suits N rows (notification r o e) = refl
-undone-suits N rows (solicitResponse r o e x) = refl
-undone-suits N rows (ifThenElse r e a b) = rw (undone-suits N rows a, undone-suits N rows b)
-undone-suits N rows (whileDo r e b) = undone-suits N rows b
-undone-suits N rows (sequence r a b) = rw (undone-suits N rows a, undone-suits N rows b)
-undone-suits N rows (parallel r a b) = rw (undone-suits N rows a, undone-suits N rows b)
-undone-suits N rows (assign r x e) = refl
-undone-suits N rows (choice r m) = undone-suits N rows m
-undone-suits N rows (branch r a b m) = rw (undone-suits N rows a, undone-suits N rows b, undone-suits N rows m)
-undone-suits N rows (lastBranch r a b) = rw (undone-suits N rows a, undone-suits N rows b)
-undone-suits N rows (waiting r o x) = refl
-undone-suits N rows (answering r o c d) = undone-suits N rows d
+mutual
+  unfolding suits
+
+  undone-suits : (N : Network) (rows : ℕ) (B : Behaviour) → suits N rows (λ i. undone) B ≡ true
+  undone-suits N rows (nil r) = refl
+  undone-suits N rows (oneWay r o x) = refl
+  undone-suits N rows (requestResponse r o x c d) = undone-suits N rows d
+  undone-suits N rows (notification r o e) = refl
+  undone-suits N rows (solicitResponse r o e x) = refl
+  undone-suits N rows (ifThenElse r e a b) = rw (undone-suits N rows a, undone-suits N rows b)
+  undone-suits N rows (whileDo r e b) = undone-suits N rows b
+  undone-suits N rows (sequence r a b) = rw (undone-suits N rows a, undone-suits N rows b)
+  undone-suits N rows (parallel r a b) = rw (undone-suits N rows a, undone-suits N rows b)
+  undone-suits N rows (assign r x e) = refl
+  undone-suits N rows (choice r m) = undone-branches N rows m
+  undone-suits N rows (waiting r o x) = refl
+  undone-suits N rows (answering r o c d) = undone-suits N rows d
+
+  undone-branches : (N : Network) (rows : ℕ) (m : Branches) → suitsBranches N rows (λ i. undone) m ≡ true
+  undone-branches N rows (lastBranch r a b) = rw (undone-suits N rows a, undone-suits N rows b)
+  undone-branches N rows (branch r a b m) = rw (undone-suits N rows a, undone-suits N rows b, undone-branches N rows m)
 
 pub new-made : WellMade newSession
 unfolding AllMessages

@@ -2,61 +2,39 @@
 -- at most 336, and a session's tree, at most 48 nodes below its empty root, at most 1,013.
 use mathlib.Core.Path.{_≡_, refl, ap, _∙_}
 use mathlib.Core.List.{List, [], _∷_, _++_}
-use mathlib.Core.Bool.{Bool, true, false, _&&_}
 use mathlib.Core.Logic.{inl}
 use Prim.Native.Nat.{ℕ, zero, suc, _+_, _*_, _/_, _%_, _≤_, _<_}
 use native.Mathlib.Omega.{arith}
 use native.Mathlib.Decide.{decLt}
 use lib.ListN.{length, length-append}
-use lib.Dec.{eqb}
-use borrow.Author.Tests.{leb-true, eqb-true}
 use Rattle.forest.specs.Forest.{Forest, end, node, Tree, tree, measure, nodes}
-use Rattle.scalar.specs.Value.{Value, value, pick, isValue}
+use Rattle.scalar.specs.Value.{Value, value}
+use Rattle.scalar.specs.ValueLaws.{value-size}
 use Rattle.syntax.specs.Syntax.{Network}
 use Rattle.tree.specs.Encode.{encode, rooted, empty, Sound, WellFormed, messageDeep, messageMany, treeDeep, treeMany}
-use Rattle.tree.specs.EncodeLaws.{and-left, length-node}
+use Rattle.tree.specs.EncodeLaws.{length-node}
+use Rattle.state.specs.Places.{slotSize, treeRoom, messageRoom, entrySize, queueSize, rowsSize, rowSize}
 use Rattle.state.specs.Session.{ReplyTo, nobody, outsider, waitingRow, Progress, undone, done, waits, received, taken, Progresses, Queued, Session, Slot, free, live, State}
 use Rattle.state.specs.Bytes.{zeros, padded, replyBytes, messageBytes, entryBytes, queueBytes, progressBytes, rowsBytes, treeBytes, slotBytes, slotAt, stateBytes}
 use Rattle.state.specs.Shape.{AllMessages, WellMade, MadeSlot, HasShape}
 use Rattle.state.specs.PartLaws.{length-zeros, length-padded, length-joined}
+use Rattle.state.specs.HeadLaws.{head-size}
 
 -- ---- a tree's bytes
-
-module _ (v : List ℕ) where
-  by-test : (t x y : Bool) → (x ≡ true → length v ≤ 16) → (y ≡ true → length v ≤ 16) → pick t x y ≡ true → length v ≤ 16
-  by-test true x y p q h = p h
-  by-test false x y p q h = q h
-
-  exact : (n : ℕ) → n ≤ 16 → eqb (length v) n ≡ true → length v ≤ 16
-  exact n l h = omega (arith, eqb-true (length v) n h)
-
-  exactly : (n : ℕ) (x : Bool) → n ≤ 16 → (eqb (length v) n && x) ≡ true → length v ≤ 16
-  exactly n x l h = exact n l (and-left (eqb (length v) n) x h)
-
-  pub value-size : (b : ℕ) → isValue b v ≡ true → length v ≤ 16
-  unfolding isValue
-  value-size b =
-      by-test (eqb b 0) _ _ (exactly 1 _ (omega arith))
-      (by-test (eqb b 1) _ _ (exact 4 (omega arith))
-      (by-test (eqb b 2) _ _ (exactly 8 _ (omega arith))
-      (by-test (eqb b 3) _ _ (exact 8 (omega arith))
-      (by-test (eqb b 4) _ _ (leb-true (length v) 16)
-      (by-test (eqb b 5) _ _ (leb-true (length v) 16)
-      (by-test (eqb b 6) _ false (exact 0 (omega arith)) (λ h. absurd (let z : _≡_ {A = ℕ} 0 1 = cc in omega arith))))))))
 
 pub forest-size : (f : Forest Value) → Sound f → length (encode f) ≤ 21 * nodes f
 unfolding Sound measure encode
 forest-size end h = omega arith
 forest-size (node i (value b v) ks rest) h =
-    omega (arith, length-node i b v ks rest, value-size v b (h .2 .valid), forest-size ks (h .3), forest-size rest (h .4))
+    omega (arith, length-node i b v ks rest, value-size b v (h .2 .valid), forest-size ks (h .3), forest-size rest (h .4))
 
 tree-size : (deep many : ℕ) (b : ℕ) (v : List ℕ) (ks : Forest Value) → WellFormed deep many (tree (value b v) ks)
     → length (encode (rooted (tree (value b v) ks))) ≤ 5 + length v + 21 * many
 unfolding encode
 tree-size deep many b v ks w = omega (arith, length-node 0 b v ks end, forest-size ks (w .sound), w .few)
 
-pub message-size : (m : Tree Value) → WellFormed messageDeep messageMany m → length (messageBytes m) ≤ 336
-message-size (tree (value b v) ks) w = omega (arith, tree-size messageDeep messageMany b v ks w, value-size v b (w .root .valid))
+pub message-size : (m : Tree Value) → WellFormed messageDeep messageMany m → length (messageBytes m) ≤ messageRoom
+message-size (tree (value b v) ks) w = omega (arith, tree-size messageDeep messageMany b v ks w, value-size b v (w .root .valid))
 
 pub session-tree-size : (F : Forest Value) → WellFormed treeDeep treeMany (tree empty F) → length (treeBytes F) ≤ 1013
 session-tree-size F w = omega (arith, tree-size treeDeep treeMany 6 [] F w)
@@ -68,38 +46,38 @@ reply-size nobody = length-zeros 4
 reply-size (outsider k) = refl
 reply-size (waitingRow q n r) = refl
 
-pub entry-size : (m : Queued) → length (messageBytes (m .message)) ≤ 336 → length (entryBytes m) ≡ 344
+pub entry-size : (m : Queued) → length (messageBytes (m .message)) ≤ messageRoom → length (entryBytes m) ≡ entrySize
 unfolding entryBytes
 entry-size m h =
     let l = messageBytes (m .message) in
-    let a : length (replyBytes (m .replyTo) ++ padded 336 l) ≡ 340 =
-    length-append (replyBytes (m .replyTo)) (padded 336 l) ∙ omega (arith, reply-size (m .replyTo), length-padded 336 l h) in
+    let a : length (replyBytes (m .replyTo) ++ padded messageRoom l) ≡ 340 =
+    length-append (replyBytes (m .replyTo)) (padded messageRoom l) ∙ omega (arith, reply-size (m .replyTo), length-padded messageRoom l h) in
     omega (arith, a)
 
-pub queue-size : (n : ℕ) (l : List Queued) → AllMessages l → length (queueBytes n l) ≡ 344 * n
+pub queue-size : (n : ℕ) (l : List Queued) → AllMessages l → length (queueBytes n l) ≡ entrySize * n
 unfolding queueBytes AllMessages
 queue-size zero l h = refl
-queue-size (suc n) [] h = length-append (zeros 344) (queueBytes n []) ∙ omega (arith, length-zeros 344, queue-size n [] tt)
+queue-size (suc n) [] h = length-append (zeros entrySize) (queueBytes n []) ∙ omega (arith, length-zeros entrySize, queue-size n [] tt)
 queue-size (suc n) (m ∷ l) h =
     length-append (entryBytes m) (queueBytes n l) ∙ omega (arith, entry-size m (message-size (m .message) (h .0)), queue-size n l (h .1))
 
 -- ---- rows, slots, states
 
-pub progress-size : (p : Progress) → length (progressBytes p) ≡ 6
+pub progress-size : (p : Progress) → length (progressBytes p) ≡ rowSize
 unfolding progressBytes
-progress-size undone = length-zeros 6
+progress-size undone = length-zeros rowSize
 progress-size done = ap suc (length-zeros 5)
 progress-size waits = ap suc (length-zeros 5)
 progress-size (received to) = ap (λ (n : ℕ). suc (suc n)) (reply-size to)
 progress-size (taken k) = ap (λ (n : ℕ). suc (suc n)) (length-zeros 4)
 
-pub rows-size : (p : Progresses) → length (rowsBytes p) ≡ 1536
-rows-size p = length-joined (λ r. progressBytes (p r)) 6 (λ r. progress-size (p r)) 0 256
+pub rows-size : (p : Progresses) → length (rowsBytes p) ≡ rowsSize
+rows-size p = length-joined (λ r. progressBytes (p r)) rowSize (λ r. progress-size (p r)) 0 256
 
 -- What a slot's bytes are made of: where each part ends.
 pub record Fits (S : Session) : Type 0 where
-  pub treeFits : length (treeBytes (S .tree)) ≤ 1024
-  pub queueFits : length (queueBytes 4 (S .queue)) ≡ 1376
+  pub treeFits : length (treeBytes (S .tree)) ≤ treeRoom
+  pub queueFits : length (queueBytes 4 (S .queue)) ≡ queueSize
 
 pub made-fits : {S : Session} → WellMade S → Fits S
 made-fits {S} w = record {
@@ -107,27 +85,27 @@ made-fits {S} w = record {
   queueFits = queue-size 4 (S .queue) (w .messages);
 }
 
-pub slot-size : (x : Slot) → MadeSlot x → length (slotBytes x) ≡ 4096
+pub slot-size : (x : Slot) → MadeSlot x → length (slotBytes x) ≡ slotSize
 unfolding slotBytes
-slot-size free w = length-zeros 4096
+slot-size free w = length-zeros slotSize
 slot-size (live S) w =
     let f = made-fits w in
-    simp (length-append, length-zeros) (omega (arith, f .treeFits, f .queueFits, rows-size (S .progress)))
+    simp (length-append, length-zeros) (omega (arith, head-size S, f .treeFits, f .queueFits, rows-size (S .progress)))
 
 -- Every slot of the state takes its 4,096 bytes.
 pub record Sized (G : State) : Type 0 where
-  pub each : (k : ℕ) → length (slotBytes (slotAt G k)) ≡ 4096
+  pub each : (k : ℕ) → length (slotBytes (slotAt G k)) ≡ slotSize
 
 pub shape-sized : {N : Network} {rows : ℕ} {G : State} → HasShape N rows G → Sized G
 shape-sized {G = G} h = record { each = λ k. by k (decLt k 16) }
   where
-    by : (k : ℕ) → Dec (k < 16) → length (slotBytes (slotAt G k)) ≡ 4096
+    by : (k : ℕ) → Dec (k < 16) → length (slotBytes (slotAt G k)) ≡ slotSize
     by k (yes l) = slot-size (slotAt G k) (h .made (k / 4) (k % 4) (omega arith) (omega arith))
     by k (no l) = rw (h .elsewhere (k / 4) (k % 4) (inl (omega arith))) (slot-size free tt)
 
 pub sized-length : {G : State} → Sized G → length (stateBytes G) ≡ 65536
 unfolding stateBytes
-sized-length {G} z = length-joined (λ k. slotBytes (slotAt G k)) 4096 (z .each) 0 16
+sized-length {G} z = length-joined (λ k. slotBytes (slotAt G k)) slotSize (z .each) 0 16
 
 -- "65,536 bytes".
 pub state-length : {N : Network} {rows : ℕ} {G : State} → HasShape N rows G → length (stateBytes G) ≡ 65536

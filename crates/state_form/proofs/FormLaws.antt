@@ -13,8 +13,10 @@ use Rattle.scalar.specs.Value.{pick}
 use Rattle.wire.specs.Wire.{byteAt, u16At, part}
 use Rattle.wire.specs.WireLaws.{byte-past}
 use Rattle.tree.specs.Decode.{isMessage, isSessionTree}
-use Rattle.state.specs.Form.{allZero, progressForm, rowsForm, entryForm, queueForm, treeForm, liveForm, slotForm}
-use Rattle.state_form.specs.Parts.{destinationForm, headForm}
+use Rattle.state.specs.Places.{slotSize, treeRoom, messageRoom, entrySize, rowSize, treePlace, queuePlace, rowsPlace, keptPlace, keptSize}
+use Rattle.state.specs.Bytes.{treeLength}
+use Rattle.state.specs.Form.{allZero, progressForm, rowsForm, entryForm, queueForm, headForm, treeForm, liveForm, slotForm}
+use Rattle.state_form.specs.Parts.{destinationForm}
 
 -- ---- zeros
 
@@ -110,7 +112,7 @@ pub ruleset progress-laws = (form-taken, form-received, form-unknown, form-plain
 
 -- The rows before `place` have the form, and m are left.
 pub record RowsLeft (s : List ℕ) (at n place m : ℕ) : Type 0 where
-  pub bound : place + 6 * m ≡ at + 6 * n
+  pub bound : place + rowSize * m ≡ at + rowSize * n
   pub same : rowsForm s at n ≡ rowsForm s place m
 
 pub rows-all : (s : List ℕ) (at n : ℕ) → RowsLeft s at n at n
@@ -120,11 +122,11 @@ one-less : (m : ℕ) → 0 < m → m ≡ suc (m - 1)
 one-less m h = omega arith
 
 module _ (s : List ℕ) (at n place m : ℕ) (c : RowsLeft s at n place m) where
-  row-more : 0 < m → rowsForm s at n ≡ (progressForm s place && rowsForm s (place + 6) (m - 1))
+  row-more : 0 < m → rowsForm s at n ≡ (progressForm s place && rowsForm s (place + rowSize) (m - 1))
   unfolding rowsForm
   row-more h = c .same ∙ ap (rowsForm s place) (one-less m h)
 
-  pub rows-next : (x : Bool) → 0 < m → x ≡ progressForm s place → not x ≡ false → RowsLeft s at n (place + 6) (m - 1)
+  pub rows-next : (x : Bool) → 0 < m → x ≡ progressForm s place → not x ≡ false → RowsLeft s at n (place + rowSize) (m - 1)
   rows-next x h e f = record { bound = omega (arith, c .bound); same = row-more h ∙ rw (sym e ∙ not-false x f) }
 
   pub rows-not : (x : Bool) → 0 < m → x ≡ progressForm s place → not x ≡ true → false ≡ rowsForm s at n
@@ -157,19 +159,19 @@ module _ (s : List ℕ) (at : ℕ) (t : Bool) (d : t ≡ destinationForm s at) w
   entry-no-destination e = rw (sym d ∙ not-true t e)
 
   module _ (e : not t ≡ false) (v w : ℕ) (f : v ≡ u16At s (at + 2)) (g : w ≡ v) where
-    entry-rest : entryForm s at ≡ (leb w 336 && (isMessage (part s (at + 8) w) && allZero s (at + 8 + w) (336 - w)))
+    entry-rest : entryForm s at ≡ (leb w messageRoom && (isMessage (part s (at + 8) w) && allZero s (at + 8 + w) (messageRoom - w)))
     unfolding entryForm destinationForm
     entry-rest = rw (sym d ∙ not-false t e, sym f, g)
 
-    pub entry-long : 336 < w → false ≡ entryForm s at
-    entry-long h = sym (entry-rest ∙ rw (lt-leb w 336 h))
+    pub entry-long : messageRoom < w → false ≡ entryForm s at
+    entry-long h = sym (entry-rest ∙ rw (lt-leb w messageRoom h))
 
-    module _ (h : w ≤ 336) (l : List ℕ) (p : l ≡ part s (at + 8) w) (x : Bool) (y : x ≡ isMessage l) where
+    module _ (h : w ≤ messageRoom) (l : List ℕ) (p : l ≡ part s (at + 8) w) (x : Bool) (y : x ≡ isMessage l) where
       pub entry-no-message : not x ≡ true → false ≡ entryForm s at
-      entry-no-message i = sym (entry-rest ∙ rw (le-leb w 336 h, sym p, sym y ∙ not-true x i))
+      entry-no-message i = sym (entry-rest ∙ rw (le-leb w messageRoom h, sym p, sym y ∙ not-true x i))
 
-      pub entry-padded : (r : Bool) → not x ≡ false → r ≡ allZero s (at + 8 + w) (336 - w) → r ≡ entryForm s at
-      entry-padded r i j = j ∙ sym (entry-rest ∙ rw (le-leb w 336 h, sym p, sym y ∙ not-false x i))
+      pub entry-padded : (r : Bool) → not x ≡ false → r ≡ allZero s (at + 8 + w) (messageRoom - w) → r ≡ entryForm s at
+      entry-padded r i j = j ∙ sym (entry-rest ∙ rw (le-leb w messageRoom h, sym p, sym y ∙ not-false x i))
 
 pub ruleset entry-laws = (entry-no-destination, entry-long, entry-no-message, entry-padded)
 
@@ -177,7 +179,7 @@ pub ruleset entry-laws = (entry-no-destination, entry-long, entry-no-message, en
 
 -- The entries before `place` are used and have the form, and m are left.
 pub record EntriesLeft (s : List ℕ) (at n place m : ℕ) : Type 0 where
-  pub bound : place + 344 * m ≡ at + 344 * n
+  pub bound : place + entrySize * m ≡ at + entrySize * n
   pub same : queueForm s at n ≡ queueForm s place m
 
 pub entries-all : (s : List ℕ) (at n : ℕ) → EntriesLeft s at n at n
@@ -185,15 +187,15 @@ entries-all s at n = record { bound = refl; same = refl }
 
 module _ (s : List ℕ) (at n place m : ℕ) (c : EntriesLeft s at n place m) where
   entry-more : 0 < m → queueForm s at n
-      ≡ pick (eqb (byteAt s place) 0) (allZero s place (344 * m)) (entryForm s place && queueForm s (place + 344) (m - 1))
+      ≡ pick (eqb (byteAt s place) 0) (allZero s place (entrySize * m)) (entryForm s place && queueForm s (place + entrySize) (m - 1))
   unfolding queueForm
   entry-more h = c .same ∙ (ap (queueForm s place) (one-less m h) ∙ rw (sym (one-less m h)))
 
   module _ (b : ℕ) (h : 0 < m) (e : b ≡ byteAt s place) where
-    pub queue-unused : (r : Bool) → b ≡ 0 → r ≡ allZero s place (344 * m) → r ≡ queueForm s at n
+    pub queue-unused : (r : Bool) → b ≡ 0 → r ≡ allZero s place (entrySize * m) → r ≡ queueForm s at n
     queue-unused r f g = g ∙ sym (entry-more h ∙ rw (sym e ∙ f))
 
-    pub entries-next : (x : Bool) → (b ≡ 0 → ⊥) → x ≡ entryForm s place → not x ≡ false → EntriesLeft s at n (place + 344) (m - 1)
+    pub entries-next : (x : Bool) → (b ≡ 0 → ⊥) → x ≡ entryForm s place → not x ≡ false → EntriesLeft s at n (place + entrySize) (m - 1)
     entries-next x f g i = record {
       bound = omega (arith, c .bound);
       same = entry-more h ∙ rw (sym e, ne-eqb b 0 f, sym g ∙ not-false x i);
@@ -212,53 +214,58 @@ pub ruleset queue-again-laws = (entries-next)
 
 -- ---- a slot
 
-module _ (s : List ℕ) (at v w : ℕ) (f : v ≡ u16At s (at + 2)) (g : w ≡ v) where
-  tree-rest : treeForm s at ≡ (leb w 1024 && (isSessionTree (part s (at + 16) w) && allZero s (at + 16 + w) (1024 - w)))
+module _ (s : List ℕ) (at v w : ℕ) (f : v ≡ treeLength s at) (g : w ≡ v) where
+  tree-rest : treeForm s at ≡ (leb w treeRoom && (isSessionTree (part s (at + treePlace) w) && allZero s (at + treePlace + w) (treeRoom - w)))
   unfolding treeForm
   tree-rest = rw (sym f, g)
 
-  pub tree-long : 1024 < w → false ≡ treeForm s at
-  tree-long h = sym (tree-rest ∙ rw (lt-leb w 1024 h))
+  pub tree-long : treeRoom < w → false ≡ treeForm s at
+  tree-long h = sym (tree-rest ∙ rw (lt-leb w treeRoom h))
 
-  module _ (h : w ≤ 1024) (l : List ℕ) (p : l ≡ part s (at + 16) w) (x : Bool) (y : x ≡ isSessionTree l) where
+  module _ (h : w ≤ treeRoom) (l : List ℕ) (p : l ≡ part s (at + treePlace) w) (x : Bool) (y : x ≡ isSessionTree l) where
     pub tree-not : not x ≡ true → false ≡ treeForm s at
-    tree-not i = sym (tree-rest ∙ rw (le-leb w 1024 h, sym p, sym y ∙ not-true x i))
+    tree-not i = sym (tree-rest ∙ rw (le-leb w treeRoom h, sym p, sym y ∙ not-true x i))
 
-    pub tree-padded : (r : Bool) → not x ≡ false → r ≡ allZero s (at + 16 + w) (1024 - w) → r ≡ treeForm s at
-    tree-padded r i j = j ∙ sym (tree-rest ∙ rw (le-leb w 1024 h, sym p, sym y ∙ not-false x i))
+    pub tree-padded : (r : Bool) → not x ≡ false → r ≡ allZero s (at + treePlace + w) (treeRoom - w) → r ≡ treeForm s at
+    tree-padded r i j = j ∙ sym (tree-rest ∙ rw (le-leb w treeRoom h, sym p, sym y ∙ not-false x i))
 
 pub ruleset tree-laws = (tree-long, tree-not, tree-padded)
 
-pub head-is : (s : List ℕ) (at a b : ℕ) (x y z u r : Bool) → a ≡ byteAt s at → b ≡ byteAt s (at + 1) → x ≡ (eqb a 1 && eqb b 0) → y ≡ allZero s (at + 4) 12
-    → z ≡ treeForm s at → u ≡ (y && z) → r ≡ (x && u) → r ≡ headForm s at
+pub head-is : (s : List ℕ) (at a b : ℕ) (x y r : Bool) → a ≡ byteAt s at → b ≡ byteAt s (at + 1) → x ≡ (eqb a 1 && eqb b 0) → y ≡ allZero s (at + 4) 12
+    → r ≡ (x && y) → r ≡ headForm s at
 unfolding headForm
-head-is s at a b x y z u r e f g h i j k = k ∙ rw (g, j, h, i, e, f)
+head-is s at a b x y r e f g h i = i ∙ rw (g, h, e, f)
 
 pub ruleset head-laws = (head-is)
 
 module _ (s : List ℕ) (at : ℕ) (x : Bool) (e : x ≡ headForm s at) where
   pub live-no-head : not x ≡ true → false ≡ liveForm s at
-  unfolding liveForm headForm
+  unfolding liveForm
   live-no-head h = rw (sym e ∙ not-true x h)
 
-  module _ (h : not x ≡ false) (y : Bool) (f : y ≡ queueForm s (at + 1040) 4) where
-    pub live-no-queue : not y ≡ true → false ≡ liveForm s at
-    unfolding liveForm headForm
-    live-no-queue i = rw (sym e ∙ not-false x h, sym f ∙ not-true y i)
+  module _ (h : not x ≡ false) (v : Bool) (d : v ≡ treeForm s at) where
+    pub live-no-tree : not v ≡ true → false ≡ liveForm s at
+    unfolding liveForm
+    live-no-tree i = rw (sym e ∙ not-false x h, sym d ∙ not-true v i)
 
-    module _ (i : not y ≡ false) (z : Bool) (g : z ≡ rowsForm s (at + 2416) 256) where
-      pub live-no-rows : not z ≡ true → false ≡ liveForm s at
-      unfolding liveForm headForm
-      live-no-rows j = rw (sym e ∙ not-false x h, sym f ∙ not-false y i, sym g ∙ not-true z j)
+    module _ (i : not v ≡ false) (y : Bool) (f : y ≡ queueForm s (at + queuePlace) 4) where
+      pub live-no-queue : not y ≡ true → false ≡ liveForm s at
+      unfolding liveForm
+      live-no-queue j = rw (sym e ∙ not-false x h, sym d ∙ not-false v i, sym f ∙ not-true y j)
 
-      pub live-kept : (r : Bool) → not z ≡ false → r ≡ allZero s (at + 3952) 144 → r ≡ liveForm s at
-      unfolding liveForm headForm
-      live-kept r j k = k ∙ rw (sym e ∙ not-false x h, sym f ∙ not-false y i, sym g ∙ not-false z j)
+      module _ (j : not y ≡ false) (z : Bool) (g : z ≡ rowsForm s (at + rowsPlace) 256) where
+        pub live-no-rows : not z ≡ true → false ≡ liveForm s at
+        unfolding liveForm
+        live-no-rows k = rw (sym e ∙ not-false x h, sym d ∙ not-false v i, sym f ∙ not-false y j, sym g ∙ not-true z k)
 
-pub ruleset live-laws = (live-no-head, live-no-queue, live-no-rows, live-kept)
+        pub live-kept : (r : Bool) → not z ≡ false → r ≡ allZero s (at + keptPlace) keptSize → r ≡ liveForm s at
+        unfolding liveForm
+        live-kept r k l = l ∙ rw (sym e ∙ not-false x h, sym d ∙ not-false v i, sym f ∙ not-false y j, sym g ∙ not-false z k)
+
+pub ruleset live-laws = (live-no-head, live-no-tree, live-no-queue, live-no-rows, live-kept)
 
 module _ (s : List ℕ) (at b : ℕ) (r : Bool) (e : b ≡ byteAt s at) where
-  pub slot-free : b ≡ 0 → r ≡ allZero s at 4096 → r ≡ slotForm s at
+  pub slot-free : b ≡ 0 → r ≡ allZero s at slotSize → r ≡ slotForm s at
   unfolding slotForm
   slot-free f g = g ∙ rw (sym e ∙ f)
 

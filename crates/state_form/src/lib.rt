@@ -4,8 +4,9 @@ ghost use mathlib.Core.Path.{_≡_};
 ghost use Prim.Native.Nat.{_+_, _*_, _≤_, min};
 ghost use lib.ListN.{length};
 ghost use Rattle.wire.specs.Wire.{part};
-ghost use Rattle.state.specs.Form.{allZero, progressForm, rowsForm, entryForm, queueForm, treeForm, liveForm, slotForm};
-ghost use Rattle.state_form.specs.Parts.{destinationForm, headForm};
+ghost use Rattle.state.specs.Places.{slotSize, headSize, entrySize, rowSize, queuePlace};
+ghost use Rattle.state.specs.Form.{allZero, progressForm, rowsForm, entryForm, queueForm, headForm, treeForm, liveForm, slotForm};
+ghost use Rattle.state_form.specs.Parts.{destinationForm};
 
 // Where the n bytes from `at` on end, as far as there are.
 fn end_of(s: &[u8], at: usize, n: usize) -> usize
@@ -47,7 +48,7 @@ pub fn part(s: &[u8], at: usize, n: usize) -> &[u8]
 
 // A row's progress: only a taken part uses byte 1, only a received row bytes 2 to 5.
 pub fn progress_form(s: &[u8], at: usize) -> bool
-    requires { ⌜ at + 6 ≤ 0x100000000 ⌝ }
+    requires { ⌜ at + rowSize ≤ 0x100000000 ⌝ }
     ensures { λ r. ⌜ r ≡ progressForm (now (s .entry)) at ⌝ }
 {
     let kind = wire::byte_at(s, at);
@@ -65,7 +66,7 @@ pub fn progress_form(s: &[u8], at: usize) -> bool
 
 // The progress of n rows.
 pub fn rows_form(s: &[u8], at: usize, n: usize) -> bool
-    requires { ⌜ at + 6 * n ≤ 0x100000000 ⌝ }
+    requires { ⌜ at + rowSize * n ≤ 0x100000000 ⌝ }
     ensures { λ r. ⌜ r ≡ rowsForm (now (s .entry)) at n ⌝ }
 {
     let mut place = at;
@@ -74,7 +75,7 @@ pub fn rows_form(s: &[u8], at: usize, n: usize) -> bool
         if !progress_form(s, place) {
             return false;
         }
-        place += 6;
+        place += state::ROW;
         left -= 1;
     }
     true
@@ -94,37 +95,37 @@ fn destination_form(s: &[u8], at: usize) -> bool
 
 // A used entry of the queue: a message of the length it says, and zeros.
 pub fn entry_form(s: &[u8], at: usize) -> bool
-    requires { ⌜ at + 344 ≤ 0x100000000 ⌝ }
+    requires { ⌜ at + entrySize ≤ 0x100000000 ⌝ }
     ensures { λ r. ⌜ r ≡ entryForm (now (s .entry)) at ⌝ }
 {
     if !destination_form(s, at) {
         return false;
     }
     let size = wire::index(wire::u16_at(s, at + 2));
-    if 336 < size {
+    if state::MESSAGE_ROOM < size {
         return false;
     }
     if !tree::is_message(part(s, at + 8, size)) {
         return false;
     }
-    all_zero(s, at + 8 + size, 336 - size)
+    all_zero(s, at + 8 + size, state::MESSAGE_ROOM - size)
 }
 
 // A queue of n entries: used ones, then zeros.
 pub fn queue_form(s: &[u8], at: usize, n: usize) -> bool
-    requires { ⌜ at + 344 * n ≤ 0x100000000 ⌝ }
+    requires { ⌜ at + entrySize * n ≤ 0x100000000 ⌝ }
     ensures { λ r. ⌜ r ≡ queueForm (now (s .entry)) at n ⌝ }
 {
     let mut place = at;
     let mut left = n;
     while 0 < left {
         if wire::byte_at(s, place) == 0 {
-            return all_zero(s, place, 344 * left);
+            return all_zero(s, place, state::ENTRY * left);
         }
         if !entry_form(s, place) {
             return false;
         }
-        place += 344;
+        place += state::ENTRY;
         left -= 1;
     }
     true
@@ -132,53 +133,55 @@ pub fn queue_form(s: &[u8], at: usize, n: usize) -> bool
 
 // A live slot's tree, of the length it says, and zeros.
 pub fn tree_form(s: &[u8], at: usize) -> bool
-    requires { ⌜ at + 1040 ≤ 0x100000000 ⌝ }
+    requires { ⌜ at + queuePlace ≤ 0x100000000 ⌝ }
     ensures { λ r. ⌜ r ≡ treeForm (now (s .entry)) at ⌝ }
 {
-    let size = wire::index(wire::u16_at(s, at + 2));
-    if 1024 < size {
+    let size = wire::index(wire::u16_at(s, at + state::LENGTH));
+    if state::TREE_ROOM < size {
         return false;
     }
-    if !tree::is_session_tree(part(s, at + 16, size)) {
+    if !tree::is_session_tree(part(s, at + state::TREE, size)) {
         return false;
     }
-    all_zero(s, at + 16 + size, 1024 - size)
+    all_zero(s, at + state::TREE + size, state::TREE_ROOM - size)
 }
 
-// The first 16 bytes of a live slot, and its tree.
+// The head of a live slot.
 fn head_form(s: &[u8], at: usize) -> bool
-    requires { ⌜ at + 1040 ≤ 0x100000000 ⌝ }
+    requires { ⌜ at + headSize ≤ 0x100000000 ⌝ }
     ensures { λ r. ⌜ r ≡ headForm (now (s .entry)) at ⌝ }
 {
     let flags = layout::both(wire::byte_at(s, at) == 1, wire::byte_at(s, at + 1) == 0);
-    let kept = all_zero(s, at + 4, 12);
-    layout::both(flags, layout::both(kept, tree_form(s, at)))
+    layout::both(flags, all_zero(s, at + 4, 12))
 }
 
 // A live slot.
 pub fn live_form(s: &[u8], at: usize) -> bool
-    requires { ⌜ at + 4096 ≤ 0x100000000 ⌝ }
+    requires { ⌜ at + slotSize ≤ 0x100000000 ⌝ }
     ensures { λ r. ⌜ r ≡ liveForm (now (s .entry)) at ⌝ }
 {
     if !head_form(s, at) {
         return false;
     }
-    if !queue_form(s, at + 1040, 4) {
+    if !tree_form(s, at) {
         return false;
     }
-    if !rows_form(s, at + 2416, 256) {
+    if !queue_form(s, at + state::QUEUE, 4) {
         return false;
     }
-    all_zero(s, at + 3952, 144)
+    if !rows_form(s, at + state::ROWS, 256) {
+        return false;
+    }
+    all_zero(s, at + state::KEPT, state::KEPT_SIZE)
 }
 
 // The slot that starts at `at`: free, or live.
 pub fn slot_form(s: &[u8], at: usize) -> bool
-    requires { ⌜ at + 4096 ≤ 0x100000000 ⌝ }
+    requires { ⌜ at + slotSize ≤ 0x100000000 ⌝ }
     ensures { λ r. ⌜ r ≡ slotForm (now (s .entry)) at ⌝ }
 {
     if wire::byte_at(s, at) == 0 {
-        return all_zero(s, at, 4096);
+        return all_zero(s, at, state::SLOT);
     }
     live_form(s, at)
 }

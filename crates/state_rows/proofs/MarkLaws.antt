@@ -10,20 +10,24 @@ use lib.Seq.{getD-set-same, getD-set-other}
 use lib.Dec.{eqb}
 use borrow.Author.Tests.{eq-eqb, ne-eqb}
 use Rattle.forest.specs.Compare.{Compare, lt, eq, gt, compare}
-use Rattle.wire.specs.Wire.{u16At}
 use Rattle.network.specs.declared.BehaviourKind.{BehaviourKind}
 use Rattle.network.specs.Layout.{start, B, behaviourCount, behaviourAt}
 use Rattle.network.specs.Rows.{fieldA, fieldB, fieldC, fieldD, kindAt}
 use Rattle.network.specs.Decode.{branchesFrom, behaviourFrom, behaviourTo, behaviourOf}
 use Rattle.network.specs.TestLaws.{one-less, or-false, or-assoc}
-use Rattle.rows.specs.Readers.{behaviourRowAs, behaviourRowOf}
+use Rattle.rows.specs.declared.BranchRow.{BranchRow}
+use Rattle.rows.specs.Readers.{behaviourRowAs, behaviourRowOf, BranchAt}
 use Rattle.row_parts.specs.declared.Subs.{Subs}
 use Rattle.row_parts.specs.Parts.{subsIn, subsOf}
-use Rattle.syntax.specs.Rows.{hasRow}
+use Rattle.syntax.specs.Rows.{hasRow, hasRowIn}
 use Rattle.scalar.specs.Value.{pick}
 use Rattle.state_rows.specs.Marks.{markFor, Adds, itselfRow, rowsTo, branchRows, subRows, AddsBranches, RowsOf}
 
 -- ---- tests
+
+or-same : (a : Bool) → a ≡ a || (a || a)
+or-same true = refl
+or-same false = refl
 
 pick-or : (a b : Bool) (v : ℕ) → pick b 1 (pick a 1 v) ≡ pick (a || b) 1 v
 pick-or true true v = refl
@@ -130,11 +134,11 @@ pub ruleset row-laws = (no-rows, no-subs, one-sub, two-subs, run-subs)
 
 module _ (s l m : List ℕ) (r n d : ℕ) (y : Adds (itselfRow r) l m) where
   pub no-branches : n ≡ 0 → AddsBranches s r n d l m
-  unfolding branchRows branchesFrom hasRow itselfRow
-  no-branches e = record { adds = subst (λ (z : ℕ). Adds (branchRows s d r z) l m) (sym e) (adds-as (itselfRow r) (branchRows s d r 0) (λ i. refl) y) }
+  unfolding branchRows branchesFrom hasRowIn itselfRow
+  no-branches e = record { adds = subst (λ (z : ℕ). Adds (branchRows s d r z) l m) (sym e) (adds-as (itselfRow r) (branchRows s d r 0) (λ i. or-same (eqb i r)) y) }
 
-  module _ (h : n ≡ 0 → ⊥) (v : ℕ) (p : v ≡ start s B) (a b : ℕ) (o q : List ℕ) (e : a ≡ u16At s (v + 10 * r + 2)) (x : Adds (rowsTo s d a) m o)
-      (f : b ≡ u16At s (v + 10 * r + 4)) (z : Adds (rowsTo s d b) o q) where
+  module _ (h : n ≡ 0 → ⊥) (v : ℕ) (p : v ≡ start s B) (b : BranchRow) (o q : List ℕ) (e : BranchAt s (v + 10 * r) b)
+      (x : Adds (rowsTo s d (b .input)) m o) (z : Adds (rowsTo s d (b .follow)) o q) where
     abbrev both : ℕ → Bool
     both i = rowsTo s d (fieldA s (behaviourAt s r)) i || rowsTo s d (fieldB s (behaviourAt s r)) i
 
@@ -147,17 +151,17 @@ module _ (s l m : List ℕ) (r n d : ℕ) (y : Adds (itselfRow r) l m) where
 
     first-adds : Adds first l q
     first-adds =
-        let u = subst (λ (w : ℕ). Adds (rowsTo s d w) m o) (e ∙ ap (λ (w : ℕ). u16At s (w + 2)) place) x in
-        let w = subst (λ (w : ℕ). Adds (rowsTo s d w) o q) (f ∙ ap (λ (w : ℕ). u16At s (w + 4)) place) z in
+        let u = subst (λ (w : ℕ). Adds (rowsTo s d w) m o) (e .input ∙ ap (fieldA s) place) x in
+        let w = subst (λ (w : ℕ). Adds (rowsTo s d w) o q) (e .follow ∙ ap (fieldB s) place) z in
         adds-both (itselfRow r) both first y
         (adds-both (rowsTo s d (fieldA s (behaviourAt s r))) (rowsTo s d (fieldB s (behaviourAt s r))) both u w (λ i. refl)) (λ i. refl)
 
     pub last-branch : n ≡ 1 → AddsBranches s r n d l q
-    unfolding branchRows branchesFrom hasRow itselfRow rowsTo
+    unfolding branchRows branchesFrom hasRowIn itselfRow rowsTo
     last-branch g = record { adds = subst (λ (w : ℕ). Adds (branchRows s d r w) l q) (sym g) (adds-as first (branchRows s d r 1) (λ i. refl) first-adds) }
 
     two-more : (n : ℕ) (i : ℕ) → branchRows s d r (suc (suc n)) i ≡ first i || branchRows s d (suc r) (suc n) i
-    unfolding branchRows branchesFrom hasRow itselfRow rowsTo
+    unfolding branchRows branchesFrom hasRowIn itselfRow rowsTo
     two-more n i = sym (or-assoc (eqb i r) (both i) (branchRows s d (suc r) (suc n) i))
 
     more : (k : ℕ) → k ≡ n → (k ≡ 0 → ⊥) → (k ≡ 1 → ⊥) → (i : ℕ) → branchRows s d r k i ≡ first i || branchRows s d (suc r) (k - 1) i

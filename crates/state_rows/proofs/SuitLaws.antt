@@ -19,6 +19,7 @@ use Rattle.rows.specs.Readers.{behaviourRowOf}
 use Rattle.state.specs.Session.{nobody, undone, received}
 use Rattle.state.specs.Bytes.{readReply, readProgress}
 use Rattle.state.specs.Shape.{isDestination}
+use Rattle.state.specs.Places.{rowSize}
 use Rattle.state_rows.specs.declared.Allowed.{Allowed}
 use Rattle.state_rows.specs.Marks.{marked}
 use Rattle.state_rows.specs.Allowed.{allowedBy, allowedAt, nothing, permits, permitted}
@@ -113,14 +114,14 @@ module _ (file s : List ℕ) (a : Allowed) (at k : ℕ) (e : k ≡ byteAt s at) 
 pub ruleset permit-laws = (permits-done, permits-waits, permits-part, permits-outsider, permits-row, permits-other)
 
 module _ (file marks s : List ℕ) (at i v : ℕ) (e : v ≡ i) where
-  pub row-untouched : (b : ℕ) → b ≡ byteAt s (at + 6 * v) → b ≡ 0
-      → true ≡ permits (networkOf file) (behaviourCount file) (allowedAt file marks i) (readProgress s (at + 6 * i))
+  pub row-untouched : (b : ℕ) → b ≡ byteAt s (at + rowSize * v) → b ≡ 0
+      → true ≡ permits (networkOf file) (behaviourCount file) (allowedAt file marks i) (readProgress s (at + rowSize * i))
   unfolding permits readProgress
   row-untouched b f g = rw (sym e, sym f, g)
 
   pub row-permitted : (a : Allowed) (x : Bool) → a ≡ allowedAt file marks i
-      → x ≡ permits (networkOf file) (behaviourCount file) a (readProgress s (at + 6 * v))
-      → x ≡ permits (networkOf file) (behaviourCount file) (allowedAt file marks i) (readProgress s (at + 6 * i))
+      → x ≡ permits (networkOf file) (behaviourCount file) a (readProgress s (at + rowSize * v))
+      → x ≡ permits (networkOf file) (behaviourCount file) (allowedAt file marks i) (readProgress s (at + rowSize * i))
   row-permitted a x f g = g ∙ rw (f, e)
 
 pub ruleset row-laws = (row-untouched, row-permitted)
@@ -137,7 +138,7 @@ upward-none file marks s at = record { few = omega arith; same = refl }
 
 module _ (file marks s : List ℕ) (at i : ℕ) (c : Upward file marks s at i) where
   abbrev one : ℕ → Bool
-  one j = permits (networkOf file) (behaviourCount file) (allowedAt file marks j) (readProgress s (at + 6 * j))
+  one j = permits (networkOf file) (behaviourCount file) (allowedAt file marks j) (readProgress s (at + rowSize * j))
 
   row-more : 0 < i → permitted file marks s at 256 ≡ (one (i - 1) && permitted file marks s at (i - 1))
   unfolding permitted

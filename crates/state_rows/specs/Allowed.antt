@@ -12,6 +12,7 @@ use Rattle.rows.specs.Readers.{behaviourRowOf}
 use Rattle.state.specs.Session.{Progress, undone, done, waits, received, taken}
 use Rattle.state.specs.Bytes.{readProgress}
 use Rattle.state.specs.Shape.{isDestination}
+use Rattle.state.specs.Places.{rowSize}
 use Rattle.state_rows.specs.declared.Allowed.{Allowed}
 use Rattle.state_rows.specs.Marks.{marked}
 
@@ -55,4 +56,4 @@ permits N rows a (taken k) = ltb k (a .parts)
 unfoldable pub permitted : List ℕ → List ℕ → List ℕ → ℕ → ℕ → Bool
 permitted file marks s at zero = true
 permitted file marks s at (suc n) =
-    permits (networkOf file) (behaviourCount file) (allowedAt file marks n) (readProgress s (at + 6 * n)) && permitted file marks s at n
+    permits (networkOf file) (behaviourCount file) (allowedAt file marks n) (readProgress s (at + rowSize * n)) && permitted file marks s at n

@@ -1,3 +1,5 @@
 pub mod Marks
 pub mod Allowed
+pub mod Parts
+pub mod PartLaws
 pub mod ProgressLaws

@@ -9,7 +9,7 @@ use lib.Dec.{eqb}
 use Rattle.network.specs.Decode.{branchesFrom, behaviourTo, behaviourOf}
 use Rattle.row_parts.specs.declared.Subs.{Subs}
 use Rattle.scalar.specs.Value.{pick}
-use Rattle.syntax.specs.Rows.{hasRow}
+use Rattle.syntax.specs.Rows.{hasRow, hasRowIn}
 
 -- Is the row i marked?
 unfoldable pub marked : List ℕ → ℕ → Bool
@@ -32,7 +32,7 @@ unfoldable pub rowsTo : List ℕ → ℕ → ℕ → ℕ → Bool
 rowsTo s d r i = hasRow i (behaviourTo s d r)
 
 unfoldable pub branchRows : List ℕ → ℕ → ℕ → ℕ → ℕ → Bool
-branchRows s d r n i = hasRow i (branchesFrom s (behaviourTo s d) r n)
+branchRows s d r n i = hasRowIn i (branchesFrom s (behaviourTo s d) r n)
 
 -- Those of a row's sub-behaviours.
 unfoldable pub subRows : List ℕ → ℕ → Subs → ℕ → Bool

@@ -4,6 +4,7 @@ ghost use mathlib.Core.Path.{_≡_};
 ghost use Prim.Native.Nat.{_+_, _*_, _≤_, _<_};
 ghost use Rattle.network.specs.Layout.{behaviourCount};
 ghost use Rattle.network.specs.Decode.{networkOf};
+ghost use Rattle.state.specs.Places.{rowSize, rowsSize};
 ghost use Rattle.state.specs.Bytes.{readReply, readProgress};
 ghost use Rattle.state.specs.Shape.{isDestination};
 ghost use Rattle.state_rows.specs.Marks.{Adds, itselfRow, rowsTo, AddsBranches, RowsOf};
@@ -58,16 +59,16 @@ fn mark_row(s: &[u8], marks: &mut [u8; 256], r: u16, left: u16)
 
 // Marks the rows of the n branches from row r on.
 fn mark_branches(s: &[u8], marks: &mut [u8; 256], r: usize, n: u16, left: u16)
-    requires { ⌜ r + n < 200000 ⌝ }
+    requires { ⌜ r + n < 150000 ⌝ }
     ensures { λ _. ⌜ AddsBranches (now (s .entry)) r n left (now (marks .entry)) (now (marks .exit)) ⌝ }
 {
     mark(marks, r);
     if n == 0 {
         return;
     }
-    let at = layout::start(s, 3) + 10 * r;
-    mark_row(s, marks, wire::u16_at(s, at + 2), left);
-    mark_row(s, marks, wire::u16_at(s, at + 4), left);
+    let b = rows::branch_at(s, layout::start(s, 3) + 10 * r);
+    mark_row(s, marks, b.input, left);
+    mark_row(s, marks, b.follow, left);
     if n == 1 {
         return;
     }
@@ -147,7 +148,7 @@ pub fn is_destination(file: &[u8], s: &[u8], kind: u8, at: usize) -> bool
 
 // Is the progress that stands at `at` one of those?
 fn permits(file: &[u8], s: &[u8], a: Allowed, at: usize) -> bool
-    requires { ⌜ at + 6 ≤ 0x100000000 ⌝ }
+    requires { ⌜ at + rowSize ≤ 0x100000000 ⌝ }
     ensures { λ x. ⌜ x ≡ permits (networkOf (now (file .entry))) (behaviourCount (now (file .entry))) a (readProgress (now (s .entry)) at) ⌝ }
 {
     let code = wire::byte_at(s, at);
@@ -171,11 +172,11 @@ fn permits(file: &[u8], s: &[u8], a: Allowed, at: usize) -> bool
 
 // Does the progress of row i suit a session that runs the marked rows?
 fn row_suits(file: &[u8], s: &[u8], marks: &[u8; 256], at: usize, i: u16) -> bool
-    requires { ⌜ (i < 256) × (at + 1536 ≤ 0x100000000) ⌝ }
+    requires { ⌜ (i < 256) × (at + rowsSize ≤ 0x100000000) ⌝ }
     ensures { λ x. ⌜ x ≡ permits (networkOf (now (file .entry))) (behaviourCount (now (file .entry)))
-        (allowedAt (now (file .entry)) (now (marks .entry)) i) (readProgress (now (s .entry)) (at + 6 * i)) ⌝ }
+        (allowedAt (now (file .entry)) (now (marks .entry)) i) (readProgress (now (s .entry)) (at + rowSize * i)) ⌝ }
 {
-    let place = at + 6 * wire::index(i);
+    let place = at + state::ROW * wire::index(i);
     if wire::byte_at(s, place) == 0 {
         return true;
     }
@@ -184,7 +185,7 @@ fn row_suits(file: &[u8], s: &[u8], marks: &[u8; 256], at: usize, i: u16) -> boo
 
 // Does the progress of each row suit a session that runs the marked rows? The rows' progress starts at `at`.
 pub fn rows_suit(file: &[u8], s: &[u8], marks: &[u8; 256], at: usize) -> bool
-    requires { ⌜ at + 1536 ≤ 0x100000000 ⌝ }
+    requires { ⌜ at + rowsSize ≤ 0x100000000 ⌝ }
     ensures { λ x. ⌜ x ≡ permitted (now (file .entry)) (now (marks .entry)) (now (s .entry)) at 256 ⌝ }
 {
     let mut i: u16 = 256;

@@ -13,6 +13,7 @@ use Rattle.wire.specs.Wire.{byteAt, u16At}
 use Rattle.network.specs.Layout.{behaviourCount, operationCount}
 use Rattle.network.specs.Rows.{operationService, operationDirection, operationTwoWay}
 use Rattle.network.specs.Decode.{operationOf, rowsFrom, networkOf}
+use Rattle.state.specs.Places.{entrySize}
 use Rattle.state.specs.Session.{ReplyTo, nobody, waitingRow}
 use Rattle.state.specs.Bytes.{readReply, readEntry, readQueue}
 use Rattle.state.specs.Shape.{operationAt, isDestination, isNobody, suitsQueue}
@@ -91,7 +92,7 @@ pub ruleset entry-laws = (entry-none, entry-elsewhere, entry-output, entry-two-w
 
 -- The entries before `place` are used and suit the service, and m are left.
 pub record QueueLeft (file s : List ℕ) (q at n place m : ℕ) : Type 0 where
-  pub bound : place + 344 * m ≡ at + 344 * n
+  pub bound : place + entrySize * m ≡ at + entrySize * n
   pub same : suitsQueue (networkOf file) (behaviourCount file) q (readQueue s n at) ≡ suitsQueue (networkOf file) (behaviourCount file) q (readQueue s m place)
 
 pub queue-all : (file s : List ℕ) (q at n : ℕ) → QueueLeft file s q at n at n
@@ -101,12 +102,12 @@ module _ (file s : List ℕ) (q at n place m : ℕ) (c : QueueLeft file s q at n
   abbrev suited : ℕ → ℕ → Bool
   suited n at = suitsQueue (networkOf file) (behaviourCount file) q (readQueue s n at)
 
-  queue-more : 0 < m → suited n at ≡ pick (eqb (byteAt s place) 0) true (suitsEntry file s q (byteAt s place - 1) place && suited (m - 1) (place + 344))
+  queue-more : 0 < m → suited n at ≡ pick (eqb (byteAt s place) 0) true (suitsEntry file s q (byteAt s place - 1) place && suited (m - 1) (place + entrySize))
   unfolding readQueue readEntry suitsQueue suitsEntry
   queue-more h = let d : m ≡ suc (m - 1) = omega arith in c .same ∙ (ap (λ (k : ℕ). suited k place) d ∙ by (eqb (byteAt s place) 0))
     where
-      by : (t : Bool) → suitsQueue (networkOf file) (behaviourCount file) q (pick t [] (readEntry s place ∷ readQueue s (m - 1) (place + 344)))
-          ≡ pick t true (suitsEntry file s q (byteAt s place - 1) place && suited (m - 1) (place + 344))
+      by : (t : Bool) → suitsQueue (networkOf file) (behaviourCount file) q (pick t [] (readEntry s place ∷ readQueue s (m - 1) (place + entrySize)))
+          ≡ pick t true (suitsEntry file s q (byteAt s place - 1) place && suited (m - 1) (place + entrySize))
       by true = refl
       by false = refl
 
@@ -115,10 +116,10 @@ module _ (file s : List ℕ) (q at n place m : ℕ) (c : QueueLeft file s q at n
     queue-unused f = sym (queue-more h ∙ rw (sym e ∙ f))
 
     module _ (f : b ≡ 0 → ⊥) (v : ℕ) (x : Bool) (g : v ≡ b) (i : x ≡ suitsEntry file s q (v - 1) place) where
-      queue-entry : suited n at ≡ (x && suited (m - 1) (place + 344))
+      queue-entry : suited n at ≡ (x && suited (m - 1) (place + entrySize))
       queue-entry = queue-more h ∙ rw (sym e, ne-eqb b 0 f, sym g, sym i)
 
-      pub queue-next : not x ≡ false → QueueLeft file s q at n (place + 344) (m - 1)
+      pub queue-next : not x ≡ false → QueueLeft file s q at n (place + entrySize) (m - 1)
       queue-next j = record { bound = omega (arith, c .bound); same = queue-entry ∙ rw (not-false x j) }
 
       pub queue-not : not x ≡ true → false ≡ suitsQueue (networkOf file) (behaviourCount file) q (readQueue s n at)

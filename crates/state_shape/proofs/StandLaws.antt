@@ -19,6 +19,7 @@ use Rattle.network.specs.Rows.{kindAt, isBranch, isChoice, starterRow, clientRo
 use Rattle.network.specs.Form.{WellFormed}
 use Rattle.network.specs.Decode.{serviceOf, rowsFrom, networkOf, behaviourOf, optionalBehaviour}
 use Rattle.network.specs.RowLaws.{service-kept}
+use Rattle.state.specs.Places.{slotSize, queuePlace, rowsPlace}
 use Rattle.state.specs.Bytes.{readQueue, readSession, readSlot, readState}
 use Rattle.state.specs.Shape.{serviceAt, behaviourIn, suits, quietElsewhere, suitsQueue, suitsBehaviour, decodeState}
 use Rattle.state.specs.Form.{slotForm, slotsStand}
@@ -98,7 +99,7 @@ module _ (file s : List ℕ) (q n at v r : ℕ) (t : TopRow file v n r) (e : v �
   pub session-none : r ≡ 65535 → SessionTells file s q n at false
   session-none f = record { tells = λ w. rw (runs, f) }
 
-  module _ (f : r ≡ 65535 → ⊥) (y : Bool) (g : y ≡ suitsQueue (networkOf file) (behaviourCount file) q (readQueue s 4 (at + 1040))) where
+  module _ (f : r ≡ 65535 → ⊥) (y : Bool) (g : y ≡ suitsQueue (networkOf file) (behaviourCount file) q (readQueue s 4 (at + queuePlace))) where
     session-is : suitsBehaviour (networkOf file) (behaviourCount file) q (readSession s at) (behaviourIn (networkOf file) q n)
         ≡ (y && (suits (networkOf file) (behaviourCount file) (readSession s at .progress) (behaviourOf file r)
         && quietElsewhere 256 (readSession s at .progress) (behaviourOf file r)))
@@ -108,12 +109,12 @@ module _ (file s : List ℕ) (q n at v r : ℕ) (t : TopRow file v n r) (e : v �
     pub session-queue : not y ≡ true → SessionTells file s q n at false
     session-queue h = record { tells = λ w. sym (session-is ∙ rw (not-true y h)) }
 
-    pub session-rows : (marks : List ℕ) (x : Bool) → not y ≡ false → RowsOf file r marks → x ≡ permitted file marks s (at + 2416) 256
+    pub session-rows : (marks : List ℕ) (x : Bool) → not y ≡ false → RowsOf file r marks → x ≡ permitted file marks s (at + rowsPlace) 256
         → SessionTells file s q n at x
     unfolding readSession
     session-rows marks x h m i = record {
       tells = λ w. i
-          ∙ (permitted-suits file marks s (at + 2416) w r (t .exists w f) m (readSession s at .progress) (λ j k. rw (lt-ltb j 256 k))
+          ∙ (permitted-suits file marks s (at + rowsPlace) w r (t .exists w f) m (readSession s at .progress) (λ j k. rw (lt-ltb j 256 k))
           ∙ sym (session-is ∙ rw (not-false y h)));
     }
 
@@ -121,16 +122,16 @@ pub ruleset session-laws = (session-none, session-queue, session-rows)
 
 -- ---- a slot
 
-module _ (file s : List ℕ) (k v : ℕ) (e : v ≡ k) (f : Bool) (g : f ≡ slotForm s (4096 * v)) where
+module _ (file s : List ℕ) (k v : ℕ) (e : v ≡ k) (f : Bool) (g : f ≡ slotForm s (slotSize * v)) where
   pub slot-formless : not f ≡ true → SlotTells file s k false
   slot-formless h = record { tells = λ w. rw (sym e, sym g ∙ not-true f h) }
 
-  module _ (h : not f ≡ false) (b : ℕ) (i : b ≡ byteAt s (4096 * v)) where
+  module _ (h : not f ≡ false) (b : ℕ) (i : b ≡ byteAt s (slotSize * v)) where
     pub slot-is-free : b ≡ 0 → SlotTells file s k true
     unfolding readSlot
     slot-is-free j = record { tells = λ w. rw (sym e, sym g ∙ not-false f h, sym i ∙ j) }
 
-    pub slot-is-live : (x : Bool) → (b ≡ 0 → ⊥) → SessionTells file s (k / 4) (k % 4) (4096 * v) x → SlotTells file s k x
+    pub slot-is-live : (x : Bool) → (b ≡ 0 → ⊥) → SessionTells file s (k / 4) (k % 4) (slotSize * v) x → SlotTells file s k x
     unfolding readSlot
     slot-is-live x j t = record {
       tells = λ w. t .tells w ∙ rw (sym e, sym g ∙ not-false f h, sym i, ne-eqb b 0 j);

@@ -10,6 +10,7 @@ use Rattle.network.specs.Layout.{behaviourCount}
 use Rattle.network.specs.Rows.{noRow}
 use Rattle.network.specs.Form.{WellFormed}
 use Rattle.network.specs.Decode.{networkOf, optionalBehaviour}
+use Rattle.state.specs.Places.{slotSize}
 use Rattle.state.specs.Bytes.{readReply, readSession, readSlot, readState}
 use Rattle.state.specs.Shape.{operationAt, suitsOperation, behaviourIn, suitsBehaviour, suitsSlot, decodeState}
 use Rattle.state.specs.Form.{slotForm}
@@ -41,7 +42,7 @@ pub record SessionTells (file s : List ℕ) (q n at : ℕ) (x : Bool) : Type 0 w
 -- x tells whether slot k has the form of a slot, and what is read from it suits the file.
 pub record SlotTells (file s : List ℕ) (k : ℕ) (x : Bool) : Type 0 where
   pub tells : WellFormed file → x
-      ≡ (slotForm s (4096 * k) && suitsSlot (networkOf file) (behaviourCount file) (k / 4) (k % 4) (readSlot s (4096 * k)))
+      ≡ (slotForm s (slotSize * k) && suitsSlot (networkOf file) (behaviourCount file) (k / 4) (k % 4) (readSlot s (slotSize * k)))
 
 -- x tells whether the bytes stand for a state of this file's shape; if so, it is the state that is read from them.
 pub record Tells (file s : List ℕ) (x : Bool) : Type 0 where

@@ -3,6 +3,7 @@ ghost use mathlib.Core.Path.{_≡_};
 ghost use Prim.Native.Nat.{_+_, _*_, _≤_, _<_};
 ghost use Rattle.network.specs.Layout.{behaviourCount};
 ghost use Rattle.network.specs.Decode.{networkOf};
+ghost use Rattle.state.specs.Places.{slotSize, entrySize};
 ghost use Rattle.state.specs.Bytes.{readReply, readQueue};
 ghost use Rattle.state.specs.Shape.{suitsQueue, isNobody};
 ghost use Rattle.state_shape.specs.Stands.{suitsEntry, TopRow, SessionTells, SlotTells, Tells};
@@ -41,7 +42,7 @@ fn entry_suits(file: &[u8], s: &[u8], q: u8, row: u16, at: usize) -> bool
 
 // Do the queued messages, of up to n entries from `at` on, suit the service q?
 fn queue_suits(file: &[u8], s: &[u8], q: u8, at: usize, n: usize) -> bool
-    requires { ⌜ at + 344 * n ≤ 0x100000000 ⌝ }
+    requires { ⌜ at + entrySize * n ≤ 0x100000000 ⌝ }
     ensures { λ x. ⌜ x ≡ suitsQueue (networkOf (now (file .entry))) (behaviourCount (now (file .entry))) q (readQueue (now (s .entry)) n at) ⌝ }
 {
     let mut place = at;
@@ -54,7 +55,7 @@ fn queue_suits(file: &[u8], s: &[u8], q: u8, at: usize, n: usize) -> bool
         if !entry_suits(file, s, q, wire::byte_to_u16(code) - 1, place) {
             return false;
         }
-        place += 344;
+        place += state::ENTRY;
         left -= 1;
     }
     true
@@ -76,18 +77,18 @@ fn top_row(file: &[u8], q: u16, n: u8) -> u16
 
 // Does the live session n of the service q, whose slot starts at `at`, suit what it runs?
 fn session_suits(file: &[u8], s: &[u8], q: u8, n: u8, at: usize) -> bool
-    requires { ⌜ (n ≤ 3) × (at + 4096 ≤ 0x100000000) ⌝ }
+    requires { ⌜ (n ≤ 3) × (at + slotSize ≤ 0x100000000) ⌝ }
     ensures { λ x. ⌜ SessionTells (now (file .entry)) (now (s .entry)) q n at x ⌝ }
 {
     let r = top_row(file, wire::byte_to_u16(q), n);
     if r == 65535 {
         return false;
     }
-    if !queue_suits(file, s, q, at + 1040, 4) {
+    if !queue_suits(file, s, q, at + state::QUEUE, 4) {
         return false;
     }
     let marks = state_rows::rows_of(file, r);
-    state_rows::rows_suit(file, s, &marks, at + 2416)
+    state_rows::rows_suit(file, s, &marks, at + state::ROWS)
 }
 
 // Is the slot k in the form of a slot, and free or live with what suits the file?
@@ -95,7 +96,7 @@ fn slot_stands(file: &[u8], s: &[u8], k: u8) -> bool
     requires { ⌜ k < 16 ⌝ }
     ensures { λ x. ⌜ SlotTells (now (file .entry)) (now (s .entry)) k x ⌝ }
 {
-    let at = 4096 * wire::wide(k);
+    let at = state::SLOT * wire::wide(k);
     if !state_form::slot_form(s, at) {
         return false;
     }

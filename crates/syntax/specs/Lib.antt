@@ -1,2 +1,4 @@
 pub mod Syntax
 pub mod Rows
+pub mod Meets
+pub mod ViewLaws

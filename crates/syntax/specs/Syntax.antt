@@ -57,25 +57,28 @@ pub record Operation : Type 0 where
   pub request : MessageType
   pub reply : MessageType
 
--- 01, B. The first field of each is its row's number. A choice holds its branches one after another; a branch is an input
--- and what follows it "as in a sequence". The last two stand only in a rest, 01's word for what remains of a behaviour:
--- `waiting` is a solicit-response that was sent, `answering` a request-response that was received.
-pub data Behaviour : Type 0 where
-  nil : ℕ → Behaviour
-  oneWay : ℕ → Operation → Path → Behaviour
-  requestResponse : ℕ → Operation → Path → Path → Behaviour → Behaviour
-  notification : ℕ → Operation → Expression → Behaviour
-  solicitResponse : ℕ → Operation → Expression → Path → Behaviour
-  ifThenElse : ℕ → Expression → Behaviour → Behaviour → Behaviour
-  whileDo : ℕ → Expression → Behaviour → Behaviour
-  sequence : ℕ → Behaviour → Behaviour → Behaviour
-  parallel : ℕ → Behaviour → Behaviour → Behaviour
-  assign : ℕ → Path → Expression → Behaviour
-  choice : ℕ → Behaviour → Behaviour
-  branch : ℕ → Behaviour → Behaviour → Behaviour → Behaviour
-  lastBranch : ℕ → Behaviour → Behaviour → Behaviour
-  waiting : ℕ → Operation → Path → Behaviour
-  answering : ℕ → Operation → Path → Behaviour → Behaviour
+mutual
+  -- 01, B. The first field of each is its row's number. The last two stand only in a rest, 01's word for what remains of a behaviour:
+  -- `waiting` is a solicit-response that was sent, `answering` a request-response that was received.
+  pub data Behaviour : Type 0 where
+    nil : ℕ → Behaviour
+    oneWay : ℕ → Operation → Path → Behaviour
+    requestResponse : ℕ → Operation → Path → Path → Behaviour → Behaviour
+    notification : ℕ → Operation → Expression → Behaviour
+    solicitResponse : ℕ → Operation → Expression → Path → Behaviour
+    ifThenElse : ℕ → Expression → Behaviour → Behaviour → Behaviour
+    whileDo : ℕ → Expression → Behaviour → Behaviour
+    sequence : ℕ → Behaviour → Behaviour → Behaviour
+    parallel : ℕ → Behaviour → Behaviour → Behaviour
+    assign : ℕ → Path → Expression → Behaviour
+    choice : ℕ → Branches → Behaviour
+    waiting : ℕ → Operation → Path → Behaviour
+    answering : ℕ → Operation → Path → Behaviour → Behaviour
+
+  -- The branches of a choice, at least one: a branch's row, its input, what follows it "as in a sequence", and the branches after it.
+  pub data Branches : Type 0 where
+    lastBranch : ℕ → Behaviour → Behaviour → Branches
+    branch : ℕ → Behaviour → Behaviour → Branches → Branches
 
 pub data Optional (A : Type 0) : Type 0 where
   none : Optional A

@@ -1,2 +1,2 @@
-pub mod MeetingLaws
+pub mod NamedLaws
 pub mod TargetLaws

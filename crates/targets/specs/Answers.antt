@@ -2,16 +2,18 @@
 -- is for files that none of 2 to 5 refuses; on others the function ends and says nothing.
 use mathlib.Core.Path.{_≡_}
 use mathlib.Core.List.{List}
-use mathlib.Core.Bool.{Bool}
+use mathlib.Core.Bool.{Bool, false}
 use Prim.Native.Nat.{ℕ, _+_, _<_, _≤_}
 use lib.Dec.{eqb, ltb}
 use lib.ListN.{length}
 use Rattle.scalar.specs.Value.{pick}
 use Rattle.syntax.specs.Syntax.{Optional, none, some, Behaviour}
+use Rattle.syntax.specs.Rows.{Input, inputOf, choiceOf}
 use Rattle.network.specs.Form.{WellFormed}
 use Rattle.network.specs.Layout.{behaviourCount, behaviourAt}
 use Rattle.network.specs.Rows.{fieldA, noRow}
 use Rattle.network.specs.Decode.{branchesFrom, behaviourOf, operationOf, networkOf}
+use Rattle.state.specs.Places.{queuePlace}
 use Rattle.state.specs.Bytes.{readQueue, readState}
 use Rattle.state.specs.Shape.{behaviourIn}
 use Rattle.moves.specs.Targets as definition
@@ -38,21 +40,35 @@ pub record RunsIn (file : List ℕ) (q n : ℕ) (x : Runs) : Type 0 where
   pub tells : behaviourRun file x ≡ behaviourIn (networkOf file) q n
   pub exists : WellFormed file → RowExists file x
 
+-- Started by the branch k of the choice c, with that input.
+abbrev pub startWith : ℕ → ℕ → Optional Input → definition.Target
+startWith c k none = definition.noTarget
+startWith c k (some i) = definition.starts c k i
+
 -- How a session starts, by the choice, its branch and the input's B row.
 unfoldable pub startOf : List ℕ → Start → definition.Target
-startOf file (Start.Branch c k a) = definition.starts c k (behaviourOf file a)
+startOf file (Start.Branch c k a) = startWith c k (inputOf (behaviourOf file a))
 startOf file Start.Nothing = definition.noTarget
 
 abbrev pub RowsExist : List ℕ → Start → Type 0
 RowsExist file (Start.Branch c k a) = (c < behaviourCount file) × (a < behaviourCount file)
 RowsExist file Start.Nothing = Unit {0}
 
--- B row a is an input that names O row w; 6 ("another service, direction or kind") passes it in service q.
+-- An input that names O row w; one that 6 ("another service, direction or kind") passes in service q.
+abbrev pub namesInput : ℕ → Optional Input → Bool
+namesInput w none = false
+namesInput w (some i) = eqb (i .operation .row) w
+
+abbrev pub passesInput : ℕ → Optional Input → Bool
+passesInput q none = false
+passesInput q (some i) = permitsInput q i
+
+-- B row a is such an input.
 pub record NamesInput (file : List ℕ) (w a : ℕ) (x : Bool) : Type 0 where
-  pub tells : a < behaviourCount file → x ≡ definition.isInputOf w (behaviourOf file a)
+  pub tells : a < behaviourCount file → x ≡ namesInput w (inputOf (behaviourOf file a))
 
 pub record PermitsInput (file : List ℕ) (q a : ℕ) (x : Bool) : Type 0 where
-  pub tells : a < behaviourCount file → x ≡ permitsInput q (behaviourOf file a)
+  pub tells : a < behaviourCount file → x ≡ passesInput q (inputOf (behaviourOf file a))
 
 -- The inputs of the n branches from row j on, which stands at `at`, are rows of the file.
 pub record Run (file : List ℕ) (at n j : ℕ) : Type 0 where
@@ -66,7 +82,7 @@ pub record StartsAmong (file : List ℕ) (w c at k n : ℕ) (x : Start) : Type 0
 
 -- The "first starter branch of that operation", of the starter of B row r.
 pub record StartsFrom (file : List ℕ) (w r : ℕ) (x : Start) : Type 0 where
-  pub tells : WellFormed file → r < behaviourCount file → startOf file x ≡ definition.startFrom w 0 0 (behaviourOf file r)
+  pub tells : WellFormed file → r < behaviourCount file → startOf file x ≡ definition.startOf w (choiceOf (behaviourOf file r))
   pub exists : WellFormed file → r < behaviourCount file → RowsExist file x
 
 -- How a message gets to a session: "queued at a live one, or starting a free 1 to 3".
@@ -74,7 +90,7 @@ unfoldable pub targetAs : List ℕ → Target → definition.Target
 targetAs file Target.NoTarget = definition.noTarget
 targetAs file Target.QueueFull = definition.queueFull
 targetAs file Target.Queued = definition.queued
-targetAs file (Target.Starts c k a) = definition.starts c k (behaviourOf file a)
+targetAs file (Target.Starts c k a) = startWith c k (inputOf (behaviourOf file a))
 
 abbrev pub StarterExists : List ℕ → Target → Type 0
 StarterExists file Target.NoTarget = Unit {0}
@@ -84,11 +100,11 @@ StarterExists file (Target.Starts c k a) = (c < behaviourCount file) × (a < beh
 
 -- To a live session, whose slot starts at `at`: "a queue of up to four messages".
 abbrev pub liveTarget : List ℕ → ℕ → Target
-liveTarget state at = pick (ltb (length (readQueue state 4 (at + 1040))) 4) Target.Queued Target.QueueFull
+liveTarget state at = pick (ltb (length (readQueue state 4 (at + queuePlace))) 4) Target.Queued Target.QueueFull
 
 -- To a free session n, of which 0 is not started, that would run B row r.
 pub record FreeTarget (file : List ℕ) (w n r : ℕ) (x : Target) : Type 0 where
-  pub tells : WellFormed file → r < behaviourCount file → targetAs file x ≡ pick (eqb n 0) definition.noTarget (definition.startFrom w 0 0 (behaviourOf file r))
+  pub tells : WellFormed file → r < behaviourCount file → targetAs file x ≡ pick (eqb n 0) definition.noTarget (definition.startOf w (choiceOf (behaviourOf file r)))
   pub exists : WellFormed file → r < behaviourCount file → StarterExists file x
 
 -- To session n of service q, which runs B row r.

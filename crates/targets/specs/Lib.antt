@@ -1,4 +1,3 @@
-pub mod Meeting
-pub mod MeetingLaws
+pub mod NamedLaws
 pub mod Answers
 pub mod SessionLaws

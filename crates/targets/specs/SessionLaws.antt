@@ -12,6 +12,7 @@ use Rattle.syntax.specs.Syntax.{Behaviour, Optional, none, some, Service}
 use Rattle.network.specs.Layout.{serviceCount}
 use Rattle.network.specs.Decode.{serviceOf, rowsFrom, networkOf}
 use Rattle.network.specs.TestLaws.{lt-of, le-of, eq-of, lt-not}
+use Rattle.state.specs.Places.{slotStart}
 use Rattle.state.specs.Bytes.{readSlot, readState}
 use Rattle.state.specs.Shape.{serviceAt, clientOf, starterOf, behaviourIn}
 
@@ -67,6 +68,6 @@ runs-where file q n B e = (service (ltb q (serviceCount file)) refl, session (eq
     session false false f g h = absurd (nothing h)
 
 -- The slot of service q and session n.
-pub slot-read : (s : List ℕ) (q n : ℕ) → q < 4 → n < 4 → readState s q n ≡ readSlot s (4096 * (4 * q + n))
+pub slot-read : (s : List ℕ) (q n : ℕ) → q < 4 → n < 4 → readState s q n ≡ readSlot s (slotStart q n)
 unfolding readState
 slot-read s q n a b = rw (lt-ltb q 4 a, lt-ltb n 4 b) refl

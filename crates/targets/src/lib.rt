@@ -1,24 +1,18 @@
-// Whom a message meets. 01, Typing: "An output to a location in the file meets an input there of the same id and kind". 01, Moves: "send,
-// with a target session: to the input it meets, queued at a live one, or starting a free 1 to 3, whose first starter branch of that
-// operation receives it."
+// Whom a message meets. 01, Moves: "send, with a target session: to the input it meets, queued at a live one, or starting a free 1 to 3, whose
+// first starter branch of that operation receives it."
 ghost use mathlib.Core.Path.{_≡_};
 ghost use Prim.Native.Nat.{_+_, _*_, _≤_, _<_};
 ghost use lib.ListN.{length};
-ghost use Rattle.network.specs.Decode.{operationOf, serviceOf, rowsFrom, networkOf};
-ghost use Rattle.network.specs.Meets.{locationOf, someAt, inFile, sameKind, meets, firstOf, metInput};
-ghost use Rattle.syntax.specs.Rows.{entry};
+ghost use Rattle.network.specs.Decode.{operationOf, rowsFrom, networkOf};
+ghost use Rattle.syntax.specs.Meets.{firstOf};
+ghost use Rattle.state.specs.Places.{entrySize};
 ghost use Rattle.state.specs.Bytes.{readQueue};
 ghost use Rattle.moves.specs.Moves.{isInputNamed, inputNamed};
-ghost use Rattle.targets.specs.Meeting.{operationMet};
+ghost use Rattle.operations.specs.Meeting.{operationMet};
 ghost use Rattle.targets.specs.Answers.{runsRow, RunsIn, NamesInput, StartsAmong, StartsFrom, PermitsInput, FreeTarget, liveTarget, SlotTarget, Targets};
 use layout::both;
-use rows::BehaviourRow;
-
-// The O row of the input met, or none.
-pub enum Met {
-    Input(u16),
-    Nothing,
-}
+use operations::Met;
+use rows::InputRow;
 
 // The B row that a session runs, or none.
 pub enum Runs {
@@ -38,85 +32,6 @@ pub enum Target {
     QueueFull,
     Queued,
     Starts(u16, u8, u16),
-}
-
-// Is one of the n services from row q on at the location?
-fn located_from(file: &[u8], location: u16, q: u16, n: u16) -> bool
-    requires { ⌜ q + n ≤ 65535 ⌝ }
-    ensures { λ x. ⌜ x ≡ someAt (rowsFrom (serviceOf (now (file .entry))) q n) location ⌝ }
-{
-    if n == 0 {
-        return false;
-    }
-    if rows::service_location(file, q) == location {
-        return true;
-    }
-    located_from(file, location, q + 1, n - 1)
-}
-
-// Is it "a location in the file"?
-pub fn in_file(file: &[u8], location: u16) -> bool
-    ensures { λ x. ⌜ x ≡ inFile (networkOf (now (file .entry))) location ⌝ }
-{
-    located_from(file, location, 0, layout::service_count(file))
-}
-
-// The location of service q; 0 where there is none.
-fn location_of(file: &[u8], q: u16) -> u16
-    ensures { λ x. ⌜ x ≡ locationOf (entry q (networkOf (now (file .entry)) .services)) ⌝ }
-{
-    if layout::service_count(file) <= q {
-        return 0;
-    }
-    rows::service_location(file, q)
-}
-
-fn same_kind(a: bool, b: bool) -> bool
-    ensures { λ x. ⌜ x ≡ sameKind a b ⌝ }
-{
-    if a {
-        return b;
-    }
-    !b
-}
-
-// Is O row i "an input there of the same id and kind" for the output of O row o?
-fn meets(file: &[u8], o: u16, i: u16) -> bool
-    ensures { λ x. ⌜ x ≡ meets (networkOf (now (file .entry))) (operationOf (now (file .entry)) o) (operationOf (now (file .entry)) i) ⌝ }
-{
-    let place = location_of(file, wire::byte_to_u16(rows::operation_service(file, i)));
-    let input = both(
-        rows::operation_direction(file, i) == 0,
-        place == rows::operation_location(file, o),
-    );
-    let name = rows::operation_id(file, i) == rows::operation_id(file, o);
-    let kind = same_kind(
-        rows::operation_two_way(file, i) == 1,
-        rows::operation_two_way(file, o) == 1,
-    );
-    both(input, both(name, kind))
-}
-
-// The first of the n operations from row i on that the output of O row o meets.
-fn met_from(file: &[u8], o: u16, i: u16, n: u16) -> Met
-    requires { ⌜ i + n ≤ 65535 ⌝ }
-    ensures { λ x. ⌜ operationMet (now (file .entry)) x ≡
-        firstOf (meets (networkOf (now (file .entry))) (operationOf (now (file .entry)) o)) (rowsFrom (operationOf (now (file .entry))) i n) ⌝ }
-{
-    if n == 0 {
-        return Met::Nothing;
-    }
-    if meets(file, o, i) {
-        return Met::Input(i);
-    }
-    met_from(file, o, i + 1, n - 1)
-}
-
-// The input that the output of O row o meets.
-pub fn met_input(file: &[u8], o: u16) -> Met
-    ensures { λ x. ⌜ operationMet (now (file .entry)) x ≡ metInput (networkOf (now (file .entry))) (operationOf (now (file .entry)) o) ⌝ }
-{
-    met_from(file, o, 0, layout::operation_count(file))
 }
 
 // Is O row i an input of service q with that id?
@@ -179,8 +94,11 @@ pub fn behaviour_in(file: &[u8], q: u16, n: u16) -> Runs
 fn names_input(file: &[u8], w: u16, a: u16) -> bool
     ensures { λ x. ⌜ NamesInput (now (file .entry)) w a x ⌝ }
 {
-    let operation = wire::u16_at(file, layout::behaviour_at(file, a) + 2);
-    both(rows::is_input(rows::kind_at(file, a)), operation == w)
+    match rows::input_of(file, a) {
+        InputRow::OneWay(o, _) => o == w,
+        InputRow::RequestResponse(o, _, _, _) => o == w,
+        InputRow::Nothing => false,
+    }
 }
 
 // Of the choice c, the first of the n branches from branch k on whose input names O row w; the row of branch k stands at `at`.
@@ -191,7 +109,8 @@ fn start_among(file: &[u8], w: u16, c: u16, at: usize, k: u8, n: u8) -> Start
     if n == 0 {
         return Start::Nothing;
     }
-    let a = wire::u16_at(file, at + 2);
+    let b = rows::branch_at(file, at);
+    let a = b.input;
     if names_input(file, w, a) {
         return Start::Branch(c, k, a);
     }
@@ -219,16 +138,16 @@ pub fn start_from(file: &[u8], w: u16, r: u16) -> Start
 pub fn permits_input(file: &[u8], q: u16, a: u16) -> bool
     ensures { λ x. ⌜ PermitsInput (now (file .entry)) q a x ⌝ }
 {
-    match rows::behaviour_row(file, a) {
-        BehaviourRow::OneWay(o, _) => operations::permits(file, q, true, false, o),
-        BehaviourRow::RequestResponse(o, _, _, _) => operations::permits(file, q, true, true, o),
-        _ => false,
+    match rows::input_of(file, a) {
+        InputRow::OneWay(o, _) => operations::permits(file, q, true, false, o),
+        InputRow::RequestResponse(o, _, _, _) => operations::permits(file, q, true, true, o),
+        InputRow::Nothing => false,
     }
 }
 
 // How many of the n queue entries from `at` on are used: those before the first unused one.
 fn queue_length(state: &[u8], at: usize, n: u16) -> u16
-    requires { ⌜ at + 344 * n < 2000000000 ⌝ }
+    requires { ⌜ at + entrySize * n < 2000000000 ⌝ }
     ensures { λ x. ⌜ (x ≡ length (readQueue (now (state .entry)) n at)) × (x ≤ n) ⌝ }
 {
     if n == 0 {
@@ -237,7 +156,7 @@ fn queue_length(state: &[u8], at: usize, n: u16) -> u16
     if wire::byte_at(state, at) == 0 {
         return 0;
     }
-    1 + queue_length(state, at + 344, n - 1)
+    1 + queue_length(state, at + state::ENTRY, n - 1)
 }
 
 // A live session, whose slot starts at `at`, queues "up to four messages".
@@ -245,7 +164,7 @@ fn live_target(state: &[u8], at: usize) -> Target
     requires { ⌜ at < 1900000000 ⌝ }
     ensures { λ x. ⌜ x ≡ liveTarget (now (state .entry)) at ⌝ }
 {
-    if queue_length(state, at + 1040, 4) < 4 {
+    if queue_length(state, at + state::QUEUE, 4) < 4 {
         return Target::Queued;
     }
     Target::QueueFull
@@ -268,7 +187,7 @@ fn free_target(file: &[u8], w: u16, n: u16, r: u16) -> Target
 fn slot_target(file: &[u8], state: &[u8], w: u16, q: u16, n: u16, r: u16) -> Target
     ensures { λ x. ⌜ SlotTarget (now (file .entry)) (now (state .entry)) w q n r x ⌝ }
 {
-    let at = 4096 * (4 * wire::index(q) + wire::index(n));
+    let at = state::slot_start(q, n);
     if wire::byte_at(state, at) == 0 {
         return free_target(file, w, n, r);
     }

@@ -9,6 +9,7 @@ use lib.ListN.{length, getD, take, drop}
 use lib.Dec.{eqb, leb}
 use borrow.Author.Tests.{eq-eqb, ne-eqb, le-leb, lt-leb, not-true, not-false}
 use Rattle.forest.specs.Forest.{Forest, end, node, Tree, tree, Lookup, absent, present, Rising, nodes, levels}
+use Rattle.scalar.specs.Basic.{void}
 use Rattle.scalar.specs.Value.{Value, value, pick}
 use Rattle.tree.specs.Encode.{count, payload, children, encode, rooted, Octets, Proper, Sound}
 use Rattle.tree.specs.Decode.{idAt, basicAt, countAt, valueAt, nextAt, headOk, headAt, Parse, bad, past, test, parse, scan, wholeOf, decode, isPresent, isTree, emptyRoot, isSessionTree}
@@ -51,12 +52,12 @@ module _ (deep many : ℕ) (s : List ℕ) (h : Head) (p : h ≡ headAt s 0) wher
 pub ruleset tree-laws = (tree-fault, tree-id, tree-bad, tree-past)
 
 -- a session's tree
-whole-empty : (s : List ℕ) (p : Parse) → isPresent (wholeOf s p) ≡ true → eqb (basicAt s 0) 6 ≡ emptyRoot (wholeOf s p)
+whole-empty : (s : List ℕ) (p : Parse) → isPresent (wholeOf s p) ≡ true → eqb (basicAt s 0) void ≡ emptyRoot (wholeOf s p)
 whole-empty s bad h = absurd (let z : _≡_ {A = ℕ} 0 1 = cc in omega arith)
 whole-empty s (past ks e l) h = by (eqb e (length s)) h
   where
     by : (x : Bool) → isPresent (pick x (present (tree (value (basicAt s 0) (valueAt s 0)) ks)) absent) ≡ true →
-        eqb (basicAt s 0) 6 ≡ emptyRoot (pick x (present (tree (value (basicAt s 0) (valueAt s 0)) ks)) absent)
+        eqb (basicAt s 0) void ≡ emptyRoot (pick x (present (tree (value (basicAt s 0) (valueAt s 0)) ks)) absent)
     by true h = refl
     by false h = absurd (let z : _≡_ {A = ℕ} 0 1 = cc in omega arith)
 

@@ -13,6 +13,7 @@ use borrow.Author.Tests.{eq-eqb, ne-eqb, eqb-true}
 use Rattle.forest.specs.Forest.{Forest, end, node, Tree, tree, nodeOf, Lookup, absent, present, measure, nodes, levels}
 use Rattle.scalar.specs.Value.{Value, value, pick, isValue}
 use Rattle.scalar.specs.Basic.{void}
+use Rattle.scalar.specs.ValueLaws.{void-empty}
 use Rattle.tree.specs.Encode.{empty, Message, messageDeep, messageMany, count, payload, children, encode, rooted, Octets, Encodes, WellFormed}
 use Rattle.tree.specs.Encode.{treeDeep, treeMany}
 use Rattle.tree.specs.Decode.{idAt, basicAt, countAt, lenAt, valueAt, nextAt, headOk, Parse, bad, past, test, parse, wholeOf, decode, isPresent}
@@ -127,12 +128,6 @@ message-sound s bs e = let w = present-is (decode messageDeep messageMany s) e i
 
 pub message-complete : (s : List ℕ) (t : Tree Value) → Message s t → isMessage s ≡ true
 message-complete s t m = ap isPresent (decode-complete messageDeep messageMany s t m)
-
--- a value of void has no bytes
-void-empty : (v : List ℕ) → isValue void v ≡ true → v ≡ []
-unfolding isValue
-void-empty [] e = refl
-void-empty (a ∷ l) e = absurd (omega (arith, eqb-true (length (a ∷ l)) 0 e))
 
 -- the tree of a session: below an empty root
 session-by : (s : List ℕ) (l : Lookup Value) → Octets s → decode treeDeep treeMany s ≡ l → emptyRoot l ≡ true →

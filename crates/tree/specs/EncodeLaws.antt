@@ -9,10 +9,11 @@ use native.Mathlib.Decide.{decLt}
 use native.Mathlib.Omega.{arith}
 use lib.ListN.{length, getD, take, drop, length-take, length-drop, length-append, take-append-drop, List·getD-eq-default}
 use lib.Seq.{drop-cons, getD-drop, getD-take, drop-drop, take-append-seam, drop-append-seam}
-use lib.Dec.{eqb, leb, ltb}
-use borrow.Author.Tests.{le-leb, lt-ltb, ltb-true, leb-true, eqb-true}
+use lib.Dec.{leb, ltb}
+use borrow.Author.Tests.{le-leb, lt-ltb, ltb-true, leb-true}
 use Rattle.forest.specs.Forest.{Forest, end, node, Above, Rising, measure, nodes, levels}
-use Rattle.scalar.specs.Value.{Value, value, isValue, isDouble, number, pick}
+use Rattle.scalar.specs.Value.{Value, value, isValue, pick}
+use Rattle.scalar.specs.ValueLaws.{value-basic, value-size, empty-void}
 use Rattle.tree.specs.Encode.{count, encode, Octets, Proper, Sound, empty}
 use Rattle.tree.specs.Decode.{idAt, basicAt, countAt, lenAt, valueAt, nextAt, headOk, headAt, Parse, bad, past, test, andThen, join, siblings}
 use Rattle.tree.specs.Decode.{parse, erase, scan}
@@ -402,27 +403,7 @@ octets-append (a ∷ l) r p q = octets-cons a (l ++ r) (p .small 0) (octets-appe
 
 -- a value's bytes are few and its basic type is small
 value-small : (b : ℕ) (v : List ℕ) → isValue b v ≡ true → (b < 256) × (length v < 256)
-unfolding isValue
-value-small b v e = go (eqb b 0) (eqb b 1) (eqb b 2) (eqb b 3) (eqb b 4) (eqb b 5) (eqb b 6) refl refl refl refl refl refl refl e
-  where
-    n : ℕ
-    n = length v
-
-    at-most : (k : ℕ) → k ≤ 6 → b ≡ k → n < 256 → (b < 256) × (length v < 256)
-    at-most k h p q = (omega arith, q)
-
-    go : (x₀ x₁ x₂ x₃ x₄ x₅ x₆ : Bool) → eqb b 0 ≡ x₀ → eqb b 1 ≡ x₁ → eqb b 2 ≡ x₂ → eqb b 3 ≡ x₃ → eqb b 4 ≡ x₄ → eqb b 5 ≡ x₅ → eqb b 6 ≡ x₆ →
-        pick x₀ (eqb (length v) 1 && leb (number v) 1) (pick x₁ (eqb (length v) 4) (pick x₂ (eqb (length v) 8 && isDouble (number v))
-        (pick x₃ (eqb (length v) 8)
-        (pick x₄ (leb (length v) 16) (pick x₅ (leb (length v) 16) (pick x₆ (eqb (length v) 0) false)))))) ≡ true → (b < 256) × (length v < 256)
-    go true x₁ x₂ x₃ x₄ x₅ x₆ p₀ p₁ p₂ p₃ p₄ p₅ p₆ e = (omega (arith, eqb-true b 0 p₀), omega (arith, eqb-true (length v) 1 (and-left _ _ e)))
-    go false true x₂ x₃ x₄ x₅ x₆ p₀ p₁ p₂ p₃ p₄ p₅ p₆ e = (omega (arith, eqb-true b 1 p₁), omega (arith, eqb-true (length v) 4 e))
-    go false false true x₃ x₄ x₅ x₆ p₀ p₁ p₂ p₃ p₄ p₅ p₆ e = (omega (arith, eqb-true b 2 p₂), omega (arith, eqb-true (length v) 8 (and-left _ _ e)))
-    go false false false true x₄ x₅ x₆ p₀ p₁ p₂ p₃ p₄ p₅ p₆ e = (omega (arith, eqb-true b 3 p₃), omega (arith, eqb-true (length v) 8 e))
-    go false false false false true x₅ x₆ p₀ p₁ p₂ p₃ p₄ p₅ p₆ e = (omega (arith, eqb-true b 4 p₄), omega (arith, leb-true (length v) 16 e))
-    go false false false false false true x₆ p₀ p₁ p₂ p₃ p₄ p₅ p₆ e = (omega (arith, eqb-true b 5 p₅), omega (arith, leb-true (length v) 16 e))
-    go false false false false false false true p₀ p₁ p₂ p₃ p₄ p₅ p₆ e = (omega (arith, eqb-true b 6 p₆), omega (arith, eqb-true (length v) 0 e))
-    go false false false false false false false p₀ p₁ p₂ p₃ p₄ p₅ p₆ e = absurd (let z : _≡_ {A = ℕ} 0 1 = cc in omega arith)
+value-small b v e = (omega (arith, value-basic b v e), omega (arith, value-size b v e))
 
 pub encode-octets : (f : Forest Value) → Sound f → nodes f < 256 → Octets (encode f)
 unfolding encode Sound measure
@@ -437,5 +418,4 @@ encode-octets (node i (value b v) ks rest) h n =
 
 -- A root alone.
 pub empty-proper : Proper empty
-unfolding isValue
-empty-proper = record { valid = refl; bytes = record { small = λ k. omega arith } }
+empty-proper = record { valid = empty-void; bytes = record { small = λ k. omega arith } }

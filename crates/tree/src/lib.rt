@@ -114,7 +114,7 @@ pub fn is_session_tree(s: &[u8]) -> bool
     if !is_tree(s, 6, 48) {
         return false;
     }
-    wire::byte_at(s, 2) == 6
+    wire::byte_at(s, 2) == scalar::VOID
 }
 
 // Does the tree at the start of the bytes keep to the limits?

@@ -13,7 +13,9 @@ use Rattle.forest.specs.Forest.{Forest, end, node, Tree, tree, nodeOf, Lookup, 
 use Rattle.forest.specs.Forest.{Rising, RisingTree, RisingLookup, measure, nodes, levels}
 use Rattle.forest.specs.ForestLaws.{rising-set, rising-find}
 use Rattle.forest.specs.Path.{Path, path, write, writeSteps, replaceAt, setPayloadAt}
-use Rattle.scalar.specs.Value.{Value, value, isValue}
+use Rattle.scalar.specs.Value.{Value, value}
+use Rattle.scalar.specs.Basic.{void}
+use Rattle.scalar.specs.ValueLaws.{empty-void, raw-short}
 use Rattle.tree.specs.Encode.{payload, children, encode, rooted, count, Octets, Proper, Sound, WellFormed, Encodes}
 use Rattle.tree.specs.EncodeLaws.{and-left, and-right}
 use Rattle.tree.specs.Decode.{decode, isTree, isPresent}
@@ -92,14 +94,13 @@ module _ (missing : Value) (g : Lookup Value → Tree Value) (m : Proper missing
 
 -- what a missing step carries is a value
 pub missing-proper : (typed : Bool) → Proper (missingStep typed)
-unfolding isValue
-missing-proper true = record { valid = refl; bytes = record { small = two } }
+missing-proper true = record { valid = raw-short (1 ∷ void ∷ []) (omega arith); bytes = record { small = two } }
   where
-    two : (k : ℕ) → getD (1 ∷ 6 ∷ []) k 0 < 256
+    two : (k : ℕ) → getD (1 ∷ void ∷ []) k 0 < 256
     two zero = omega arith
     two (suc zero) = omega arith
     two (suc (suc k)) = omega arith
-missing-proper false = record { valid = refl; bytes = record { small = λ k. omega arith } }
+missing-proper false = record { valid = empty-void; bytes = record { small = λ k. omega arith } }
 
 -- a forest whose ids rise and whose ids and values are right
 pub record Right (f : Forest Value) : Type 0 where

@@ -66,13 +66,13 @@ fn push_missing(out: &mut [u8], w: usize, typed: bool) -> usize
         (basicOf (missingStep typed) ∷ 1 ∷ length (bytesOf (missingStep typed)) ∷ bytesOf (missingStep typed)) ⌝ }
 {
     if typed {
-        let a = push(out, w, 5);
+        let a = push(out, w, scalar::RAW);
         let b = push(out, a, 1);
         let c = push(out, b, 2);
         let d = push(out, c, 1);
-        return push(out, d, 6);
+        return push(out, d, scalar::VOID);
     }
-    let a = push(out, w, 6);
+    let a = push(out, w, scalar::VOID);
     let b = push(out, a, 1);
     push(out, b, 0)
 }

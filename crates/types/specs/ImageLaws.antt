@@ -9,7 +9,8 @@ use lib.ListN.{length, getD}
 use lib.Dec.{eqb}
 use Rattle.forest.specs.Forest.{Forest, end, node, Tree, tree, nodeOf, Above, Rising, RisingTree, measure, nodes, levels, mapForest, mapTree}
 use Rattle.scalar.specs.Basic.{lastBasic}
-use Rattle.scalar.specs.Value.{Value, value, pick, basicOf, bytesOf, isValue}
+use Rattle.scalar.specs.Value.{Value, value, pick, basicOf, bytesOf}
+use Rattle.scalar.specs.ValueLaws.{raw-short}
 use Rattle.syntax.specs.Syntax.{Mark, mark, Types, MessageType}
 use Rattle.tree.specs.Encode.{count, encode, rooted, Octets, Proper, Sound, WellFormed, Encodes, payload, children}
 use Rattle.tree.specs.Decode.{idAt, basicAt, countAt, valueAt, nextAt, headOk}
@@ -62,8 +63,7 @@ image-bytes i m b k r = refl
 -- ---- an image is well formed
 
 pub mark-proper : (m : Bool) (b : ℕ) → b ≤ lastBasic → Proper (markValue (mark m b))
-unfolding isValue
-mark-proper m b h = record { valid = refl; bytes = record { small = by m } }
+mark-proper m b h = record { valid = raw-short (flag m ∷ b ∷ []) (omega arith); bytes = record { small = by m } }
   where
     by : (m : Bool) (k : ℕ) → getD (flag m ∷ b ∷ []) k 0 < 256
     by true zero = omega arith

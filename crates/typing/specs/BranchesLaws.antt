@@ -9,9 +9,9 @@ use Rattle.forest.specs.Compare.{T-of, of-T, not-T-false, and-l, and-r, and-i}
 use Rattle.forest.specs.Forest.{end, Lookup, absent, present, find, Rising}
 use Rattle.forest.specs.ForestLaws.{forest-ext}
 use Rattle.refusal.specs.declared.Refusal.the-variants.{EnvironmentsDiffer}
-use Rattle.syntax.specs.Syntax.{Mark, Types, MessageType, Behaviour, sequence, branch, lastBranch}
+use Rattle.syntax.specs.Syntax.{Mark, Types, MessageType, Behaviour, sequence, Branches, lastBranch, branch}
 use Rattle.typing.specs.Result.{yields, require, Checked, refused, passed, atRow, next}
-use Rattle.typing.specs.Checker.{sameTypes, agreeing, check}
+use Rattle.typing.specs.Checker.{sameTypes, agreeing, check, checkBranches}
 use Rattle.typing.specs.CheckerLaws.{sameTypes-eq, sameTypes-refl}
 use Rattle.typing.specs.NetworkRules.{OneType, OneTypeWith, OneTypeEach, union, unionOf}
 use Rattle.typing.specs.NetworkChecker.{oneType, oneTypeEach}
@@ -35,10 +35,10 @@ both-same s Γ Δ Θ e = not-T-false ((s && sameTypes Δ Γ) && sameTypes Θ Γ)
 
 module _ (q c : ℕ) where
   -- The first of several branches.
-  pub first-branch : (r : ℕ) (a b m : Behaviour) (Γ : Types)
-      → check q c (branch r a b m) Γ ≡ next (check q c (sequence r a b) Γ) (λ Δ. concludeChoice c Δ true (check q c m Γ))
+  pub first-branch : (r : ℕ) (a b : Behaviour) (m : Branches) (Γ : Types)
+      → checkBranches q c (branch r a b m) Γ ≡ next (check q (sequence r a b) Γ) (λ Δ. concludeChoice c Δ true (checkBranches q c m Γ))
   unfolding check next
-  first-branch r a b m Γ = go (next (check q c a Γ) (λ Γ1. check q c b Γ1)) (check q c m Γ)
+  first-branch r a b m Γ = go (next (check q a Γ) (λ Γ1. check q b Γ1)) (checkBranches q c m Γ)
     where
       go : (x y : Checked Types) → next x (λ Δ. next y (λ Θ. atRow c (agreeing Θ Δ))) ≡ next x (λ Δ. concludeChoice c Δ true y)
       go (refused w) y = refl
@@ -46,11 +46,11 @@ module _ (q c : ℕ) where
       go (passed Δ) (passed Θ) = refl
 
   -- A later branch that is not the last.
-  pub next-branch : (Δ : Types) (s : Bool) (r : ℕ) (a b m : Behaviour) (Γ : Types)
-      → concludeChoice c Δ s (check q c (branch r a b m) Γ)
-      ≡ next (check q c (sequence r a b) Γ) (λ Θ. concludeChoice c Δ (s && sameTypes Θ Δ) (check q c m Γ))
+  pub next-branch : (Δ : Types) (s : Bool) (r : ℕ) (a b : Behaviour) (m : Branches) (Γ : Types)
+      → concludeChoice c Δ s (checkBranches q c (branch r a b m) Γ)
+      ≡ next (check q (sequence r a b) Γ) (λ Θ. concludeChoice c Δ (s && sameTypes Θ Δ) (checkBranches q c m Γ))
   unfolding check next
-  next-branch Δ s r a b m Γ = go (next (check q c a Γ) (λ Γ1. check q c b Γ1)) (check q c m Γ)
+  next-branch Δ s r a b m Γ = go (next (check q a Γ) (λ Γ1. check q b Γ1)) (checkBranches q c m Γ)
     where
       by : (Θ Ψ : Types) (t : Bool) → sameTypes Ψ Θ ≡ t → concludeChoice c Δ s (atRow c (require t EnvironmentsDiffer (yields Θ)))
           ≡ atRow c (require ((s && sameTypes Θ Δ) && sameTypes Ψ Δ) EnvironmentsDiffer (yields Δ))
@@ -67,10 +67,10 @@ module _ (q c : ℕ) where
 
   -- The last of several branches.
   pub last-branch : (Δ : Types) (s : Bool) (r : ℕ) (a b : Behaviour) (Γ : Types)
-      → concludeChoice c Δ s (check q c (lastBranch r a b) Γ)
-      ≡ next (check q c (sequence r a b) Γ) (λ Θ. atRow c (require (s && sameTypes Θ Δ) EnvironmentsDiffer (yields Δ)))
+      → concludeChoice c Δ s (checkBranches q c (lastBranch r a b) Γ)
+      ≡ next (check q (sequence r a b) Γ) (λ Θ. atRow c (require (s && sameTypes Θ Δ) EnvironmentsDiffer (yields Δ)))
   unfolding check next
-  last-branch Δ s r a b Γ = go (next (check q c a Γ) (λ Γ1. check q c b Γ1))
+  last-branch Δ s r a b Γ = go (next (check q a Γ) (λ Γ1. check q b Γ1))
     where
       go : (x : Checked Types) → concludeChoice c Δ s x ≡ next x (λ Θ. atRow c (require (s && sameTypes Θ Δ) EnvironmentsDiffer (yields Δ)))
       go (refused w) = refl

@@ -77,11 +77,11 @@ table =
     -- c: int ≤ long: no
     (row rowC Bool (isSubtype (alone int) (alone long)) false
     -- d: empty Γ, assign 5.7 = int 12: 5 void, 5.7 int
-    (row rowD (Checked Types) (check 0 0 (assign 0 fiveSeven twelve) end) (passed (fiveVoid true))
+    (row rowD (Checked Types) (check 0 (assign 0 fiveSeven twelve) end) (passed (fiveVoid true))
     -- e: then 5.7 = true: 9
-    (row rowE ℕ (refusalNumber (check 0 0 (sequence 0 (assign 1 fiveSeven twelve) (assign 2 fiveSeven yes-constant)) end)) 9
+    (row rowE ℕ (refusalNumber (check 0 (sequence 0 (assign 1 fiveSeven twelve) (assign 2 fiveSeven yes-constant)) end)) 9
     -- f: while that adds a path: 10
-    (row rowF ℕ (refusalNumber (check 0 0 (whileDo 0 yes-constant (assign 1 fiveSeven twelve)) end)) 10
+    (row rowF ℕ (refusalNumber (check 0 (whileDo 0 yes-constant (assign 1 fiveSeven twelve)) end)) 10
     -- g: 5.7 optional, read: 7
     (row rowG ℕ (refusalNumber (atRow 0 (typeOf (fiveVoid false) (valueAt fiveSeven)))) 7
     -- h: int 2147483647 + 1 = -2147483648; -2147483648 negated is itself

@@ -9,8 +9,8 @@ use Rattle.forest.specs.Path.{Path}
 use Rattle.refusal.specs.declared.Refusal.the-variants.{WrongOperation, OperandType, TypeMisfit, EnvironmentsDiffer, SharedRoot, EnvironmentTooLarge}
 use Rattle.scalar.specs.Basic.{bool}
 use Rattle.syntax.specs.Syntax.{mark, Types, MessageType, Expression, input, output, Operation, Behaviour, nil, oneWay, requestResponse}
-use Rattle.syntax.specs.Syntax.{notification, solicitResponse, ifThenElse, whileDo, sequence, parallel, assign, choice, branch, lastBranch}
-use Rattle.syntax.specs.Syntax.{waiting, answering}
+use Rattle.syntax.specs.Syntax.{notification, solicitResponse, ifThenElse, whileDo, sequence, parallel, assign, choice}
+use Rattle.syntax.specs.Syntax.{waiting, answering, Branches, lastBranch, branch}
 use Rattle.subtyping.specs.Subtype.{rootBasic, isSubtype}
 use Rattle.typing.specs.Result.{Result, yields, require, andThen, Checked, passed, atRow, next}
 use Rattle.typing.specs.Environment.{within, readFirm, place, assignTo}
@@ -46,28 +46,31 @@ condition Γ e = andThen (typeOf Γ e) (λ n. require (eqb (rootBasic n) bool) O
 abbrev pub agreeing : Types → Types → Result Types
 agreeing Δ Γ = require (sameTypes Δ Γ) EnvironmentsDiffer (yields Γ)
 
--- B, of the service row q, from Γ. The row c is that of the choice to which a branch belongs: all branches are checked
--- before any two are compared, and the place of 10 is the choice's row. Only the clause of a branch looks at c.
-unfoldable pub check : ℕ → ℕ → Behaviour → Types → Checked Types
-check q c (nil r) Γ = passed Γ
-check q c (oneWay r o x) Γ = atRow r (require (permits q input false o) WrongOperation (limited (place x (o .request) Γ)))
-check q c (requestResponse r o x p d) Γ =
-    next (atRow r (require (permits q input true o) WrongOperation (limited (place x (o .request) Γ))))
-    (λ Γ1. next (check q c d Γ1) (λ Δ. atRow r (answers p Δ (o .reply))))
-check q c (notification r o e) Γ = atRow r (require (permits q output false o) WrongOperation (sends Γ e (o .request)))
-check q c (solicitResponse r o e x) Γ =
-    next (atRow r (require (permits q output true o) WrongOperation (sends Γ e (o .request)))) (λ Γ1. atRow r (limited (place x (o .reply) Γ)))
-check q c (ifThenElse r e a b) Γ =
-    next (atRow r (condition Γ e)) (λ Γ1. next (check q c a Γ) (λ Δ. next (check q c b Γ) (λ Θ. atRow r (agreeing Θ Δ))))
-check q c (whileDo r e b) Γ = next (atRow r (condition Γ e)) (λ Γ1. next (check q c b Γ) (λ Δ. atRow r (agreeing Δ Γ)))
-check q c (sequence r a b) Γ = next (check q c a Γ) (λ Γ1. check q c b Γ1)
-check q c (parallel r a b) Γ =
-    next (atRow r (require (noSharedRoot a b) SharedRoot (yields Γ))) (λ Γ0. next (check q c a Γ) (λ Γ1. check q c b Γ1))
-check q c (assign r x e) Γ = atRow r (andThen (typeOf Γ e) (λ n. limited (assignTo x (rootBasic n) Γ)))
-check q c (choice r m) Γ = check q r m Γ
-check q c (branch r a b m) Γ =
-    next (next (check q c a Γ) (λ Γ1. check q c b Γ1)) (λ Δ. next (check q c m Γ) (λ Θ. atRow c (agreeing Θ Δ)))
-check q c (lastBranch r a b) Γ = next (check q c a Γ) (λ Γ1. check q c b Γ1)
-check q c (waiting r o x) Γ = atRow r (require (permits q output true o) WrongOperation (limited (place x (o .reply) Γ)))
-check q c (answering r o p d) Γ =
-    next (atRow r (require (permits q input true o) WrongOperation (yields Γ))) (λ Γ1. next (check q c d Γ) (λ Δ. atRow r (answers p Δ (o .reply))))
+unfoldable mutual
+  -- B, of the service row q, from Γ.
+  pub check : ℕ → Behaviour → Types → Checked Types
+  check q (nil r) Γ = passed Γ
+  check q (oneWay r o x) Γ = atRow r (require (permits q input false o) WrongOperation (limited (place x (o .request) Γ)))
+  check q (requestResponse r o x p d) Γ =
+      next (atRow r (require (permits q input true o) WrongOperation (limited (place x (o .request) Γ))))
+      (λ Γ1. next (check q d Γ1) (λ Δ. atRow r (answers p Δ (o .reply))))
+  check q (notification r o e) Γ = atRow r (require (permits q output false o) WrongOperation (sends Γ e (o .request)))
+  check q (solicitResponse r o e x) Γ =
+      next (atRow r (require (permits q output true o) WrongOperation (sends Γ e (o .request)))) (λ Γ1. atRow r (limited (place x (o .reply) Γ)))
+  check q (ifThenElse r e a b) Γ =
+      next (atRow r (condition Γ e)) (λ Γ1. next (check q a Γ) (λ Δ. next (check q b Γ) (λ Θ. atRow r (agreeing Θ Δ))))
+  check q (whileDo r e b) Γ = next (atRow r (condition Γ e)) (λ Γ1. next (check q b Γ) (λ Δ. atRow r (agreeing Δ Γ)))
+  check q (sequence r a b) Γ = next (check q a Γ) (λ Γ1. check q b Γ1)
+  check q (parallel r a b) Γ =
+      next (atRow r (require (noSharedRoot a b) SharedRoot (yields Γ))) (λ Γ0. next (check q a Γ) (λ Γ1. check q b Γ1))
+  check q (assign r x e) Γ = atRow r (andThen (typeOf Γ e) (λ n. limited (assignTo x (rootBasic n) Γ)))
+  check q (choice r m) Γ = checkBranches q r m Γ
+  check q (waiting r o x) Γ = atRow r (require (permits q output true o) WrongOperation (limited (place x (o .reply) Γ)))
+  check q (answering r o p d) Γ =
+      next (atRow r (require (permits q input true o) WrongOperation (yields Γ))) (λ Γ1. next (check q d Γ) (λ Δ. atRow r (answers p Δ (o .reply))))
+
+  -- The branches of the choice of row c: all are checked before any two are compared, and the place of 10 is the choice's row.
+  pub checkBranches : ℕ → ℕ → Branches → Types → Checked Types
+  checkBranches q c (lastBranch r a b) Γ = next (check q a Γ) (λ Γ1. check q b Γ1)
+  checkBranches q c (branch r a b m) Γ =
+      next (next (check q a Γ) (λ Γ1. check q b Γ1)) (λ Δ. next (checkBranches q c m Γ) (λ Θ. atRow c (agreeing Θ Δ)))

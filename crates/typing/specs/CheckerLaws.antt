@@ -9,8 +9,8 @@ use Rattle.forest.specs.Path.{Path}
 use Rattle.refusal.specs.declared.Refusal.the-variants.{WrongOperation, OperandType, TypeMisfit, EnvironmentsDiffer, SharedRoot, EnvironmentTooLarge}
 use Rattle.scalar.specs.Basic.{bool}
 use Rattle.syntax.specs.Syntax.{mark, Types, MessageType, Expression, input, output, Operation, Behaviour, nil, oneWay, requestResponse}
-use Rattle.syntax.specs.Syntax.{notification, solicitResponse, ifThenElse, whileDo, sequence, parallel, assign, choice, branch, lastBranch}
-use Rattle.syntax.specs.Syntax.{waiting, answering}
+use Rattle.syntax.specs.Syntax.{notification, solicitResponse, ifThenElse, whileDo, sequence, parallel, assign, choice}
+use Rattle.syntax.specs.Syntax.{waiting, answering, Branches, lastBranch, branch}
 use Rattle.subtyping.specs.Subtype.{rootBasic, isSubtype}
 use Rattle.typing.specs.Result.{Result, yields, require, andThen, passed, atRow, next}
 use Rattle.typing.specs.ResultLaws.{yields-inj, passed-inj, require-yields, require-holds, atRow-passed, andThen-yields}
@@ -19,9 +19,9 @@ use Rattle.typing.specs.Environment.{within, readFirm, place, assignTo}
 use Rattle.typing.specs.ExpressionTyping.{typeOf}
 use Rattle.typing.specs.Occurs.{noSharedRoot}
 use Rattle.typing.specs.OccursLaws.{no-shared-sound, no-shared-complete}
-use Rattle.typing.specs.Rules.{sameBool, permits, WellSorted}
-use Rattle.typing.specs.Checker.{sameTypes, limited, sends, answers, condition, agreeing, check}
-use Rattle.typing.specs.Typed.{TypedReply, TypedSend, TypedCondition, Typed}
+use Rattle.typing.specs.Rules.{sameBool, permits, WellSorted, WellSortedBranches}
+use Rattle.typing.specs.Checker.{sameTypes, limited, sends, answers, condition, agreeing, check, checkBranches}
+use Rattle.typing.specs.Typed.{TypedReply, TypedSend, TypedCondition, Typed, TypedBranches}
 use Rattle.typing.specs.TypedLaws.{within-before}
 
 pub sameBool-eq : (m n : Bool) → T (sameBool m n) → m ≡ n
@@ -121,157 +121,171 @@ agreeing-passes r Γ = ap (atRow r) (require-holds (sameTypes Γ Γ) Environment
 
 module _ (q : ℕ) where
   -- What the checker passes, the rules type.
-  pub check-typed : (c : ℕ) (B : Behaviour) (Γ Δ : Types) → check q c B Γ ≡ passed Δ → Typed q B Γ Δ
-  unfolding check Typed
-  check-typed c (nil r) Γ Δ h = cc
-  check-typed c (oneWay r o x) Γ Δ h = let u = placed-yields r (permits q input false o) (place x (o .request) Γ) Δ h in (u .0, u .1)
-  check-typed c (requestResponse r o x y d) Γ Δ h =
-      let u = next-passed _ _ Δ h in
-      let v = next-passed _ _ Δ (u .2) in
-      let p = placed-yields r (permits q input true o) (place x (o .request) Γ) (u .0) (u .1) in
-      let s = answers-yields y (v .0) Δ (o .reply) (atRow-passed r _ Δ (v .2)) in (
-        p .0,
-        u .0,
-        p .1,
-        subst (Typed q d (u .0)) (s .1) (check-typed c d (u .0) (v .0) (v .1)),
-        subst (λ (z : Types). TypedReply y z (o .reply)) (s .1)
-            (s .0),
-      )
-  check-typed c (notification r o e) Γ Δ h =
-      let u = require-yields (permits q output false o) WrongOperation (sends Γ e (o .request)) (atRow-passed r _ Δ h) in
-      let v = sends-yields Γ Δ e (o .request) (u .1) in (u .0, v .0, v .1)
-  check-typed c (solicitResponse r o e x) Γ Δ h =
-      let u = next-passed _ _ Δ h in
-      let v = require-yields (permits q output true o) WrongOperation (sends Γ e (o .request)) (atRow-passed r _ (u .0) (u .1)) in
-      let w = sends-yields Γ (u .0) e (o .request) (v .1) in
-      (v .0, w .0, limited-yields (place x (o .reply) Γ) Δ (atRow-passed r _ Δ (u .2)) .0)
-  check-typed c (ifThenElse r e a b) Γ Δ h =
-      let u = next-passed _ _ Δ h in
-      let k = condition-yields Γ (u .0) e (atRow-passed r _ (u .0) (u .1)) in
-      let v = next-passed _ _ Δ (u .2) in
-      let w = next-passed _ _ Δ (v .2) in
-      let s = agreeing-yields r (w .0) (v .0) Δ (w .2) in
-      (k .0, subst (Typed q a Γ) (s .1) (check-typed c a Γ (v .0) (v .1)), subst (Typed q b Γ) (s .0) (check-typed c b Γ (w .0) (w .1)))
-  check-typed c (whileDo r e b) Γ Δ h =
-      let u = next-passed _ _ Δ h in
-      let k = condition-yields Γ (u .0) e (atRow-passed r _ (u .0) (u .1)) in
-      let v = next-passed _ _ Δ (u .2) in
-      let s = agreeing-yields r (v .0) Γ Δ (v .2) in
-      (k .0, subst (Typed q b Γ) (s .0 ∙ sym (s .1)) (check-typed c b Γ (v .0) (v .1)), s .1)
-  check-typed c (sequence r a b) Γ Δ h = let u = next-passed _ _ Δ h in (u .0, check-typed c a Γ (u .0) (u .1), check-typed c b (u .0) Δ (u .2))
-  check-typed c (parallel r a b) Γ Δ h =
-      let z = next-passed _ _ Δ h in
-      let d = require-yields (noSharedRoot a b) SharedRoot (yields Γ) (atRow-passed r _ (z .0) (z .1)) in
-      let u = next-passed _ _ Δ (z .2) in
-      (no-shared-sound a b (d .0), u .0, check-typed c a Γ (u .0) (u .1), check-typed c b (u .0) Δ (u .2))
-  check-typed c (assign r x e) Γ Δ h =
-      let u = andThen-yields (typeOf Γ e) (λ n. limited (assignTo x (rootBasic n) Γ)) (atRow-passed r _ Δ h) in
-      (u .0, u .1, limited-yields (assignTo x (rootBasic (u .0)) Γ) Δ (u .2) .0)
-  check-typed c (choice r m) Γ Δ h = check-typed r m Γ Δ h
-  check-typed c (branch r a b m) Γ Δ h =
-      let u = next-passed _ _ Δ h in
-      let x = next-passed _ _ (u .0) (u .1) in
-      let w = next-passed _ _ Δ (u .2) in
-      let s = agreeing-yields c (w .0) (u .0) Δ (w .2) in (
-        x .0,
-        check-typed c a Γ (x .0) (x .1),
-        subst (Typed q b (x .0)) (s .1) (check-typed c b (x .0) (u .0) (x .2)),
-        subst (Typed q m Γ) (s .0)
-            (check-typed c m Γ (w .0) (w .1)),
-      )
-  check-typed c (lastBranch r a b) Γ Δ h = let u = next-passed _ _ Δ h in (u .0, check-typed c a Γ (u .0) (u .1), check-typed c b (u .0) Δ (u .2))
-  check-typed c (waiting r o x) Γ Δ h = let u = placed-yields r (permits q output true o) (place x (o .reply) Γ) Δ h in (u .0, u .1)
-  check-typed c (answering r o y d) Γ Δ h =
-      let u = next-passed _ _ Δ h in
-      let g = require-yields (permits q input true o) WrongOperation (yields Γ) (atRow-passed r _ (u .0) (u .1)) in
-      let v = next-passed _ _ Δ (u .2) in
-      let s = answers-yields y (v .0) Δ (o .reply) (atRow-passed r _ Δ (v .2)) in
-      (g .0, subst (Typed q d Γ) (s .1) (check-typed c d Γ (v .0) (v .1)), subst (λ (z : Types). TypedReply y z (o .reply)) (s .1) (s .0))
+  mutual
+    unfolding check Typed
+
+    pub check-typed : (B : Behaviour) (Γ Δ : Types) → check q B Γ ≡ passed Δ → Typed q B Γ Δ
+    check-typed (nil r) Γ Δ h = cc
+    check-typed (oneWay r o x) Γ Δ h = let u = placed-yields r (permits q input false o) (place x (o .request) Γ) Δ h in (u .0, u .1)
+    check-typed (requestResponse r o x y d) Γ Δ h =
+        let u = next-passed _ _ Δ h in
+        let v = next-passed _ _ Δ (u .2) in
+        let p = placed-yields r (permits q input true o) (place x (o .request) Γ) (u .0) (u .1) in
+        let s = answers-yields y (v .0) Δ (o .reply) (atRow-passed r _ Δ (v .2)) in (
+          p .0,
+          u .0,
+          p .1,
+          subst (Typed q d (u .0)) (s .1) (check-typed d (u .0) (v .0) (v .1)),
+          subst (λ (z : Types). TypedReply y z (o .reply)) (s .1)
+              (s .0),
+        )
+    check-typed (notification r o e) Γ Δ h =
+        let u = require-yields (permits q output false o) WrongOperation (sends Γ e (o .request)) (atRow-passed r _ Δ h) in
+        let v = sends-yields Γ Δ e (o .request) (u .1) in (u .0, v .0, v .1)
+    check-typed (solicitResponse r o e x) Γ Δ h =
+        let u = next-passed _ _ Δ h in
+        let v = require-yields (permits q output true o) WrongOperation (sends Γ e (o .request)) (atRow-passed r _ (u .0) (u .1)) in
+        let w = sends-yields Γ (u .0) e (o .request) (v .1) in
+        (v .0, w .0, limited-yields (place x (o .reply) Γ) Δ (atRow-passed r _ Δ (u .2)) .0)
+    check-typed (ifThenElse r e a b) Γ Δ h =
+        let u = next-passed _ _ Δ h in
+        let k = condition-yields Γ (u .0) e (atRow-passed r _ (u .0) (u .1)) in
+        let v = next-passed _ _ Δ (u .2) in
+        let w = next-passed _ _ Δ (v .2) in
+        let s = agreeing-yields r (w .0) (v .0) Δ (w .2) in
+        (k .0, subst (Typed q a Γ) (s .1) (check-typed a Γ (v .0) (v .1)), subst (Typed q b Γ) (s .0) (check-typed b Γ (w .0) (w .1)))
+    check-typed (whileDo r e b) Γ Δ h =
+        let u = next-passed _ _ Δ h in
+        let k = condition-yields Γ (u .0) e (atRow-passed r _ (u .0) (u .1)) in
+        let v = next-passed _ _ Δ (u .2) in
+        let s = agreeing-yields r (v .0) Γ Δ (v .2) in
+        (k .0, subst (Typed q b Γ) (s .0 ∙ sym (s .1)) (check-typed b Γ (v .0) (v .1)), s .1)
+    check-typed (sequence r a b) Γ Δ h = let u = next-passed _ _ Δ h in (u .0, check-typed a Γ (u .0) (u .1), check-typed b (u .0) Δ (u .2))
+    check-typed (parallel r a b) Γ Δ h =
+        let z = next-passed _ _ Δ h in
+        let d = require-yields (noSharedRoot a b) SharedRoot (yields Γ) (atRow-passed r _ (z .0) (z .1)) in
+        let u = next-passed _ _ Δ (z .2) in
+        (no-shared-sound a b (d .0), u .0, check-typed a Γ (u .0) (u .1), check-typed b (u .0) Δ (u .2))
+    check-typed (assign r x e) Γ Δ h =
+        let u = andThen-yields (typeOf Γ e) (λ n. limited (assignTo x (rootBasic n) Γ)) (atRow-passed r _ Δ h) in
+        (u .0, u .1, limited-yields (assignTo x (rootBasic (u .0)) Γ) Δ (u .2) .0)
+    check-typed (choice r m) Γ Δ h = check-typed-branches r m Γ Δ h
+    check-typed (waiting r o x) Γ Δ h = let u = placed-yields r (permits q output true o) (place x (o .reply) Γ) Δ h in (u .0, u .1)
+    check-typed (answering r o y d) Γ Δ h =
+        let u = next-passed _ _ Δ h in
+        let g = require-yields (permits q input true o) WrongOperation (yields Γ) (atRow-passed r _ (u .0) (u .1)) in
+        let v = next-passed _ _ Δ (u .2) in
+        let s = answers-yields y (v .0) Δ (o .reply) (atRow-passed r _ Δ (v .2)) in
+        (g .0, subst (Typed q d Γ) (s .1) (check-typed d Γ (v .0) (v .1)), subst (λ (z : Types). TypedReply y z (o .reply)) (s .1) (s .0))
+
+    check-typed-branches : (c : ℕ) (m : Branches) (Γ Δ : Types) → checkBranches q c m Γ ≡ passed Δ → TypedBranches q m Γ Δ
+    check-typed-branches c (lastBranch r a b) Γ Δ h =
+        let u = next-passed _ _ Δ h in (u .0, check-typed a Γ (u .0) (u .1), check-typed b (u .0) Δ (u .2))
+    check-typed-branches c (branch r a b m) Γ Δ h =
+        let u = next-passed _ _ Δ h in
+        let x = next-passed _ _ (u .0) (u .1) in
+        let w = next-passed _ _ Δ (u .2) in
+        let s = agreeing-yields c (w .0) (u .0) Δ (w .2) in (
+          x .0,
+          check-typed a Γ (x .0) (x .1),
+          subst (Typed q b (x .0)) (s .1) (check-typed b (x .0) (u .0) (x .2)),
+          subst (TypedBranches q m Γ) (s .0) (check-typed-branches c m Γ (w .0) (w .1)),
+        )
 
   -- What the rules type, with the last environment within the limits, the checker passes.
-  pub typed-check : (c : ℕ) (B : Behaviour) (Γ Δ : Types) → WellSorted B → Typed q B Γ Δ → T (within Δ) → check q c B Γ ≡ passed Δ
-  unfolding check Typed WellSorted
-  typed-check c (nil r) Γ Δ ws h t = ap passed h
-  typed-check c (oneWay r o x) Γ Δ ws h t = placed-passes r (permits q input false o) (place x (o .request) Γ) Δ (h .0) (h .1) t
-  typed-check c (requestResponse r o x y d) Γ Δ ws h t =
-      next-holds _ _ (h .1)
-      (placed-passes r (permits q input true o) (place x (o .request) Γ) (h .1) (h .0) (h .2) (within-before q d (h .1) Δ (ws .1) (h .3) t))
-      ∙ (next-holds _ _ Δ (typed-check c d (h .1) Δ (ws .1) (h .3) t) ∙ answers-passes r y Δ (o .reply) (h .4))
-  typed-check c (notification r o e) Γ Δ ws h t = sends-passes r (permits q output false o) Γ e (o .request) (h .0) (h .1) ∙ ap passed (h .2)
-  typed-check c (solicitResponse r o e x) Γ Δ ws h t =
-      next-holds _ _ Γ (sends-passes r (permits q output true o) Γ e (o .request) (h .0) (h .1))
-      ∙ ap (atRow r) (limited-holds (place x (o .reply) Γ) Δ (h .2) t)
-  typed-check c (ifThenElse r e a b) Γ Δ ws h t =
-      next-holds _ _ Γ (condition-passes r Γ e (h .0))
-      ∙ (next-holds _ _ Δ (typed-check c a Γ Δ (ws .0) (h .1) t) ∙ (next-holds _ _ Δ (typed-check c b Γ Δ (ws .1) (h .2) t) ∙ agreeing-passes r Δ))
-  typed-check c (whileDo r e b) Γ Δ ws h t =
-      let t2 : T (within Γ) = subst (λ (z : Types). T (within z)) (sym (h .2)) t in
-      next-holds _ _ Γ (condition-passes r Γ e (h .0))
-      ∙ (next-holds _ _ Γ (typed-check c b Γ Γ ws (h .1) t2) ∙ (agreeing-passes r Γ ∙ ap passed (h .2)))
-  typed-check c (sequence r a b) Γ Δ ws h t =
-      next-holds _ _ (h .0) (typed-check c a Γ (h .0) (ws .0) (h .1) (within-before q b (h .0) Δ (ws .1) (h .2) t))
-      ∙ typed-check c b (h .0) Δ (ws .1) (h .2) t
-  typed-check c (parallel r a b) Γ Δ ws h t =
-      next-holds _ _ Γ (ap (atRow r) (require-holds (noSharedRoot a b) SharedRoot (yields Γ) (no-shared-complete a b (h .0))))
-      ∙ (next-holds _ _ (h .1) (typed-check c a Γ (h .1) (ws .0) (h .2) (within-before q b (h .1) Δ (ws .1) (h .3) t))
-      ∙ typed-check c b (h .1) Δ (ws .1) (h .3) t)
-  typed-check c (assign r x e) Γ Δ ws h t =
-      ap (atRow r) (andThen-holds (typeOf Γ e) (λ n. limited (assignTo x (rootBasic n) Γ)) (h .0) (h .1)
-      ∙ limited-holds (assignTo x (rootBasic (h .0)) Γ) Δ (h .2) t)
-  typed-check c (choice r m) Γ Δ ws h t = typed-check r m Γ Δ ws h t
-  typed-check c (branch r a b m) Γ Δ ws h t =
-      next-holds _ _ Δ (next-holds _ _ (h .0) (typed-check c a Γ (h .0) (ws .0) (h .1) (within-before q b (h .0) Δ (ws .1) (h .2) t))
-      ∙ typed-check c b (h .0) Δ (ws .1) (h .2) t)
-      ∙ (next-holds _ _ Δ (typed-check c m Γ Δ (ws .2) (h .3) t) ∙ agreeing-passes c Δ)
-  typed-check c (lastBranch r a b) Γ Δ ws h t =
-      next-holds _ _ (h .0) (typed-check c a Γ (h .0) (ws .0) (h .1) (within-before q b (h .0) Δ (ws .1) (h .2) t))
-      ∙ typed-check c b (h .0) Δ (ws .1) (h .2) t
-  typed-check c (waiting r o x) Γ Δ ws h t = placed-passes r (permits q output true o) (place x (o .reply) Γ) Δ (h .0) (h .1) t
-  typed-check c (answering r o y d) Γ Δ ws h t =
-      next-holds _ _ Γ (ap (atRow r) (require-holds (permits q input true o) WrongOperation (yields Γ) (h .0)))
-      ∙ (next-holds _ _ Δ (typed-check c d Γ Δ (ws .1) (h .1) t) ∙ answers-passes r y Δ (o .reply) (h .2))
+  mutual
+    unfolding check Typed WellSorted
+
+    pub typed-check : (B : Behaviour) (Γ Δ : Types) → WellSorted B → Typed q B Γ Δ → T (within Δ) → check q B Γ ≡ passed Δ
+    typed-check (nil r) Γ Δ ws h t = ap passed h
+    typed-check (oneWay r o x) Γ Δ ws h t = placed-passes r (permits q input false o) (place x (o .request) Γ) Δ (h .0) (h .1) t
+    typed-check (requestResponse r o x y d) Γ Δ ws h t =
+        next-holds _ _ (h .1)
+        (placed-passes r (permits q input true o) (place x (o .request) Γ) (h .1) (h .0) (h .2) (within-before q d (h .1) Δ (ws .1) (h .3) t))
+        ∙ (next-holds _ _ Δ (typed-check d (h .1) Δ (ws .1) (h .3) t) ∙ answers-passes r y Δ (o .reply) (h .4))
+    typed-check (notification r o e) Γ Δ ws h t = sends-passes r (permits q output false o) Γ e (o .request) (h .0) (h .1) ∙ ap passed (h .2)
+    typed-check (solicitResponse r o e x) Γ Δ ws h t =
+        next-holds _ _ Γ (sends-passes r (permits q output true o) Γ e (o .request) (h .0) (h .1))
+        ∙ ap (atRow r) (limited-holds (place x (o .reply) Γ) Δ (h .2) t)
+    typed-check (ifThenElse r e a b) Γ Δ ws h t =
+        next-holds _ _ Γ (condition-passes r Γ e (h .0))
+        ∙ (next-holds _ _ Δ (typed-check a Γ Δ (ws .0) (h .1) t) ∙ (next-holds _ _ Δ (typed-check b Γ Δ (ws .1) (h .2) t) ∙ agreeing-passes r Δ))
+    typed-check (whileDo r e b) Γ Δ ws h t =
+        let t2 : T (within Γ) = subst (λ (z : Types). T (within z)) (sym (h .2)) t in
+        next-holds _ _ Γ (condition-passes r Γ e (h .0))
+        ∙ (next-holds _ _ Γ (typed-check b Γ Γ ws (h .1) t2) ∙ (agreeing-passes r Γ ∙ ap passed (h .2)))
+    typed-check (sequence r a b) Γ Δ ws h t =
+        next-holds _ _ (h .0) (typed-check a Γ (h .0) (ws .0) (h .1) (within-before q b (h .0) Δ (ws .1) (h .2) t))
+        ∙ typed-check b (h .0) Δ (ws .1) (h .2) t
+    typed-check (parallel r a b) Γ Δ ws h t =
+        next-holds _ _ Γ (ap (atRow r) (require-holds (noSharedRoot a b) SharedRoot (yields Γ) (no-shared-complete a b (h .0))))
+        ∙ (next-holds _ _ (h .1) (typed-check a Γ (h .1) (ws .0) (h .2) (within-before q b (h .1) Δ (ws .1) (h .3) t))
+        ∙ typed-check b (h .1) Δ (ws .1) (h .3) t)
+    typed-check (assign r x e) Γ Δ ws h t =
+        ap (atRow r) (andThen-holds (typeOf Γ e) (λ n. limited (assignTo x (rootBasic n) Γ)) (h .0) (h .1)
+        ∙ limited-holds (assignTo x (rootBasic (h .0)) Γ) Δ (h .2) t)
+    typed-check (choice r m) Γ Δ ws h t = typed-check-branches r m Γ Δ ws h t
+    typed-check (waiting r o x) Γ Δ ws h t = placed-passes r (permits q output true o) (place x (o .reply) Γ) Δ (h .0) (h .1) t
+    typed-check (answering r o y d) Γ Δ ws h t =
+        next-holds _ _ Γ (ap (atRow r) (require-holds (permits q input true o) WrongOperation (yields Γ) (h .0)))
+        ∙ (next-holds _ _ Δ (typed-check d Γ Δ (ws .1) (h .1) t) ∙ answers-passes r y Δ (o .reply) (h .2))
+
+    typed-check-branches : (c : ℕ) (m : Branches) (Γ Δ : Types) → WellSortedBranches m → TypedBranches q m Γ Δ → T (within Δ)
+        → checkBranches q c m Γ ≡ passed Δ
+    typed-check-branches c (lastBranch r a b) Γ Δ ws h t =
+        next-holds _ _ (h .0) (typed-check a Γ (h .0) (ws .0) (h .1) (within-before q b (h .0) Δ (ws .1) (h .2) t))
+        ∙ typed-check b (h .0) Δ (ws .1) (h .2) t
+    typed-check-branches c (branch r a b m) Γ Δ ws h t =
+        next-holds _ _ Δ (next-holds _ _ (h .0) (typed-check a Γ (h .0) (ws .0) (h .1) (within-before q b (h .0) Δ (ws .1) (h .2) t))
+        ∙ typed-check b (h .0) Δ (ws .1) (h .2) t)
+        ∙ (next-holds _ _ Δ (typed-check-branches c m Γ Δ (ws .2) (h .3) t) ∙ agreeing-passes c Δ)
 
   -- What the checker passes stays within the limits.
-  pub check-within : (c : ℕ) (B : Behaviour) (Γ Δ : Types) → T (within Γ) → check q c B Γ ≡ passed Δ → T (within Δ)
-  unfolding check
-  check-within c (nil r) Γ Δ t h = subst (λ (z : Types). T (within z)) (passed-inj h) t
-  check-within c (oneWay r o x) Γ Δ t h = placed-yields r (permits q input false o) (place x (o .request) Γ) Δ h .2
-  check-within c (requestResponse r o x y d) Γ Δ t h =
-      let u = next-passed _ _ Δ h in
-      let v = next-passed _ _ Δ (u .2) in
-      let p = placed-yields r (permits q input true o) (place x (o .request) Γ) (u .0) (u .1) in
-      let s = answers-yields y (v .0) Δ (o .reply) (atRow-passed r _ Δ (v .2)) in
-      subst (λ (z : Types). T (within z)) (s .1) (check-within c d (u .0) (v .0) (p .2) (v .1))
-  check-within c (notification r o e) Γ Δ t h =
-      let u = require-yields (permits q output false o) WrongOperation (sends Γ e (o .request)) (atRow-passed r _ Δ h) in
-      subst (λ (z : Types). T (within z)) (sends-yields Γ Δ e (o .request) (u .1) .1) t
-  check-within c (solicitResponse r o e x) Γ Δ t h = let u =
-      next-passed _ _ Δ h in limited-yields (place x (o .reply) Γ) Δ (atRow-passed r _ Δ (u .2)) .1
-  check-within c (ifThenElse r e a b) Γ Δ t h =
-      let u = next-passed _ _ Δ h in
-      let v = next-passed _ _ Δ (u .2) in
-      let w = next-passed _ _ Δ (v .2) in
-      subst (λ (z : Types). T (within z)) (agreeing-yields r (w .0) (v .0) Δ (w .2) .1) (check-within c a Γ (v .0) t (v .1))
-  check-within c (whileDo r e b) Γ Δ t h =
-      let u = next-passed _ _ Δ h in
-      let v = next-passed _ _ Δ (u .2) in
-      subst (λ (z : Types). T (within z)) (agreeing-yields r (v .0) Γ Δ (v .2) .1) t
-  check-within c (sequence r a b) Γ Δ t h = let u = next-passed _ _ Δ h in check-within c b (u .0) Δ (check-within c a Γ (u .0) t (u .1)) (u .2)
-  check-within c (parallel r a b) Γ Δ t h =
-      let z = next-passed _ _ Δ h in let u = next-passed _ _ Δ (z .2) in check-within c b (u .0) Δ (check-within c a Γ (u .0) t (u .1)) (u .2)
-  check-within c (assign r x e) Γ Δ t h =
-      let u = andThen-yields (typeOf Γ e) (λ n. limited (assignTo x (rootBasic n) Γ)) (atRow-passed r _ Δ h) in limited-yields
-      (assignTo x (rootBasic (u .0)) Γ) Δ (u .2) .1
-  check-within c (choice r m) Γ Δ t h = check-within r m Γ Δ t h
-  check-within c (branch r a b m) Γ Δ t h =
-      let u = next-passed _ _ Δ h in
-      let w = next-passed _ _ Δ (u .2) in
-      let s = agreeing-yields c (w .0) (u .0) Δ (w .2) in
-      subst (λ (z : Types). T (within z)) (s .0) (check-within c m Γ (w .0) t (w .1))
-  check-within c (lastBranch r a b) Γ Δ t h = let u = next-passed _ _ Δ h in check-within c b (u .0) Δ (check-within c a Γ (u .0) t (u .1)) (u .2)
-  check-within c (waiting r o x) Γ Δ t h = placed-yields r (permits q output true o) (place x (o .reply) Γ) Δ h .2
-  check-within c (answering r o y d) Γ Δ t h =
-      let u = next-passed _ _ Δ h in
-      let v = next-passed _ _ Δ (u .2) in
-      let s = answers-yields y (v .0) Δ (o .reply) (atRow-passed r _ Δ (v .2)) in
-      subst (λ (z : Types). T (within z)) (s .1) (check-within c d Γ (v .0) t (v .1))
+  mutual
+    unfolding check
+
+    pub check-within : (B : Behaviour) (Γ Δ : Types) → T (within Γ) → check q B Γ ≡ passed Δ → T (within Δ)
+    check-within (nil r) Γ Δ t h = subst (λ (z : Types). T (within z)) (passed-inj h) t
+    check-within (oneWay r o x) Γ Δ t h = placed-yields r (permits q input false o) (place x (o .request) Γ) Δ h .2
+    check-within (requestResponse r o x y d) Γ Δ t h =
+        let u = next-passed _ _ Δ h in
+        let v = next-passed _ _ Δ (u .2) in
+        let p = placed-yields r (permits q input true o) (place x (o .request) Γ) (u .0) (u .1) in
+        let s = answers-yields y (v .0) Δ (o .reply) (atRow-passed r _ Δ (v .2)) in
+        subst (λ (z : Types). T (within z)) (s .1) (check-within d (u .0) (v .0) (p .2) (v .1))
+    check-within (notification r o e) Γ Δ t h =
+        let u = require-yields (permits q output false o) WrongOperation (sends Γ e (o .request)) (atRow-passed r _ Δ h) in
+        subst (λ (z : Types). T (within z)) (sends-yields Γ Δ e (o .request) (u .1) .1) t
+    check-within (solicitResponse r o e x) Γ Δ t h = let u =
+        next-passed _ _ Δ h in limited-yields (place x (o .reply) Γ) Δ (atRow-passed r _ Δ (u .2)) .1
+    check-within (ifThenElse r e a b) Γ Δ t h =
+        let u = next-passed _ _ Δ h in
+        let v = next-passed _ _ Δ (u .2) in
+        let w = next-passed _ _ Δ (v .2) in
+        subst (λ (z : Types). T (within z)) (agreeing-yields r (w .0) (v .0) Δ (w .2) .1) (check-within a Γ (v .0) t (v .1))
+    check-within (whileDo r e b) Γ Δ t h =
+        let u = next-passed _ _ Δ h in
+        let v = next-passed _ _ Δ (u .2) in
+        subst (λ (z : Types). T (within z)) (agreeing-yields r (v .0) Γ Δ (v .2) .1) t
+    check-within (sequence r a b) Γ Δ t h = let u = next-passed _ _ Δ h in check-within b (u .0) Δ (check-within a Γ (u .0) t (u .1)) (u .2)
+    check-within (parallel r a b) Γ Δ t h =
+        let z = next-passed _ _ Δ h in let u = next-passed _ _ Δ (z .2) in check-within b (u .0) Δ (check-within a Γ (u .0) t (u .1)) (u .2)
+    check-within (assign r x e) Γ Δ t h =
+        let u = andThen-yields (typeOf Γ e) (λ n. limited (assignTo x (rootBasic n) Γ)) (atRow-passed r _ Δ h) in limited-yields
+        (assignTo x (rootBasic (u .0)) Γ) Δ (u .2) .1
+    check-within (choice r m) Γ Δ t h = check-within-branches r m Γ Δ t h
+    check-within (waiting r o x) Γ Δ t h = placed-yields r (permits q output true o) (place x (o .reply) Γ) Δ h .2
+    check-within (answering r o y d) Γ Δ t h =
+        let u = next-passed _ _ Δ h in
+        let v = next-passed _ _ Δ (u .2) in
+        let s = answers-yields y (v .0) Δ (o .reply) (atRow-passed r _ Δ (v .2)) in
+        subst (λ (z : Types). T (within z)) (s .1) (check-within d Γ (v .0) t (v .1))
+
+    check-within-branches : (c : ℕ) (m : Branches) (Γ Δ : Types) → T (within Γ) → checkBranches q c m Γ ≡ passed Δ → T (within Δ)
+    check-within-branches c (lastBranch r a b) Γ Δ t h =
+        let u = next-passed _ _ Δ h in check-within b (u .0) Δ (check-within a Γ (u .0) t (u .1)) (u .2)
+    check-within-branches c (branch r a b m) Γ Δ t h =
+        let u = next-passed _ _ Δ h in
+        let w = next-passed _ _ Δ (u .2) in
+        let s = agreeing-yields c (w .0) (u .0) Δ (w .2) in
+        subst (λ (z : Types). T (within z)) (s .0) (check-within-branches c m Γ (w .0) t (w .1))

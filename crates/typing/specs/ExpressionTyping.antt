@@ -3,31 +3,28 @@
 -- Negate, add, subtract, less: int, long or double, both alike. Equal: alike, not void".
 -- Order: "operands a before b, the expression's rule". Less, equal, presence, not and and give bool; negate, add and
 -- subtract the operands' type.
-use mathlib.Core.Bool.{Bool, not, _&&_, _||_}
+use mathlib.Core.Bool.{not, _&&_}
 use Prim.Native.Nat.{ℕ}
 use lib.Dec.{eqb}
 use Rattle.refusal.specs.declared.Refusal.the-variants.{PathNotFirm, OperandType}
-use Rattle.scalar.specs.Basic.{bool, int, double, long, void}
+use Rattle.scalar.specs.Basic.{bool, void}
 use Rattle.scalar.specs.Value.{basicOf}
+use Rattle.scalar.specs.Operator.{isNumber}
 use Rattle.syntax.specs.Syntax.{Types, MessageType, Unary, logicalNot, negate, Binary, add, subtract, less, equal, logicalAnd, Expression}
 use Rattle.syntax.specs.Syntax.{constant, valueAt, presence, unary, binary}
 use Rattle.subtyping.specs.Subtype.{rootBasic}
 use Rattle.typing.specs.Result.{Result, yields, require, andThen}
 use Rattle.typing.specs.Environment.{isIn, readFirm, leaf}
 
--- "int, long or double"
-abbrev pub numeric : ℕ → Bool
-numeric b = eqb b int || (eqb b long || eqb b double)
-
 -- An operator's rule over its operands' basic types; 8: "An operand or condition has a wrong basic type."
 abbrev pub unaryType : Unary → ℕ → Result MessageType
 unaryType logicalNot b = require (eqb b bool) OperandType (yields (leaf bool))
-unaryType negate b = require (numeric b) OperandType (yields (leaf b))
+unaryType negate b = require (isNumber b) OperandType (yields (leaf b))
 
 abbrev pub binaryType : Binary → ℕ → ℕ → Result MessageType
-binaryType add b c = require (numeric b && eqb b c) OperandType (yields (leaf b))
-binaryType subtract b c = require (numeric b && eqb b c) OperandType (yields (leaf b))
-binaryType less b c = require (numeric b && eqb b c) OperandType (yields (leaf bool))
+binaryType add b c = require (isNumber b && eqb b c) OperandType (yields (leaf b))
+binaryType subtract b c = require (isNumber b && eqb b c) OperandType (yields (leaf b))
+binaryType less b c = require (isNumber b && eqb b c) OperandType (yields (leaf bool))
 binaryType equal b c = require (not (eqb b void) && eqb b c) OperandType (yields (leaf bool))
 binaryType logicalAnd b c = require (eqb b bool && eqb c bool) OperandType (yields (leaf bool))
 

@@ -1,5 +1,7 @@
 pub mod Result
 pub mod Environment
+pub mod ExpressionRules
+pub mod ExpressionRulesLaws
 pub mod ExpressionTyping
 pub mod Occurs
 pub mod Rules

@@ -1,24 +1,25 @@
 -- The checker of a network: 01's refusals 6 to 13. "Services go by row, starter first, outputs last." Numbers 6 to 12 are
 -- placed at a B row, 13 at the output's O row. The environments of each service, or number and place of the first refusal.
 use mathlib.Core.List.{List, [], _∷_}
-use mathlib.Core.Bool.{Bool, true, false, _&&_, _||_}
+use mathlib.Core.Bool.{Bool, true, false, _&&_}
 use Prim.Native.Nat.{ℕ, suc}
 use lib.Dec.{eqb}
 use Rattle.forest.specs.Forest.{end, node, tree, Lookup, absent, present, find}
 use Rattle.refusal.specs.declared.Refusal.the-variants.{EnvironmentsDiffer, OutputMismatch}
-use Rattle.syntax.specs.Syntax.{Mark, mark, Types, MessageType, input, output, Operation, Behaviour, Optional, none, some, Service, Network}
+use Rattle.syntax.specs.Syntax.{Mark, mark, Types, MessageType, output, Operation, Behaviour, Optional, none, some, Service, Network}
 use Rattle.syntax.specs.Rows.{rowOf}
+use Rattle.syntax.specs.Meets.{inFile, metInput}
 use Rattle.subtyping.specs.Subtype.{implies, isSubtype}
 use Rattle.typing.specs.Result.{Result, yields, require, Checked, passed, atRow, next}
 use Rattle.typing.specs.Environment.{within}
-use Rattle.typing.specs.Rules.{sameBool, sameDirection, permits}
+use Rattle.typing.specs.Rules.{sameBool, sameDirection}
 use Rattle.typing.specs.Checker.{sameTypes, limited, check}
 use Rattle.typing.specs.NetworkRules.{branchesOf, unionOf, Environments}
 
 -- Each behaviour from the empty environment, one after the other.
 unfoldable pub checkEach : ℕ → List Behaviour → Checked (List Types)
 checkEach q [] = passed []
-checkEach q (B ∷ Bs) = next (check q (rowOf B) B end) (λ Γ. next (checkEach q Bs) (λ Γs. passed (Γ ∷ Γs)))
+checkEach q (B ∷ Bs) = next (check q B end) (λ Γ. next (checkEach q Bs) (λ Γs. passed (Γ ∷ Γs)))
 
 -- A root t, where the other environment binds it: the same tree.
 abbrev pub sameTree : MessageType → MessageType → Bool
@@ -47,7 +48,7 @@ checkStarter q B = next (checkEach q (branchesOf B)) (λ Γs. atRow (rowOf B) (r
 
 -- A client. (A client's choice is an ordinary one.)
 abbrev pub checkClient : ℕ → Behaviour → Checked Types
-checkClient q B = check q (rowOf B) B end
+checkClient q B = check q B end
 
 abbrev pub ifThere : (Behaviour → Checked Types) → Optional Behaviour → Checked (Optional Types)
 ifThere f none = passed none
@@ -61,28 +62,23 @@ checkServices q (s ∷ ss) =
     (λ Γ. next (ifThere (checkClient q) (s .client))
     (λ Δ. next (checkServices (suc q) ss) (λ Es. passed (record { starter = Γ; client = Δ } ∷ Es))))
 
--- Does the output o meet the input i of the service row q?
-abbrev pub meets : ℕ → Operation → Operation → Bool
-meets q o i =
-    permits q input (o .twoWay) i
-    && (eqb (i .id) (o .id) && (isSubtype (o .request) (i .request) && implies (o .twoWay) (isSubtype (i .reply) (o .reply))))
+-- Does the output o agree with the input i?
+abbrev pub agrees : Operation → Operation → Bool
+agrees o i = isSubtype (o .request) (i .request) && implies (o .twoWay) (isSubtype (i .reply) (o .reply))
 
-unfoldable pub meetsOne : ℕ → Operation → List Operation → Bool
-meetsOne q o [] = false
-meetsOne q o (i ∷ l) = meets q o i || meetsOne q o l
+abbrev pub agreesWith : Operation → Optional Operation → Bool
+agreesWith o none = false
+agreesWith o (some i) = agrees o i
 
-unfoldable pub meetsAt : List Operation → Operation → ℕ → List Service → Bool
-meetsAt os o q [] = true
-meetsAt os o q (s ∷ ss) = implies (eqb (s .location) (o .location)) (meetsOne q o os) && meetsAt os o (suc q) ss
+-- Does the operation, if it is an output to a location in the file, meet an input there and agree with it?
+abbrev pub outputMeets : Network → Operation → Bool
+outputMeets N o = implies (sameDirection (o .direction) output) (implies (inFile N (o .location)) (agreesWith o (metInput N o)))
 
 -- The outputs of l in order. 13: "An output and its input disagree (place: the output's O row)."
-unfoldable pub checkOutputs : List Service → List Operation → List Operation → Checked (Unit {0})
-checkOutputs ss os [] = passed (tt {0})
-checkOutputs ss os (o ∷ l) =
-    next (atRow (o .row) (require (implies (sameDirection (o .direction) output) (meetsAt os o 0 ss)) OutputMismatch (yields (tt {0}))))
-    (λ u. checkOutputs ss os l)
+unfoldable pub checkOutputs : Network → List Operation → Checked (Unit {0})
+checkOutputs N [] = passed (tt {0})
+checkOutputs N (o ∷ l) = next (atRow (o .row) (require (outputMeets N o) OutputMismatch (yields (tt {0})))) (λ u. checkOutputs N l)
 
 -- The whole checker after refusals 2 to 5.
 unfoldable pub checkNetwork : Network → Checked (List Environments)
-checkNetwork N =
-    next (checkServices 0 (N .services)) (λ Es. next (checkOutputs (N .services) (N .operations) (N .operations)) (λ u. passed Es))
+checkNetwork N = next (checkServices 0 (N .services)) (λ Es. next (checkOutputs N (N .operations)) (λ u. passed Es))

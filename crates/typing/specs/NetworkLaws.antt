@@ -2,7 +2,7 @@
 -- one list of environments.
 use mathlib.Core.Path.{_≡_, refl, sym, ap, subst, _∙_}
 use mathlib.Core.List.{List, [], _∷_}
-use mathlib.Core.Bool.{Bool, true, false, _&&_, _||_}
+use mathlib.Core.Bool.{Bool, true, false, _&&_}
 use Prim.Native.Nat.{ℕ, suc, _≤_, _<_}
 use native.Mathlib.Omega.{arith}
 use lib.Dec.{T, eqb, eqb→eq, eqb-refl}
@@ -10,27 +10,28 @@ use Rattle.forest.specs.Compare.{Compare, lt, eq, gt, compare, T-of, of-T, and-
 use Rattle.forest.specs.Forest.{Forest, end, node, tree, Lookup, absent, present, find, findBy, set, Above, Rising, RisingTree, measure}
 use Rattle.forest.specs.ForestLaws.{find-eq, find-gt, find-set-same, find-set-other, rising-set}
 use Rattle.refusal.specs.declared.Refusal.the-variants.{EnvironmentsDiffer, EnvironmentTooLarge, OutputMismatch}
-use Rattle.syntax.specs.Syntax.{Mark, mark, Types, MessageType, Direction, input, output, Operation, Behaviour, nil, oneWay}
-use Rattle.syntax.specs.Syntax.{requestResponse, notification, solicitResponse, ifThenElse, whileDo, sequence, parallel, assign, choice}
-use Rattle.syntax.specs.Syntax.{branch, lastBranch, waiting, answering, Optional, none, some, Service, Network}
-use Rattle.syntax.specs.Rows.{rowOf}
+use Rattle.scalar.specs.Value.{pick}
+use Rattle.syntax.specs.Syntax.{Mark, mark, Types, MessageType, Direction, input, output, Operation, Behaviour, Branches, lastBranch, branch}
+use Rattle.syntax.specs.Syntax.{Optional, none, some, Service, Network}
+use Rattle.syntax.specs.Rows.{rowOf, Choice, choiceOf}
+use Rattle.syntax.specs.ViewLaws.{choice-is}
+use Rattle.syntax.specs.Meets.{inFile, meets, firstOf, metInput}
 use Rattle.subtyping.specs.Subtype.{implies, isSubtype, Subtype}
 use Rattle.subtyping.specs.SubtypeLaws.{find-above, implies-elim, implies-intro, subtype-sound, subtype-complete}
 use Rattle.typing.specs.Result.{Result, yields, require, Checked, passed, atRow, next}
 use Rattle.typing.specs.ResultLaws.{yields-inj, passed-inj, require-yields, require-holds, atRow-passed, next-passed, next-holds}
 use Rattle.typing.specs.Environment.{within}
 use Rattle.typing.specs.EnvironmentLaws.{present-inj}
-use Rattle.typing.specs.OccursLaws.{or-l, or-r}
-use Rattle.typing.specs.Rules.{sameBool, sameDirection, permits, Derives, RisingOperation, WellSorted}
+use Rattle.typing.specs.Rules.{sameBool, sameDirection, Derives, RisingOperation, WellSorted, WellSortedBranches}
 use Rattle.typing.specs.Checker.{sameTypes, limited, check}
 use Rattle.typing.specs.CheckerLaws.{sameBool-eq, sameBool-refl, sameTypes-eq, sameTypes-refl}
 use Rattle.typing.specs.DerivesLaws.{check-derives, derives-check, derives-rising}
-use Rattle.typing.specs.NetworkRules.{branchesOf, DerivesEach, OneType, OneTypeWith, OneTypeEach, union, unionOf, DerivesStarter}
-use Rattle.typing.specs.NetworkRules.{DerivesClient, IfThere, Environments, DerivesServices, Meets, MeetsOne, first, later, MeetsAt}
+use Rattle.typing.specs.NetworkRules.{sequencesOf, ofChoice, branchesOf, DerivesEach, OneType, OneTypeWith, OneTypeEach, union, unionOf, DerivesStarter}
+use Rattle.typing.specs.NetworkRules.{DerivesClient, IfThere, Environments, DerivesServices, Agrees, AgreesWith}
 use Rattle.typing.specs.NetworkRules.{OutputsMeet, DerivesNetwork, WellSortedIfThere, WellSortedServices, RisingOperations}
 use Rattle.typing.specs.NetworkRules.{WellSortedNetwork}
 use Rattle.typing.specs.NetworkChecker.{checkEach, sameTree, oneTypeAt, oneType, oneTypeWith, oneTypeEach, checkStarter}
-use Rattle.typing.specs.NetworkChecker.{checkClient, ifThere, checkServices, meets, meetsOne, meetsAt, checkOutputs, checkNetwork}
+use Rattle.typing.specs.NetworkChecker.{checkClient, ifThere, checkServices, agrees, agreesWith, outputMeets, checkOutputs, checkNetwork}
 
 -- The empty environment.
 pub end-rising : Rising {A = Mark} end
@@ -181,23 +182,18 @@ unfoldable AllSorted : List Behaviour → Type 0
 AllSorted [] = Unit {0}
 AllSorted (B ∷ Bs) = WellSorted B × AllSorted Bs
 
+sequences-sorted : (m : Branches) → WellSortedBranches m → AllSorted (sequencesOf m)
+unfolding sequencesOf WellSorted AllSorted
+sequences-sorted (lastBranch r a b) ws = (ws, tt)
+sequences-sorted (branch r a b m) ws = ((ws .0, ws .1), sequences-sorted m (ws .2))
+
 branches-sorted : (B : Behaviour) → WellSorted B → AllSorted (branchesOf B)
 unfolding branchesOf WellSorted AllSorted
-branches-sorted (nil r) ws = tt
-branches-sorted (oneWay r o x) ws = tt
-branches-sorted (requestResponse r o x c d) ws = tt
-branches-sorted (notification r o e) ws = tt
-branches-sorted (solicitResponse r o e x) ws = tt
-branches-sorted (ifThenElse r e a b) ws = tt
-branches-sorted (whileDo r e b) ws = tt
-branches-sorted (sequence r a b) ws = tt
-branches-sorted (parallel r a b) ws = tt
-branches-sorted (assign r x e) ws = tt
-branches-sorted (choice r m) ws = branches-sorted m ws
-branches-sorted (branch r a b m) ws = ((ws .0, ws .1), branches-sorted m (ws .2))
-branches-sorted (lastBranch r a b) ws = (ws, tt)
-branches-sorted (waiting r o x) ws = tt
-branches-sorted (answering r o c d) ws = tt
+branches-sorted B ws = go (choiceOf B) refl
+  where
+    go : (c : Optional Choice) → choiceOf B ≡ c → AllSorted (ofChoice c)
+    go none e = tt
+    go (some c) e = sequences-sorted (c .branches) (subst WellSorted (choice-is B c e) ws)
 
 limited-yields : (Γ Δ : Types) → limited (yields Γ) ≡ yields Δ → (Γ ≡ Δ) × T (within Δ)
 limited-yields Γ Δ h =
@@ -209,16 +205,16 @@ module _ (q : ℕ) where
   unfolding checkEach DerivesEach AllSorted
   each-sound [] Γs ws h = sym (passed-inj h)
   each-sound (B ∷ Bs) Γs ws h =
-      let u = next-passed (check q (rowOf B) B end) (λ Γ. next (checkEach q Bs) (λ Δs. passed (Γ ∷ Δs))) Γs h in
+      let u = next-passed (check q B end) (λ Γ. next (checkEach q Bs) (λ Δs. passed (Γ ∷ Δs))) Γs h in
       let v = next-passed (checkEach q Bs) (λ Δs. passed (u .0 ∷ Δs)) Γs (u .2) in
-      (u .0, v .0, check-derives q (rowOf B) B end (u .0) (ws .0) end-within (u .1), each-sound Bs (v .0) (ws .1) (v .1), sym (passed-inj (v .2)))
+      (u .0, v .0, check-derives q B end (u .0) (ws .0) end-within (u .1), each-sound Bs (v .0) (ws .1) (v .1), sym (passed-inj (v .2)))
 
   each-complete : (Bs : List Behaviour) (Γs : List Types) → AllSorted Bs → DerivesEach q Bs Γs → checkEach q Bs ≡ passed Γs
   unfolding checkEach DerivesEach AllSorted
   each-complete [] Γs ws h = ap passed (sym h)
   each-complete (B ∷ Bs) Γs ws h =
-      next-holds (check q (rowOf B) B end) (λ Γ. next (checkEach q Bs) (λ Δs. passed (Γ ∷ Δs))) (h .0)
-      (derives-check q (rowOf B) B end (h .0) (ws .0) end-rising end-within (h .2))
+      next-holds (check q B end) (λ Γ. next (checkEach q Bs) (λ Δs. passed (Γ ∷ Δs))) (h .0)
+      (derives-check q B end (h .0) (ws .0) end-rising end-within (h .2))
       ∙ (next-holds (checkEach q Bs) (λ Δs. passed (h .0 ∷ Δs)) (h .1) (each-complete Bs (h .1) (ws .1) (h .3)) ∙ ap passed (sym (h .4)))
 
   each-rising : (Bs : List Behaviour) (Γs : List Types) → AllSorted Bs → DerivesEach q Bs Γs → AllRising Γs
@@ -254,10 +250,10 @@ module _ (q : ℕ) where
       subst Rising (h .3) (unionOf-rising (h .0) (each-rising (branchesOf B) (h .0) (branches-sorted B ws) (h .1)))
 
   client-sound : (B : Behaviour) (Γ : Types) → WellSorted B → checkClient q B ≡ passed Γ → DerivesClient q B Γ
-  client-sound B Γ ws h = check-derives q (rowOf B) B end Γ ws end-within h
+  client-sound B Γ ws h = check-derives q B end Γ ws end-within h
 
   client-complete : (B : Behaviour) (Γ : Types) → WellSorted B → DerivesClient q B Γ → checkClient q B ≡ passed Γ
-  client-complete B Γ ws h = derives-check q (rowOf B) B end Γ ws end-rising end-within h
+  client-complete B Γ ws h = derives-check q B end Γ ws end-rising end-within h
 
 -- Services -----------------------------------------------------------------------------------------------------------
 
@@ -308,65 +304,48 @@ services-complete q (s ∷ ss) Es ws h =
 
 -- Outputs ------------------------------------------------------------------------------------------------------------
 
-meets-sound : (q : ℕ) (o i : Operation) → T (meets q o i) → Meets q o i
-meets-sound q o i h =
-    let p = permits q input (o .twoWay) i in
-    let a = eqb (i .id) (o .id) in
-    let b = isSubtype (o .request) (i .request) in
-    let c = implies (o .twoWay) (isSubtype (i .reply) (o .reply)) in
-    let h1 = and-r p (a && (b && c)) h in
-    let h2 = and-r a (b && c) h1 in
+agrees-sound : (o i : Operation) → T (agrees o i) → Agrees o i
+agrees-sound o i h =
+    let a = isSubtype (o .request) (i .request) in
+    let b = implies (o .twoWay) (isSubtype (i .reply) (o .reply)) in
     record {
-      there = and-l p (a && (b && c)) h;
-      sameId = eqb→eq (i .id) (o .id) (and-l a (b && c) h1);
-      requests = subtype-sound (o .request) (i .request) (and-l b c h2);
-      replies = λ e. subtype-sound (i .reply) (o .reply) (implies-elim (o .twoWay) (isSubtype (i .reply) (o .reply)) (and-r b c h2) (T-of e));
+      requests = subtype-sound (o .request) (i .request) (and-l a b h);
+      replies = λ e. subtype-sound (i .reply) (o .reply) (implies-elim (o .twoWay) (isSubtype (i .reply) (o .reply)) (and-r a b h) (T-of e));
     }
 
-meets-complete : (q : ℕ) (o i : Operation) → RisingOperation o → RisingOperation i → Meets q o i → T (meets q o i)
-meets-complete q o i wo wi h =
-    let p = permits q input (o .twoWay) i in
-    let a = eqb (i .id) (o .id) in
-    let b = isSubtype (o .request) (i .request) in
-    let c = implies (o .twoWay) (isSubtype (i .reply) (o .reply)) in
-    and-i p (a && (b && c)) (h .there)
-    (and-i a (b && c) (subst (λ (z : ℕ). T (eqb (i .id) z)) (h .sameId) (eqb-refl (i .id)))
-    (and-i b c (subtype-complete (o .request) (i .request) (wo .0) (wi .0) (h .requests))
+agrees-complete : (o i : Operation) → RisingOperation o → RisingOperation i → Agrees o i → T (agrees o i)
+agrees-complete o i wo wi h =
+    and-i (isSubtype (o .request) (i .request)) (implies (o .twoWay) (isSubtype (i .reply) (o .reply)))
+    (subtype-complete (o .request) (i .request) (wo .0) (wi .0) (h .requests))
     (implies-intro (o .twoWay) (isSubtype (i .reply) (o .reply))
-    (λ t. subtype-complete (i .reply) (o .reply) (wi .1) (wo .1) (h .replies (of-T (o .twoWay) t))))))
+    (λ t. subtype-complete (i .reply) (o .reply) (wi .1) (wo .1) (h .replies (of-T (o .twoWay) t))))
 
-or-case : (a b : Bool) {X : Type 0} → (T a → X) → (T b → X) → T (a || b) → X
-or-case true b f g t = f tt
-or-case false b f g t = g t
+met-sound : (o : Operation) (m : Optional Operation) → T (agreesWith o m) → AgreesWith o m
+met-sound o none h = absurd h
+met-sound o (some i) h = agrees-sound o i h
 
-one-sound : (q : ℕ) (o : Operation) (l : List Operation) → T (meetsOne q o l) → MeetsOne q o l
-unfolding meetsOne
-one-sound q o [] h = absurd h
-one-sound q o (i ∷ l) h = or-case (meets q o i) (meetsOne q o l) (λ t. first (meets-sound q o i t)) (λ t. later (one-sound q o l t)) h
+-- The types of the input that is met.
+RisingIfMet : Optional Operation → Type 0
+RisingIfMet none = Unit {0}
+RisingIfMet (some i) = RisingOperation i
 
-one-complete : (q : ℕ) (o : Operation) (l : List Operation) → RisingOperation o → RisingOperations l → MeetsOne q o l → T (meetsOne q o l)
-unfolding meetsOne RisingOperations
-one-complete q o (i ∷ l) wo w (first h) = or-l (meets q o i) (meetsOne q o l) (meets-complete q o i wo (w .0) h)
-one-complete q o (i ∷ l) wo w (later h) = or-r (meets q o i) (meetsOne q o l) (one-complete q o l wo (w .1) h)
+met-complete : (o : Operation) (m : Optional Operation) → RisingOperation o → RisingIfMet m → AgreesWith o m → T (agreesWith o m)
+unfolding RisingIfMet
+met-complete o none wo w h = absurd h
+met-complete o (some i) wo w h = agrees-complete o i wo w h
 
-at-loc-sound : (os : List Operation) (o : Operation) (q : ℕ) (ss : List Service) → T (meetsAt os o q ss) → MeetsAt os o q ss
-unfolding meetsAt MeetsAt
-at-loc-sound os o q [] h = tt
-at-loc-sound os o q (s ∷ ss) h =
-    let a = implies (eqb (s .location) (o .location)) (meetsOne q o os) in (
-      (λ e. one-sound q o os (implies-elim (eqb (s .location) (o .location)) (meetsOne q o os) (and-l a (meetsAt os o (suc q) ss) h)
-          (subst (λ (z : ℕ). T (eqb (s .location) z)) e (eqb-refl (s .location))))),
-      at-loc-sound os o (suc q) ss (and-r a (meetsAt os o (suc q) ss) h),
-    )
+first-rising : (test : Operation → Bool) (l : List Operation) → RisingOperations l → RisingIfMet (firstOf test l)
+unfolding RisingIfMet RisingOperations firstOf
+first-rising test [] w = tt
+first-rising test (i ∷ l) w = go (test i) (w .0) (first-rising test l (w .1))
+  where
+    go : (t : Bool) → RisingOperation i → RisingIfMet (firstOf test l) → RisingIfMet (pick t (some i) (firstOf test l))
+    go true a b = a
+    go false a b = b
 
-at-loc-complete : (os : List Operation) (o : Operation) (q : ℕ) (ss : List Service) → RisingOperation o → RisingOperations os → MeetsAt os o q ss
-    → T (meetsAt os o q ss)
-unfolding meetsAt MeetsAt
-at-loc-complete os o q [] wo w h = tt
-at-loc-complete os o q (s ∷ ss) wo w h =
-    and-i (implies (eqb (s .location) (o .location)) (meetsOne q o os)) (meetsAt os o (suc q) ss)
-    (implies-intro (eqb (s .location) (o .location)) (meetsOne q o os) (λ t. one-complete q o os wo w (h .0 (eqb→eq (s .location) (o .location) t))))
-    (at-loc-complete os o (suc q) ss wo w (h .1))
+met-rising : (N : Network) (o : Operation) → RisingOperations (N .operations) → RisingIfMet (metInput N o)
+unfolding metInput
+met-rising N o w = first-rising (meets N o) (N .operations) w
 
 is-output : (d : Direction) → T (sameDirection d output) → d ≡ output
 is-output input t = absurd t
@@ -375,49 +354,50 @@ is-output output t = refl
 output-is : (d : Direction) → d ≡ output → T (sameDirection d output)
 output-is d e = subst (λ (z : Direction). T (sameDirection z output)) (sym e) tt
 
-outputs-sound : (ss : List Service) (os l : List Operation) (u : Unit {0}) → checkOutputs ss os l ≡ passed u → OutputsMeet ss os l
+outputs-sound : (N : Network) (l : List Operation) (u : Unit {0}) → checkOutputs N l ≡ passed u → OutputsMeet N l
 unfolding checkOutputs OutputsMeet
-outputs-sound ss os [] u h = tt
-outputs-sound ss os (o ∷ l) u h =
-    let t = implies (sameDirection (o .direction) output) (meetsAt os o 0 ss) in
-    let v = next-passed (atRow (o .row) (require t OutputMismatch (yields (tt {0})))) (λ u. checkOutputs ss os l) u h in
-    let w = require-yields t OutputMismatch (yields (tt {0})) (atRow-passed (o .row) _ (v .0) (v .1)) in (
-      (λ e. at-loc-sound os o 0 ss (implies-elim (sameDirection (o .direction) output) (meetsAt os o 0 ss) (w .0) (output-is (o .direction) e))),
-      outputs-sound ss os l u (v .2),
+outputs-sound N [] u h = tt
+outputs-sound N (o ∷ l) u h =
+    let a = implies (inFile N (o .location)) (agreesWith o (metInput N o)) in
+    let v = next-passed (atRow (o .row) (require (outputMeets N o) OutputMismatch (yields (tt {0})))) (λ u. checkOutputs N l) u h in
+    let w = require-yields (outputMeets N o) OutputMismatch (yields (tt {0})) (atRow-passed (o .row) _ (v .0) (v .1)) in (
+      (λ e t. met-sound o (metInput N o) (implies-elim (inFile N (o .location)) (agreesWith o (metInput N o))
+          (implies-elim (sameDirection (o .direction) output) a (w .0) (output-is (o .direction) e)) t)),
+      outputs-sound N l u (v .2),
     )
 
-outputs-complete : (ss : List Service) (os l : List Operation) → RisingOperations os → RisingOperations l → OutputsMeet ss os l
-    → checkOutputs ss os l ≡ passed (tt {0})
+outputs-complete : (N : Network) (l : List Operation) → RisingOperations (N .operations) → RisingOperations l → OutputsMeet N l
+    → checkOutputs N l ≡ passed (tt {0})
 unfolding checkOutputs OutputsMeet RisingOperations
-outputs-complete ss os [] w wl h = refl
-outputs-complete ss os (o ∷ l) w wl h =
-    let t = implies (sameDirection (o .direction) output) (meetsAt os o 0 ss) in
-    next-holds (atRow (o .row) (require t OutputMismatch (yields (tt {0})))) (λ u. checkOutputs ss os l) (tt {0})
-    (ap (atRow (o .row)) (require-holds t OutputMismatch (yields (tt {0}))
-    (implies-intro (sameDirection (o .direction) output) (meetsAt os o 0 ss)
-    (λ e. at-loc-complete os o 0 ss (wl .0) w (h .0 (is-output (o .direction) e))))))
-    ∙ outputs-complete ss os l w (wl .1) (h .1)
+outputs-complete N [] w wl h = refl
+outputs-complete N (o ∷ l) w wl h =
+    next-holds (atRow (o .row) (require (outputMeets N o) OutputMismatch (yields (tt {0})))) (λ u. checkOutputs N l) (tt {0})
+    (ap (atRow (o .row)) (require-holds (outputMeets N o) OutputMismatch (yields (tt {0}))
+    (implies-intro (sameDirection (o .direction) output) (implies (inFile N (o .location)) (agreesWith o (metInput N o)))
+    (λ d. implies-intro (inFile N (o .location)) (agreesWith o (metInput N o))
+    (λ t. met-complete o (metInput N o) (wl .0) (met-rising N o w) (h .0 (is-output (o .direction) d) t))))))
+    ∙ outputs-complete N l w (wl .1) (h .1)
 
 -- The network --------------------------------------------------------------------------------------------------------
 
 pub checked-derived : (N : Network) (Es : List Environments) → WellSortedNetwork N → checkNetwork N ≡ passed Es → DerivesNetwork N Es
 unfolding checkNetwork
 checked-derived N Es ws h =
-    let u = next-passed (checkServices 0 (N .services)) (λ Fs. next (checkOutputs (N .services) (N .operations) (N .operations)) (λ v. passed Fs)) Es
+    let u = next-passed (checkServices 0 (N .services)) (λ Fs. next (checkOutputs N (N .operations)) (λ v. passed Fs)) Es
     h in
-    let v = next-passed (checkOutputs (N .services) (N .operations) (N .operations)) (λ v. passed (u .0)) Es (u .2) in
+    let v = next-passed (checkOutputs N (N .operations)) (λ v. passed (u .0)) Es (u .2) in
     record {
       services = subst (DerivesServices 0 (N .services)) (passed-inj (v .2)) (services-sound 0 (N .services) (u .0) (ws .inServices) (u .1));
-      outputs = outputs-sound (N .services) (N .operations) (N .operations) (v .0) (v .1);
+      outputs = outputs-sound N (N .operations) (v .0) (v .1);
     }
 
 pub derived-checked : (N : Network) (Es : List Environments) → WellSortedNetwork N → DerivesNetwork N Es → checkNetwork N ≡ passed Es
 unfolding checkNetwork
 derived-checked N Es ws h =
-    next-holds (checkServices 0 (N .services)) (λ Fs. next (checkOutputs (N .services) (N .operations) (N .operations)) (λ v. passed Fs)) Es
+    next-holds (checkServices 0 (N .services)) (λ Fs. next (checkOutputs N (N .operations)) (λ v. passed Fs)) Es
     (services-complete 0 (N .services) Es (ws .inServices) (h .services))
-    ∙ next-holds (checkOutputs (N .services) (N .operations) (N .operations)) (λ v. passed Es) (tt {0})
-    (outputs-complete (N .services) (N .operations) (N .operations) (ws .inOperations) (ws .inOperations) (h .outputs))
+    ∙ next-holds (checkOutputs N (N .operations)) (λ v. passed Es) (tt {0})
+    (outputs-complete N (N .operations) (ws .inOperations) (ws .inOperations) (h .outputs))
 
 -- THE THEOREM: for every network whose type ids rise, the checker passes it with the environments Es exactly if the rules
 -- derive it with Es.

@@ -8,31 +8,26 @@ use mathlib.Core.Bool.{true}
 use Prim.Native.Nat.{ℕ, suc}
 use lib.Dec.{T}
 use Rattle.forest.specs.Forest.{end, node, tree, present, find, set}
-use Rattle.syntax.specs.Syntax.{Types, MessageType, input, output, Operation, Behaviour, nil, oneWay, requestResponse, notification}
-use Rattle.syntax.specs.Syntax.{solicitResponse, ifThenElse, whileDo, sequence, parallel, assign, choice, branch, lastBranch, waiting}
-use Rattle.syntax.specs.Syntax.{answering, Optional, none, some, Service, Network}
+use Rattle.syntax.specs.Syntax.{Types, MessageType, output, Operation, Behaviour, sequence, Branches, lastBranch, branch}
+use Rattle.syntax.specs.Syntax.{Optional, none, some, Service, Network}
+use Rattle.syntax.specs.Rows.{Choice, choiceOf}
+use Rattle.syntax.specs.Meets.{inFile, metInput}
 use Rattle.subtyping.specs.Subtype.{Subtype}
 use Rattle.typing.specs.Environment.{within}
-use Rattle.typing.specs.Rules.{permits, Derives, RisingOperation, WellSorted}
+use Rattle.typing.specs.Rules.{Derives, RisingOperation, WellSorted}
 
--- The branches of a starter, each as the sequence of its input and what follows. A starter is a choice (01, S); other
--- kinds have no branches.
+-- The branches of a choice, each as the sequence of its input and what follows.
+unfoldable pub sequencesOf : Branches → List Behaviour
+sequencesOf (lastBranch r a b) = sequence r a b ∷ []
+sequencesOf (branch r a b m) = sequence r a b ∷ sequencesOf m
+
+-- The branches of a starter. It is a choice (01, S); other kinds have none.
+abbrev pub ofChoice : Optional Choice → List Behaviour
+ofChoice none = []
+ofChoice (some c) = sequencesOf (c .branches)
+
 unfoldable pub branchesOf : Behaviour → List Behaviour
-branchesOf (nil r) = []
-branchesOf (oneWay r o x) = []
-branchesOf (requestResponse r o x c d) = []
-branchesOf (notification r o e) = []
-branchesOf (solicitResponse r o e x) = []
-branchesOf (ifThenElse r e a b) = []
-branchesOf (whileDo r e b) = []
-branchesOf (sequence r a b) = []
-branchesOf (parallel r a b) = []
-branchesOf (assign r x e) = []
-branchesOf (choice r m) = branchesOf m
-branchesOf (branch r a b m) = sequence r a b ∷ branchesOf m
-branchesOf (lastBranch r a b) = sequence r a b ∷ []
-branchesOf (waiting r o x) = []
-branchesOf (answering r o c d) = []
+branchesOf B = ofChoice (choiceOf B)
 
 -- Each behaviour from the empty environment gives the environment in the same place of the list.
 unfoldable pub DerivesEach : ℕ → List Behaviour → List Types → Type 0
@@ -85,33 +80,26 @@ DerivesServices q (s ∷ ss) Es =
     (E : Environments) × (Fs : List Environments) × IfThere (DerivesStarter q) (s .starter) (E .starter)
     × IfThere (DerivesClient q) (s .client) (E .client) × DerivesServices (suc q) ss Fs × (Es ≡ E ∷ Fs)
 
--- The output o meets the input i of the service row q: "of the same id and kind, its request type ≤ the input's, and the
--- input's reply type ≤ its own". A one-way operation has no reply.
-pub record Meets (q : ℕ) (o i : Operation) : Type 0 where
-  pub there : T (permits q input (o .twoWay) i)
-  pub sameId : i .id ≡ o .id
+-- The output o agrees with the input i: "its request type ≤ the input's, and the input's reply type ≤ its own". A one-way operation has no
+-- reply.
+pub record Agrees (o i : Operation) : Type 0 where
   pub requests : Subtype (o .request) (i .request)
   pub replies : o .twoWay ≡ true → Subtype (i .reply) (o .reply)
 
--- Some operation of the list is an input that o meets at q.
-pub data MeetsOne (q : ℕ) (o : Operation) : List Operation → Type 0 where
-  first : {i : Operation} {l : List Operation} → Meets q o i → MeetsOne q o (i ∷ l)
-  later : {i : Operation} {l : List Operation} → MeetsOne q o l → MeetsOne q o (i ∷ l)
+-- It meets an input, and agrees with it.
+abbrev pub AgreesWith : Operation → Optional Operation → Type 0
+AgreesWith o none = ⊥
+AgreesWith o (some i) = Agrees o i
 
--- At every service, from row q on, whose location is the output's; a location outside the file asks for nothing.
-unfoldable pub MeetsAt : List Operation → Operation → ℕ → List Service → Type 0
-MeetsAt os o q [] = Unit {0}
-MeetsAt os o q (s ∷ ss) = (s .location ≡ o .location → MeetsOne q o os) × MeetsAt os o (suc q) ss
-
--- "An output to a location in the file meets an input there", for every output of the list l; os are all operations.
-unfoldable pub OutputsMeet : List Service → List Operation → List Operation → Type 0
-OutputsMeet ss os [] = Unit {0}
-OutputsMeet ss os (o ∷ l) = (o .direction ≡ output → MeetsAt os o 0 ss) × OutputsMeet ss os l
+-- "An output to a location in the file meets an input there", for every output of the list l; a location outside the file asks for nothing.
+unfoldable pub OutputsMeet : Network → List Operation → Type 0
+OutputsMeet N [] = Unit {0}
+OutputsMeet N (o ∷ l) = (o .direction ≡ output → T (inFile N (o .location)) → AgreesWith o (metInput N o)) × OutputsMeet N l
 
 -- The network is derived, with these environments, one for each service.
 pub record DerivesNetwork (N : Network) (Es : List Environments) : Type 0 where
   pub services : DerivesServices 0 (N .services) Es
-  pub outputs : OutputsMeet (N .services) (N .operations) (N .operations)
+  pub outputs : OutputsMeet N (N .operations)
 
 -- The ids of all types of the network rise strictly (01, T).
 abbrev pub WellSortedIfThere : Optional Behaviour → Type 0

@@ -5,8 +5,8 @@ use Prim.Native.Nat.{ℕ}
 use lib.Dec.{T, eqb}
 use Rattle.forest.specs.Path.{Path, rootId}
 use Rattle.syntax.specs.Syntax.{Expression, constant, valueAt, presence, unary, binary, Behaviour, nil, oneWay, requestResponse}
-use Rattle.syntax.specs.Syntax.{notification, solicitResponse, ifThenElse, whileDo, sequence, parallel, assign, choice, branch, lastBranch}
-use Rattle.syntax.specs.Syntax.{waiting, answering}
+use Rattle.syntax.specs.Syntax.{notification, solicitResponse, ifThenElse, whileDo, sequence, parallel, assign, choice}
+use Rattle.syntax.specs.Syntax.{waiting, answering, Branches, lastBranch, branch}
 
 abbrev pub isRoot : ℕ → Path → Bool
 isRoot i x = eqb i (rootId x)
@@ -19,23 +19,26 @@ occursIn i (presence x) = isRoot i x
 occursIn i (unary o e) = occursIn i e
 occursIn i (binary o a b) = occursIn i a || occursIn i b
 
--- The root id i occurs in the behaviour.
-unfoldable pub occurs : ℕ → Behaviour → Bool
-occurs i (nil r) = false
-occurs i (oneWay r o x) = isRoot i x
-occurs i (requestResponse r o x c d) = isRoot i x || (isRoot i c || occurs i d)
-occurs i (notification r o e) = occursIn i e
-occurs i (solicitResponse r o e x) = occursIn i e || isRoot i x
-occurs i (ifThenElse r e a b) = occursIn i e || (occurs i a || occurs i b)
-occurs i (whileDo r e b) = occursIn i e || occurs i b
-occurs i (sequence r a b) = occurs i a || occurs i b
-occurs i (parallel r a b) = occurs i a || occurs i b
-occurs i (assign r x e) = occursIn i e || isRoot i x
-occurs i (choice r m) = occurs i m
-occurs i (branch r a b m) = (occurs i a || occurs i b) || occurs i m
-occurs i (lastBranch r a b) = occurs i a || occurs i b
-occurs i (waiting r o x) = isRoot i x
-occurs i (answering r o c d) = isRoot i c || occurs i d
+unfoldable mutual
+  -- The root id i occurs in the behaviour.
+  pub occurs : ℕ → Behaviour → Bool
+  occurs i (nil r) = false
+  occurs i (oneWay r o x) = isRoot i x
+  occurs i (requestResponse r o x c d) = isRoot i x || (isRoot i c || occurs i d)
+  occurs i (notification r o e) = occursIn i e
+  occurs i (solicitResponse r o e x) = occursIn i e || isRoot i x
+  occurs i (ifThenElse r e a b) = occursIn i e || (occurs i a || occurs i b)
+  occurs i (whileDo r e b) = occursIn i e || occurs i b
+  occurs i (sequence r a b) = occurs i a || occurs i b
+  occurs i (parallel r a b) = occurs i a || occurs i b
+  occurs i (assign r x e) = occursIn i e || isRoot i x
+  occurs i (choice r m) = occursInBranches i m
+  occurs i (waiting r o x) = isRoot i x
+  occurs i (answering r o c d) = isRoot i c || occurs i d
+
+  pub occursInBranches : ℕ → Branches → Bool
+  occursInBranches i (lastBranch r a b) = occurs i a || occurs i b
+  occursInBranches i (branch r a b m) = (occurs i a || occurs i b) || occursInBranches i m
 
 -- No root id occurs on both sides.
 abbrev pub NoSharedRoot : Behaviour → Behaviour → Type 0
@@ -49,22 +52,25 @@ allRootsIn q (presence x) = q (rootId x)
 allRootsIn q (unary o e) = allRootsIn q e
 allRootsIn q (binary o a b) = allRootsIn q a && allRootsIn q b
 
-unfoldable pub allRoots : (ℕ → Bool) → Behaviour → Bool
-allRoots q (nil r) = true
-allRoots q (oneWay r o x) = q (rootId x)
-allRoots q (requestResponse r o x c d) = q (rootId x) && (q (rootId c) && allRoots q d)
-allRoots q (notification r o e) = allRootsIn q e
-allRoots q (solicitResponse r o e x) = allRootsIn q e && q (rootId x)
-allRoots q (ifThenElse r e a b) = allRootsIn q e && (allRoots q a && allRoots q b)
-allRoots q (whileDo r e b) = allRootsIn q e && allRoots q b
-allRoots q (sequence r a b) = allRoots q a && allRoots q b
-allRoots q (parallel r a b) = allRoots q a && allRoots q b
-allRoots q (assign r x e) = allRootsIn q e && q (rootId x)
-allRoots q (choice r m) = allRoots q m
-allRoots q (branch r a b m) = (allRoots q a && allRoots q b) && allRoots q m
-allRoots q (lastBranch r a b) = allRoots q a && allRoots q b
-allRoots q (waiting r o x) = q (rootId x)
-allRoots q (answering r o c d) = q (rootId c) && allRoots q d
+unfoldable mutual
+  pub allRoots : (ℕ → Bool) → Behaviour → Bool
+  allRoots q (nil r) = true
+  allRoots q (oneWay r o x) = q (rootId x)
+  allRoots q (requestResponse r o x c d) = q (rootId x) && (q (rootId c) && allRoots q d)
+  allRoots q (notification r o e) = allRootsIn q e
+  allRoots q (solicitResponse r o e x) = allRootsIn q e && q (rootId x)
+  allRoots q (ifThenElse r e a b) = allRootsIn q e && (allRoots q a && allRoots q b)
+  allRoots q (whileDo r e b) = allRootsIn q e && allRoots q b
+  allRoots q (sequence r a b) = allRoots q a && allRoots q b
+  allRoots q (parallel r a b) = allRoots q a && allRoots q b
+  allRoots q (assign r x e) = allRootsIn q e && q (rootId x)
+  allRoots q (choice r m) = allBranchRoots q m
+  allRoots q (waiting r o x) = q (rootId x)
+  allRoots q (answering r o c d) = q (rootId c) && allRoots q d
+
+  pub allBranchRoots : (ℕ → Bool) → Branches → Bool
+  allBranchRoots q (lastBranch r a b) = allRoots q a && allRoots q b
+  allBranchRoots q (branch r a b m) = (allRoots q a && allRoots q b) && allBranchRoots q m
 
 abbrev pub noSharedRoot : Behaviour → Behaviour → Bool
 noSharedRoot a b = allRoots (λ i. not (occurs i b)) a

@@ -47,8 +47,8 @@ right = assign 2 pathC (valueAt pathA)
 -- 01 refuses them in parallel with 11. If only written roots counted they would be typed left, then right, which passes; but
 -- the right side may run first, in a tree where the value that it reads is missing.
 pub parallel-counts-read-roots :
-    (check 0 0 (parallel 0 left right) end ≡ refused (SharedRoot 0))
-    × (check 0 0 (sequence 0 left right) end ≡ passed (node 1 (mark true int) end (node 3 (mark true int) end end)))
+    (check 0 (parallel 0 left right) end ≡ refused (SharedRoot 0))
+    × (check 0 (sequence 0 left right) end ≡ passed (node 1 (mark true int) end (node 3 (mark true int) end end)))
     × (read pathA empty ≡ absent)
 unfolding check next typeOf sameTypes occurs occursIn allRoots allRootsIn firmSteps firmAboveSteps find set measure readSteps writeSteps
 parallel-counts-read-roots = (refl, refl, refl)

@@ -7,8 +7,8 @@ use lib.Dec.{T, eqb}
 use Rattle.forest.specs.Path.{Path}
 use Rattle.scalar.specs.Basic.{bool}
 use Rattle.syntax.specs.Syntax.{Types, MessageType, Expression, input, output, Operation, Behaviour, nil, oneWay, requestResponse}
-use Rattle.syntax.specs.Syntax.{notification, solicitResponse, ifThenElse, whileDo, sequence, parallel, assign, choice, branch, lastBranch}
-use Rattle.syntax.specs.Syntax.{waiting, answering}
+use Rattle.syntax.specs.Syntax.{notification, solicitResponse, ifThenElse, whileDo, sequence, parallel, assign, choice}
+use Rattle.syntax.specs.Syntax.{waiting, answering, Branches, lastBranch, branch}
 use Rattle.subtyping.specs.Subtype.{rootBasic, isSubtype}
 use Rattle.typing.specs.Result.{yields}
 use Rattle.typing.specs.Environment.{readFirm, place, assignTo}
@@ -25,21 +25,24 @@ TypedSend Γ e t = (n : MessageType) × (typeOf Γ e ≡ yields n) × T (isSubty
 abbrev pub TypedCondition : Types → Expression → Type 0
 TypedCondition Γ e = (n : MessageType) × (typeOf Γ e ≡ yields n) × T (eqb (rootBasic n) bool)
 
-unfoldable pub Typed : ℕ → Behaviour → Types → Types → Type 0
-Typed q (nil r) Γ Δ = Γ ≡ Δ
-Typed q (oneWay r o x) Γ Δ = T (permits q input false o) × (place x (o .request) Γ ≡ yields Δ)
-Typed q (requestResponse r o x c d) Γ Δ =
-    T (permits q input true o) × (Γ1 : Types) × (place x (o .request) Γ ≡ yields Γ1) × Typed q d Γ1 Δ × TypedReply c Δ (o .reply)
-Typed q (notification r o e) Γ Δ = T (permits q output false o) × TypedSend Γ e (o .request) × (Γ ≡ Δ)
-Typed q (solicitResponse r o e x) Γ Δ =
-    T (permits q output true o) × TypedSend Γ e (o .request) × (place x (o .reply) Γ ≡ yields Δ)
-Typed q (ifThenElse r e a b) Γ Δ = TypedCondition Γ e × Typed q a Γ Δ × Typed q b Γ Δ
-Typed q (whileDo r e b) Γ Δ = TypedCondition Γ e × Typed q b Γ Γ × (Γ ≡ Δ)
-Typed q (sequence r a b) Γ Δ = (Γ1 : Types) × Typed q a Γ Γ1 × Typed q b Γ1 Δ
-Typed q (parallel r a b) Γ Δ = NoSharedRoot a b × (Γ1 : Types) × Typed q a Γ Γ1 × Typed q b Γ1 Δ
-Typed q (assign r x e) Γ Δ = (n : MessageType) × (typeOf Γ e ≡ yields n) × (assignTo x (rootBasic n) Γ ≡ yields Δ)
-Typed q (choice r m) Γ Δ = Typed q m Γ Δ
-Typed q (branch r a b m) Γ Δ = (Γ1 : Types) × Typed q a Γ Γ1 × Typed q b Γ1 Δ × Typed q m Γ Δ
-Typed q (lastBranch r a b) Γ Δ = (Γ1 : Types) × Typed q a Γ Γ1 × Typed q b Γ1 Δ
-Typed q (waiting r o x) Γ Δ = T (permits q output true o) × (place x (o .reply) Γ ≡ yields Δ)
-Typed q (answering r o c d) Γ Δ = T (permits q input true o) × Typed q d Γ Δ × TypedReply c Δ (o .reply)
+unfoldable mutual
+  pub Typed : ℕ → Behaviour → Types → Types → Type 0
+  Typed q (nil r) Γ Δ = Γ ≡ Δ
+  Typed q (oneWay r o x) Γ Δ = T (permits q input false o) × (place x (o .request) Γ ≡ yields Δ)
+  Typed q (requestResponse r o x c d) Γ Δ =
+      T (permits q input true o) × (Γ1 : Types) × (place x (o .request) Γ ≡ yields Γ1) × Typed q d Γ1 Δ × TypedReply c Δ (o .reply)
+  Typed q (notification r o e) Γ Δ = T (permits q output false o) × TypedSend Γ e (o .request) × (Γ ≡ Δ)
+  Typed q (solicitResponse r o e x) Γ Δ =
+      T (permits q output true o) × TypedSend Γ e (o .request) × (place x (o .reply) Γ ≡ yields Δ)
+  Typed q (ifThenElse r e a b) Γ Δ = TypedCondition Γ e × Typed q a Γ Δ × Typed q b Γ Δ
+  Typed q (whileDo r e b) Γ Δ = TypedCondition Γ e × Typed q b Γ Γ × (Γ ≡ Δ)
+  Typed q (sequence r a b) Γ Δ = (Γ1 : Types) × Typed q a Γ Γ1 × Typed q b Γ1 Δ
+  Typed q (parallel r a b) Γ Δ = NoSharedRoot a b × (Γ1 : Types) × Typed q a Γ Γ1 × Typed q b Γ1 Δ
+  Typed q (assign r x e) Γ Δ = (n : MessageType) × (typeOf Γ e ≡ yields n) × (assignTo x (rootBasic n) Γ ≡ yields Δ)
+  Typed q (choice r m) Γ Δ = TypedBranches q m Γ Δ
+  Typed q (waiting r o x) Γ Δ = T (permits q output true o) × (place x (o .reply) Γ ≡ yields Δ)
+  Typed q (answering r o c d) Γ Δ = T (permits q input true o) × Typed q d Γ Δ × TypedReply c Δ (o .reply)
+
+  pub TypedBranches : ℕ → Branches → Types → Types → Type 0
+  TypedBranches q (lastBranch r a b) Γ Δ = (Γ1 : Types) × Typed q a Γ Γ1 × Typed q b Γ1 Δ
+  TypedBranches q (branch r a b m) Γ Δ = (Γ1 : Types) × Typed q a Γ Γ1 × Typed q b Γ1 Δ × TypedBranches q m Γ Δ

@@ -14,7 +14,7 @@ use Rattle.refusal.specs.declared.Refusal.the-variants.{PathNotFirm}
 use Rattle.scalar.specs.Basic.{bool}
 use Rattle.syntax.specs.Syntax.{Mark, mark, Types, MessageType, Expression, constant, valueAt, presence, unary, binary, Operation}
 use Rattle.syntax.specs.Syntax.{Behaviour, nil, oneWay, requestResponse, notification, solicitResponse, ifThenElse, whileDo, sequence}
-use Rattle.syntax.specs.Syntax.{parallel, assign, choice, branch, lastBranch, waiting, answering}
+use Rattle.syntax.specs.Syntax.{parallel, assign, choice, waiting, answering, Branches, lastBranch, branch}
 use Rattle.subtyping.specs.Subtype.{rootBasic}
 use Rattle.typing.specs.Result.{Result, yields, require}
 use Rattle.typing.specs.Environment.{within, isPresent, firmSteps, theType, readFirm, leaf, place, assignTo}
@@ -22,10 +22,10 @@ use Rattle.typing.specs.EnvironmentLaws.{along, placeEnd, assignEnd, pla
 use Rattle.typing.specs.EnvironmentLaws.{assigned-rising, place-rising, assign-rising, place-grows, assign-grows, sums, maxima}
 use Rattle.typing.specs.EnvironmentLaws.{within-smaller}
 use Rattle.typing.specs.ExpressionTyping.{typeOf}
-use Rattle.typing.specs.Occurs.{isRoot, occursIn, occurs, NoSharedRoot}
+use Rattle.typing.specs.Occurs.{isRoot, occursIn, occurs, occursInBranches, NoSharedRoot}
 use Rattle.typing.specs.OccursLaws.{or-l, or-r}
-use Rattle.typing.specs.Rules.{WellSorted}
-use Rattle.typing.specs.Typed.{Typed}
+use Rattle.typing.specs.Rules.{WellSorted, WellSortedBranches}
+use Rattle.typing.specs.Typed.{Typed, TypedBranches}
 
 -- Placing and assigning change one root only.
 isRoot-same : (i : ℕ) (x : Path) → (T (isRoot i x) → ⊥) → i ≡ rootId x → ⊥
@@ -127,29 +127,33 @@ pub record Kept (R : Types → Types → Type 0) : Type 1 where
 
 module _ (q : ℕ) where
   -- A behaviour changes only the roots that occur in it.
-  pub local : (B : Behaviour) (Γ Δ : Types) → Typed q B Γ Δ → (i : ℕ) → (T (occurs i B) → ⊥) → find i Δ ≡ find i Γ
-  unfolding Typed occurs
-  local (nil r) Γ Δ h i f = ap (find i) (sym h)
-  local (oneWay r o x) Γ Δ h i f = place-local x (o .request) Γ Δ (h .1) i f
-  local (requestResponse r o x c d) Γ Δ h i f =
-      local d (h .1) Δ (h .3) i (λ t. f (or-r (isRoot i x) (isRoot i c || occurs i d) (or-r (isRoot i c) (occurs i d) t)))
-      ∙ place-local x (o .request) Γ (h .1) (h .2) i (λ t. f (or-l (isRoot i x) (isRoot i c || occurs i d) t))
-  local (notification r o e) Γ Δ h i f = ap (find i) (sym (h .2))
-  local (solicitResponse r o e x) Γ Δ h i f = place-local x (o .reply) Γ Δ (h .2) i (λ t. f (or-r (occursIn i e) (isRoot i x) t))
-  local (ifThenElse r e a b) Γ Δ h i f =
-      local a Γ Δ (h .1) i (λ t. f (or-r (occursIn i e) (occurs i a || occurs i b) (or-l (occurs i a) (occurs i b) t)))
-  local (whileDo r e b) Γ Δ h i f = ap (find i) (sym (h .2))
-  local (sequence r a b) Γ Δ h i f = local b (h .0) Δ (h .2) i (λ t. f (or-r (occurs i a) (occurs i b) t))
-      ∙ local a Γ (h .0) (h .1) i (λ t. f (or-l (occurs i a) (occurs i b) t))
-  local (parallel r a b) Γ Δ h i f = local b (h .1) Δ (h .3) i (λ t. f (or-r (occurs i a) (occurs i b) t))
-      ∙ local a Γ (h .1) (h .2) i (λ t. f (or-l (occurs i a) (occurs i b) t))
-  local (assign r x e) Γ Δ h i f = assign-local x (rootBasic (h .0)) Γ Δ (h .2) i (λ t. f (or-r (occursIn i e) (isRoot i x) t))
-  local (choice r m) Γ Δ h i f = local m Γ Δ h i f
-  local (branch r a b m) Γ Δ h i f = local m Γ Δ (h .3) i (λ t. f (or-r (occurs i a || occurs i b) (occurs i m) t))
-  local (lastBranch r a b) Γ Δ h i f = local b (h .0) Δ (h .2) i (λ t. f (or-r (occurs i a) (occurs i b) t))
-      ∙ local a Γ (h .0) (h .1) i (λ t. f (or-l (occurs i a) (occurs i b) t))
-  local (waiting r o x) Γ Δ h i f = place-local x (o .reply) Γ Δ (h .1) i f
-  local (answering r o c d) Γ Δ h i f = local d Γ Δ (h .1) i (λ t. f (or-r (isRoot i c) (occurs i d) t))
+  mutual
+    unfolding Typed occurs
+
+    pub local : (B : Behaviour) (Γ Δ : Types) → Typed q B Γ Δ → (i : ℕ) → (T (occurs i B) → ⊥) → find i Δ ≡ find i Γ
+    local (nil r) Γ Δ h i f = ap (find i) (sym h)
+    local (oneWay r o x) Γ Δ h i f = place-local x (o .request) Γ Δ (h .1) i f
+    local (requestResponse r o x c d) Γ Δ h i f =
+        local d (h .1) Δ (h .3) i (λ t. f (or-r (isRoot i x) (isRoot i c || occurs i d) (or-r (isRoot i c) (occurs i d) t)))
+        ∙ place-local x (o .request) Γ (h .1) (h .2) i (λ t. f (or-l (isRoot i x) (isRoot i c || occurs i d) t))
+    local (notification r o e) Γ Δ h i f = ap (find i) (sym (h .2))
+    local (solicitResponse r o e x) Γ Δ h i f = place-local x (o .reply) Γ Δ (h .2) i (λ t. f (or-r (occursIn i e) (isRoot i x) t))
+    local (ifThenElse r e a b) Γ Δ h i f =
+        local a Γ Δ (h .1) i (λ t. f (or-r (occursIn i e) (occurs i a || occurs i b) (or-l (occurs i a) (occurs i b) t)))
+    local (whileDo r e b) Γ Δ h i f = ap (find i) (sym (h .2))
+    local (sequence r a b) Γ Δ h i f = local b (h .0) Δ (h .2) i (λ t. f (or-r (occurs i a) (occurs i b) t))
+        ∙ local a Γ (h .0) (h .1) i (λ t. f (or-l (occurs i a) (occurs i b) t))
+    local (parallel r a b) Γ Δ h i f = local b (h .1) Δ (h .3) i (λ t. f (or-r (occurs i a) (occurs i b) t))
+        ∙ local a Γ (h .1) (h .2) i (λ t. f (or-l (occurs i a) (occurs i b) t))
+    local (assign r x e) Γ Δ h i f = assign-local x (rootBasic (h .0)) Γ Δ (h .2) i (λ t. f (or-r (occursIn i e) (isRoot i x) t))
+    local (choice r m) Γ Δ h i f = local-branches m Γ Δ h i f
+    local (waiting r o x) Γ Δ h i f = place-local x (o .reply) Γ Δ (h .1) i f
+    local (answering r o c d) Γ Δ h i f = local d Γ Δ (h .1) i (λ t. f (or-r (isRoot i c) (occurs i d) t))
+
+    pub local-branches : (m : Branches) (Γ Δ : Types) → TypedBranches q m Γ Δ → (i : ℕ) → (T (occursInBranches i m) → ⊥) → find i Δ ≡ find i Γ
+    local-branches (lastBranch r a b) Γ Δ h i f = local b (h .0) Δ (h .2) i (λ t. f (or-r (occurs i a) (occurs i b) t))
+        ∙ local a Γ (h .0) (h .1) i (λ t. f (or-l (occurs i a) (occurs i b) t))
+    local-branches (branch r a b m) Γ Δ h i f = local-branches m Γ Δ (h .3) i (λ t. f (or-r (occurs i a || occurs i b) (occursInBranches i m) t))
 
   -- So is a behaviour: from Δ it gives `out`, which agrees at P with what it gives from Γ.
   pub record Framed (P : ℕ → Bool) (B : Behaviour) (Γ2 Δ : Types) : Type 0 where
@@ -158,113 +162,124 @@ module _ (q : ℕ) where
     pub rising : Rising out
     pub agree : Agree P Γ2 out
 
+  pub record FramedBranches (P : ℕ → Bool) (m : Branches) (Γ2 Δ : Types) : Type 0 where
+    pub out : Types
+    pub typed : TypedBranches q m Δ out
+    pub rising : Rising out
+    pub agree : Agree P Γ2 out
+
   -- A behaviour depends only on the roots that occur in it.
-  pub frame : (P : ℕ → Bool) (B : Behaviour) (Γ Γ2 Δ : Types) → WellSorted B → Within P B → Rising Δ → Typed q B Γ Γ2 → Agree P Γ Δ → Framed P B Γ2 Δ
-  unfolding Typed occurs WellSorted
-  frame P (nil r) Γ Γ2 Δ ws w wd h a = record { out = Δ; typed = refl; rising = wd; agree = agree-trans a h }
-  frame P (oneWay r o x) Γ Γ2 Δ ws w wd h a =
-      let u = place-frame P x (o .request) Γ Γ2 Δ (w (rootId x) (eqb-refl (rootId x))) (ws .0) wd (h .1) a in
-      record { out = u .outStep; typed = (h .0, u .typedStep); rising = u .risingStep; agree = u .agreeStep }
-  frame P (requestResponse r o x c d) Γ Γ2 Δ ws w wd h a =
-      let u = place-frame P x (o .request) Γ (h .1) Δ (w (rootId x) (or-l (isRoot (rootId x) x) _ (eqb-refl (rootId x)))) (ws .0 .0) wd (h .2) a in
-      let v = frame P d (h .1) Γ2 (u .outStep) (ws .1) (λ i t. w i (or-r (isRoot i x) (isRoot i c || occurs i d) (or-r (isRoot i c) (occurs i d) t)))
-      (u .risingStep) (h .3) (u .agreeStep) in
-      let same =
-      firm-frame P c Γ2 (v .out) (w (rootId c) (or-r (isRoot (rootId c) x) _ (or-l (isRoot (rootId c) c) _ (eqb-refl (rootId c))))) (v .agree) in
-      record {
-        out = v .out;
-        typed = (h .0, u .outStep, u .typedStep, v .typed, (h .4 .0, same ∙ h .4 .1, h .4 .2));
-        rising = v .rising;
-        agree =
-            v .agree;
-      }
-  frame P (notification r o e) Γ Γ2 Δ ws w wd h a =
-      record { out = Δ; typed = (h .0, (h .1 .0, typeOf-frame P e Γ Δ w a ∙ h .1 .1, h .1 .2), refl); rising = wd; agree = agree-trans a (h .2) }
-  frame P (solicitResponse r o e x) Γ Γ2 Δ ws w wd h a =
-      let u = place-frame P x (o .reply) Γ Γ2 Δ (w (rootId x) (or-r (occursIn (rootId x) e) _ (eqb-refl (rootId x)))) (ws .1) wd (h .2) a in
-      record {
-        out = u .outStep;
-        typed =
-            (h .0, (h .1 .0, typeOf-frame P e Γ Δ (λ i t. w i (or-l (occursIn i e) (isRoot i x) t)) a ∙ h .1 .1, h .1 .2), u .typedStep);
-        rising =
-            u .risingStep;
-        agree = u .agreeStep;
-      }
-  frame P (ifThenElse r e x y) Γ Γ2 Δ ws w wd h a =
-      let wx : Within P x = λ i t. w i (or-r (occursIn i e) (occurs i x || occurs i y) (or-l (occurs i x) (occurs i y) t)) in
-      let wy : Within P y = λ i t. w i (or-r (occursIn i e) (occurs i x || occurs i y) (or-r (occurs i x) (occurs i y) t)) in
-      let u = frame P x Γ Γ2 Δ (ws .0) wx wd (h .1) a in
-      let v = frame P y Γ Γ2 Δ (ws .1) wy wd (h .2) a in
-      let same =
-      agree-eq P Γ2 Δ (v .out) (u .out) (v .agree) (u .agree) (λ i f. local y Δ (v .out) (v .typed) i (λ t. f (wy i t)))
-      (λ i f. local x Δ (u .out) (u .typed) i (λ t. f (wx i t))) (v .rising) (u .rising) in
-      record {
-        out = u .out;
-        typed = (
-          (h .0 .0, typeOf-frame P e Γ Δ (λ i t. w i (or-l (occursIn i e) (occurs i x || occurs i y) t)) a ∙ h .0 .1, h .0 .2),
-          u .typed,
-          subst
-              (Typed q y Δ) same (v .typed),
-        );
-        rising = u .rising;
-        agree = u .agree;
-      }
-  frame P (whileDo r e b) Γ Γ2 Δ ws w wd h a =
-      let wb : Within P b = λ i t. w i (or-r (occursIn i e) (occurs i b) t) in
-      let u = frame P b Γ Γ Δ ws wb wd (h .1) a in
-      let same = agree-eq P Γ Δ (u .out) Δ (u .agree) a (λ i f. local b Δ (u .out) (u .typed) i (λ t. f (wb i t))) (λ i f. refl) (u .rising) wd in
-      record {
-        out = Δ;
-        typed = (
-          (h .0 .0, typeOf-frame P e Γ Δ (λ i t. w i (or-l (occursIn i e) (occurs i b) t)) a ∙ h .0 .1, h .0 .2),
-          subst (Typed q b Δ) same
-              (u .typed),
-          refl,
-        );
-        rising = wd;
-        agree = agree-trans a (h .2);
-      }
-  frame P (sequence r x y) Γ Γ2 Δ ws w wd h a =
-      let u = frame P x Γ (h .0) Δ (ws .0) (λ i t. w i (or-l (occurs i x) (occurs i y) t)) wd (h .1) a in
-      let v = frame P y (h .0) Γ2 (u .out) (ws .1) (λ i t. w i (or-r (occurs i x) (occurs i y) t)) (u .rising) (h .2) (u .agree) in
-      record { out = v .out; typed = (u .out, u .typed, v .typed); rising = v .rising; agree = v .agree }
-  frame P (parallel r x y) Γ Γ2 Δ ws w wd h a =
-      let u = frame P x Γ (h .1) Δ (ws .0) (λ i t. w i (or-l (occurs i x) (occurs i y) t)) wd (h .2) a in
-      let v = frame P y (h .1) Γ2 (u .out) (ws .1) (λ i t. w i (or-r (occurs i x) (occurs i y) t)) (u .rising) (h .3) (u .agree) in
-      record { out = v .out; typed = (h .0, u .out, u .typed, v .typed); rising = v .rising; agree = v .agree }
-  frame P (assign r x e) Γ Γ2 Δ ws w wd h a =
-      let u = assign-frame P x (rootBasic (h .0)) Γ Γ2 Δ (w (rootId x) (or-r (occursIn (rootId x) e) _ (eqb-refl (rootId x)))) wd (h .2) a in
-      record {
-        out = u .outStep;
-        typed = (h .0, typeOf-frame P e Γ Δ (λ i t. w i (or-l (occursIn i e) (isRoot i x) t)) a ∙ h .1, u .typedStep);
-        rising =
-            u .risingStep;
-        agree = u .agreeStep;
-      }
-  frame P (choice r m) Γ Γ2 Δ ws w wd h a =
-      let u = frame P m Γ Γ2 Δ ws w wd h a in record { out = u .out; typed = u .typed; rising = u .rising; agree = u .agree }
-  frame P (branch r x y m) Γ Γ2 Δ ws w wd h a =
-      let wx : Within P x = λ i t. w i (or-l (occurs i x || occurs i y) (occurs i m) (or-l (occurs i x) (occurs i y) t)) in
-      let wy : Within P y = λ i t. w i (or-l (occurs i x || occurs i y) (occurs i m) (or-r (occurs i x) (occurs i y) t)) in
-      let wm : Within P m = λ i t. w i (or-r (occurs i x || occurs i y) (occurs i m) t) in
-      let u = frame P x Γ (h .0) Δ (ws .0) wx wd (h .1) a in
-      let v = frame P y (h .0) Γ2 (u .out) (ws .1) wy (u .rising) (h .2) (u .agree) in
-      let z = frame P m Γ Γ2 Δ (ws .2) wm wd (h .3) a in
-      let same = agree-eq P Γ2 Δ (z .out) (v .out) (z .agree) (v .agree) (λ i f. local m Δ (z .out) (z .typed) i (λ t. f (wm i t)))
-      (λ i f. local y (u .out) (v .out) (v .typed) i (λ t. f (wy i t)) ∙ local x Δ (u .out) (u .typed) i (λ t. f (wx i t))) (z .rising)
-      (v .rising) in
-      record { out = v .out; typed = (u .out, u .typed, v .typed, subst (Typed q m Δ) same (z .typed)); rising = v .rising; agree = v .agree }
-  frame P (lastBranch r x y) Γ Γ2 Δ ws w wd h a =
-      let u = frame P x Γ (h .0) Δ (ws .0) (λ i t. w i (or-l (occurs i x) (occurs i y) t)) wd (h .1) a in
-      let v = frame P y (h .0) Γ2 (u .out) (ws .1) (λ i t. w i (or-r (occurs i x) (occurs i y) t)) (u .rising) (h .2) (u .agree) in
-      record { out = v .out; typed = (u .out, u .typed, v .typed); rising = v .rising; agree = v .agree }
-  frame P (waiting r o x) Γ Γ2 Δ ws w wd h a =
-      let u = place-frame P x (o .reply) Γ Γ2 Δ (w (rootId x) (eqb-refl (rootId x))) (ws .1) wd (h .1) a in
-      record { out = u .outStep; typed = (h .0, u .typedStep); rising = u .risingStep; agree = u .agreeStep }
-  frame P (answering r o c d) Γ Γ2 Δ ws w wd h a =
-      let v = frame P d Γ Γ2 Δ (ws .1) (λ i t. w i (or-r (isRoot i c) (occurs i d) t)) wd (h .1) a in
-      let same = firm-frame P c Γ2 (v .out) (w (rootId c) (or-l (isRoot (rootId c) c) _ (eqb-refl (rootId c)))) (v .agree) in
-      record { out = v .out; typed = (h .0, v .typed, (h .2 .0, same ∙ h .2 .1, h .2 .2)); rising = v .rising; agree = v .agree }
+  mutual
+    unfolding Typed occurs WellSorted
+
+    pub frame : (P : ℕ → Bool) (B : Behaviour) (Γ Γ2 Δ : Types) → WellSorted B → Within P B → Rising Δ → Typed q B Γ Γ2 → Agree P Γ Δ → Framed P B Γ2 Δ
+    frame P (nil r) Γ Γ2 Δ ws w wd h a = record { out = Δ; typed = refl; rising = wd; agree = agree-trans a h }
+    frame P (oneWay r o x) Γ Γ2 Δ ws w wd h a =
+        let u = place-frame P x (o .request) Γ Γ2 Δ (w (rootId x) (eqb-refl (rootId x))) (ws .0) wd (h .1) a in
+        record { out = u .outStep; typed = (h .0, u .typedStep); rising = u .risingStep; agree = u .agreeStep }
+    frame P (requestResponse r o x c d) Γ Γ2 Δ ws w wd h a =
+        let u = place-frame P x (o .request) Γ (h .1) Δ (w (rootId x) (or-l (isRoot (rootId x) x) _ (eqb-refl (rootId x)))) (ws .0 .0) wd (h .2) a in
+        let v = frame P d (h .1) Γ2 (u .outStep) (ws .1) (λ i t. w i (or-r (isRoot i x) (isRoot i c || occurs i d) (or-r (isRoot i c) (occurs i d) t)))
+        (u .risingStep) (h .3) (u .agreeStep) in
+        let same =
+        firm-frame P c Γ2 (v .out) (w (rootId c) (or-r (isRoot (rootId c) x) _ (or-l (isRoot (rootId c) c) _ (eqb-refl (rootId c))))) (v .agree) in
+        record {
+          out = v .out;
+          typed = (h .0, u .outStep, u .typedStep, v .typed, (h .4 .0, same ∙ h .4 .1, h .4 .2));
+          rising = v .rising;
+          agree =
+              v .agree;
+        }
+    frame P (notification r o e) Γ Γ2 Δ ws w wd h a =
+        record { out = Δ; typed = (h .0, (h .1 .0, typeOf-frame P e Γ Δ w a ∙ h .1 .1, h .1 .2), refl); rising = wd; agree = agree-trans a (h .2) }
+    frame P (solicitResponse r o e x) Γ Γ2 Δ ws w wd h a =
+        let u = place-frame P x (o .reply) Γ Γ2 Δ (w (rootId x) (or-r (occursIn (rootId x) e) _ (eqb-refl (rootId x)))) (ws .1) wd (h .2) a in
+        record {
+          out = u .outStep;
+          typed =
+              (h .0, (h .1 .0, typeOf-frame P e Γ Δ (λ i t. w i (or-l (occursIn i e) (isRoot i x) t)) a ∙ h .1 .1, h .1 .2), u .typedStep);
+          rising =
+              u .risingStep;
+          agree = u .agreeStep;
+        }
+    frame P (ifThenElse r e x y) Γ Γ2 Δ ws w wd h a =
+        let wx : Within P x = λ i t. w i (or-r (occursIn i e) (occurs i x || occurs i y) (or-l (occurs i x) (occurs i y) t)) in
+        let wy : Within P y = λ i t. w i (or-r (occursIn i e) (occurs i x || occurs i y) (or-r (occurs i x) (occurs i y) t)) in
+        let u = frame P x Γ Γ2 Δ (ws .0) wx wd (h .1) a in
+        let v = frame P y Γ Γ2 Δ (ws .1) wy wd (h .2) a in
+        let same =
+        agree-eq P Γ2 Δ (v .out) (u .out) (v .agree) (u .agree) (λ i f. local y Δ (v .out) (v .typed) i (λ t. f (wy i t)))
+        (λ i f. local x Δ (u .out) (u .typed) i (λ t. f (wx i t))) (v .rising) (u .rising) in
+        record {
+          out = u .out;
+          typed = (
+            (h .0 .0, typeOf-frame P e Γ Δ (λ i t. w i (or-l (occursIn i e) (occurs i x || occurs i y) t)) a ∙ h .0 .1, h .0 .2),
+            u .typed,
+            subst
+                (Typed q y Δ) same (v .typed),
+          );
+          rising = u .rising;
+          agree = u .agree;
+        }
+    frame P (whileDo r e b) Γ Γ2 Δ ws w wd h a =
+        let wb : Within P b = λ i t. w i (or-r (occursIn i e) (occurs i b) t) in
+        let u = frame P b Γ Γ Δ ws wb wd (h .1) a in
+        let same = agree-eq P Γ Δ (u .out) Δ (u .agree) a (λ i f. local b Δ (u .out) (u .typed) i (λ t. f (wb i t))) (λ i f. refl) (u .rising) wd in
+        record {
+          out = Δ;
+          typed = (
+            (h .0 .0, typeOf-frame P e Γ Δ (λ i t. w i (or-l (occursIn i e) (occurs i b) t)) a ∙ h .0 .1, h .0 .2),
+            subst (Typed q b Δ) same
+                (u .typed),
+            refl,
+          );
+          rising = wd;
+          agree = agree-trans a (h .2);
+        }
+    frame P (sequence r x y) Γ Γ2 Δ ws w wd h a =
+        let u = frame P x Γ (h .0) Δ (ws .0) (λ i t. w i (or-l (occurs i x) (occurs i y) t)) wd (h .1) a in
+        let v = frame P y (h .0) Γ2 (u .out) (ws .1) (λ i t. w i (or-r (occurs i x) (occurs i y) t)) (u .rising) (h .2) (u .agree) in
+        record { out = v .out; typed = (u .out, u .typed, v .typed); rising = v .rising; agree = v .agree }
+    frame P (parallel r x y) Γ Γ2 Δ ws w wd h a =
+        let u = frame P x Γ (h .1) Δ (ws .0) (λ i t. w i (or-l (occurs i x) (occurs i y) t)) wd (h .2) a in
+        let v = frame P y (h .1) Γ2 (u .out) (ws .1) (λ i t. w i (or-r (occurs i x) (occurs i y) t)) (u .rising) (h .3) (u .agree) in
+        record { out = v .out; typed = (h .0, u .out, u .typed, v .typed); rising = v .rising; agree = v .agree }
+    frame P (assign r x e) Γ Γ2 Δ ws w wd h a =
+        let u = assign-frame P x (rootBasic (h .0)) Γ Γ2 Δ (w (rootId x) (or-r (occursIn (rootId x) e) _ (eqb-refl (rootId x)))) wd (h .2) a in
+        record {
+          out = u .outStep;
+          typed = (h .0, typeOf-frame P e Γ Δ (λ i t. w i (or-l (occursIn i e) (isRoot i x) t)) a ∙ h .1, u .typedStep);
+          rising =
+              u .risingStep;
+          agree = u .agreeStep;
+        }
+    frame P (choice r m) Γ Γ2 Δ ws w wd h a =
+        let u = frame-branches P m Γ Γ2 Δ ws w wd h a in record { out = u .out; typed = u .typed; rising = u .rising; agree = u .agree }
+    frame P (waiting r o x) Γ Γ2 Δ ws w wd h a =
+        let u = place-frame P x (o .reply) Γ Γ2 Δ (w (rootId x) (eqb-refl (rootId x))) (ws .1) wd (h .1) a in
+        record { out = u .outStep; typed = (h .0, u .typedStep); rising = u .risingStep; agree = u .agreeStep }
+    frame P (answering r o c d) Γ Γ2 Δ ws w wd h a =
+        let v = frame P d Γ Γ2 Δ (ws .1) (λ i t. w i (or-r (isRoot i c) (occurs i d) t)) wd (h .1) a in
+        let same = firm-frame P c Γ2 (v .out) (w (rootId c) (or-l (isRoot (rootId c) c) _ (eqb-refl (rootId c)))) (v .agree) in
+        record { out = v .out; typed = (h .0, v .typed, (h .2 .0, same ∙ h .2 .1, h .2 .2)); rising = v .rising; agree = v .agree }
+
+    frame-branches : (P : ℕ → Bool) (m : Branches) (Γ Γ2 Δ : Types) → WellSortedBranches m → ((i : ℕ) → T (occursInBranches i m) → T (P i)) → Rising Δ
+        → TypedBranches q m Γ Γ2 → Agree P Γ Δ → FramedBranches P m Γ2 Δ
+    frame-branches P (lastBranch r x y) Γ Γ2 Δ ws w wd h a =
+        let u = frame P x Γ (h .0) Δ (ws .0) (λ i t. w i (or-l (occurs i x) (occurs i y) t)) wd (h .1) a in
+        let v = frame P y (h .0) Γ2 (u .out) (ws .1) (λ i t. w i (or-r (occurs i x) (occurs i y) t)) (u .rising) (h .2) (u .agree) in
+        record { out = v .out; typed = (u .out, u .typed, v .typed); rising = v .rising; agree = v .agree }
+    frame-branches P (branch r x y m) Γ Γ2 Δ ws w wd h a =
+        let wx : Within P x = λ i t. w i (or-l (occurs i x || occurs i y) (occursInBranches i m) (or-l (occurs i x) (occurs i y) t)) in
+        let wy : Within P y = λ i t. w i (or-l (occurs i x || occurs i y) (occursInBranches i m) (or-r (occurs i x) (occurs i y) t)) in
+        let wm : ((i : ℕ) → T (occursInBranches i m) → T (P i)) = λ i t. w i (or-r (occurs i x || occurs i y) (occursInBranches i m) t) in
+        let u = frame P x Γ (h .0) Δ (ws .0) wx wd (h .1) a in
+        let v = frame P y (h .0) Γ2 (u .out) (ws .1) wy (u .rising) (h .2) (u .agree) in
+        let z = frame-branches P m Γ Γ2 Δ (ws .2) wm wd (h .3) a in
+        let same = agree-eq P Γ2 Δ (z .out) (v .out) (z .agree) (v .agree) (λ i f. local-branches m Δ (z .out) (z .typed) i (λ t. f (wm i t)))
+        (λ i f. local y (u .out) (v .out) (v .typed) i (λ t. f (wy i t)) ∙ local x Δ (u .out) (u .typed) i (λ t. f (wx i t))) (z .rising)
+        (v .rising) in
+        record { out = v .out; typed = (u .out, u .typed, v .typed, subst (TypedBranches q m Δ) same (z .typed)); rising = v .rising; agree = v .agree }
 
   -- Two behaviours with no root in common may swap: b first, then a.
   pub record Swapped (a b : Behaviour) (Γ Γ2 : Types) : Type 0 where
@@ -274,24 +289,28 @@ module _ (q : ℕ) where
     pub two : Typed q a mid Γ2
 
   -- Such a relation holds over a typed behaviour.
-  pub kept : (R : Types → Types → Type 0) → Kept R → (B : Behaviour) (Γ Δ : Types) → WellSorted B → Typed q B Γ Δ → R Γ Δ
-  unfolding Typed WellSorted
-  kept R k (nil r) Γ Δ ws h = k .stays Γ Δ h
-  kept R k (oneWay r o x) Γ Δ ws h = k .places x (o .request) Γ Δ (ws .0) (h .1)
-  kept R k (requestResponse r o x c d) Γ Δ ws h =
-      k .joins Γ (h .1) Δ (k .places x (o .request) Γ (h .1) (ws .0 .0) (h .2)) (kept R k d (h .1) Δ (ws .1) (h .3))
-  kept R k (notification r o e) Γ Δ ws h = k .stays Γ Δ (h .2)
-  kept R k (solicitResponse r o e x) Γ Δ ws h = k .places x (o .reply) Γ Δ (ws .1) (h .2)
-  kept R k (ifThenElse r e a b) Γ Δ ws h = kept R k a Γ Δ (ws .0) (h .1)
-  kept R k (whileDo r e b) Γ Δ ws h = k .stays Γ Δ (h .2)
-  kept R k (sequence r a b) Γ Δ ws h = k .joins Γ (h .0) Δ (kept R k a Γ (h .0) (ws .0) (h .1)) (kept R k b (h .0) Δ (ws .1) (h .2))
-  kept R k (parallel r a b) Γ Δ ws h = k .joins Γ (h .1) Δ (kept R k a Γ (h .1) (ws .0) (h .2)) (kept R k b (h .1) Δ (ws .1) (h .3))
-  kept R k (assign r x e) Γ Δ ws h = k .assigns x (rootBasic (h .0)) Γ Δ (h .2)
-  kept R k (choice r m) Γ Δ ws h = kept R k m Γ Δ ws h
-  kept R k (branch r a b m) Γ Δ ws h = kept R k m Γ Δ (ws .2) (h .3)
-  kept R k (lastBranch r a b) Γ Δ ws h = k .joins Γ (h .0) Δ (kept R k a Γ (h .0) (ws .0) (h .1)) (kept R k b (h .0) Δ (ws .1) (h .2))
-  kept R k (waiting r o x) Γ Δ ws h = k .places x (o .reply) Γ Δ (ws .1) (h .1)
-  kept R k (answering r o c d) Γ Δ ws h = kept R k d Γ Δ (ws .1) (h .1)
+  mutual
+    unfolding Typed WellSorted
+
+    pub kept : (R : Types → Types → Type 0) → Kept R → (B : Behaviour) (Γ Δ : Types) → WellSorted B → Typed q B Γ Δ → R Γ Δ
+    kept R k (nil r) Γ Δ ws h = k .stays Γ Δ h
+    kept R k (oneWay r o x) Γ Δ ws h = k .places x (o .request) Γ Δ (ws .0) (h .1)
+    kept R k (requestResponse r o x c d) Γ Δ ws h =
+        k .joins Γ (h .1) Δ (k .places x (o .request) Γ (h .1) (ws .0 .0) (h .2)) (kept R k d (h .1) Δ (ws .1) (h .3))
+    kept R k (notification r o e) Γ Δ ws h = k .stays Γ Δ (h .2)
+    kept R k (solicitResponse r o e x) Γ Δ ws h = k .places x (o .reply) Γ Δ (ws .1) (h .2)
+    kept R k (ifThenElse r e a b) Γ Δ ws h = kept R k a Γ Δ (ws .0) (h .1)
+    kept R k (whileDo r e b) Γ Δ ws h = k .stays Γ Δ (h .2)
+    kept R k (sequence r a b) Γ Δ ws h = k .joins Γ (h .0) Δ (kept R k a Γ (h .0) (ws .0) (h .1)) (kept R k b (h .0) Δ (ws .1) (h .2))
+    kept R k (parallel r a b) Γ Δ ws h = k .joins Γ (h .1) Δ (kept R k a Γ (h .1) (ws .0) (h .2)) (kept R k b (h .1) Δ (ws .1) (h .3))
+    kept R k (assign r x e) Γ Δ ws h = k .assigns x (rootBasic (h .0)) Γ Δ (h .2)
+    kept R k (choice r m) Γ Δ ws h = kept-branches R k m Γ Δ ws h
+    kept R k (waiting r o x) Γ Δ ws h = k .places x (o .reply) Γ Δ (ws .1) (h .1)
+    kept R k (answering r o c d) Γ Δ ws h = kept R k d Γ Δ (ws .1) (h .1)
+
+    kept-branches : (R : Types → Types → Type 0) → Kept R → (m : Branches) (Γ Δ : Types) → WellSortedBranches m → TypedBranches q m Γ Δ → R Γ Δ
+    kept-branches R k (lastBranch r a b) Γ Δ ws h = k .joins Γ (h .0) Δ (kept R k a Γ (h .0) (ws .0) (h .1)) (kept R k b (h .0) Δ (ws .1) (h .2))
+    kept-branches R k (branch r a b m) Γ Δ ws h = kept-branches R k m Γ Δ (ws .2) (h .3)
 
   -- Ids stay in order.
   pub typed-rising : (B : Behaviour) (Γ Γ2 : Types) → WellSorted B → Rising Γ → Typed q B Γ Γ2 → Rising Γ2

@@ -11,9 +11,10 @@ use Rattle.scalar.specs.Basic.{bool, int, long, string, void}
 use Rattle.scalar.specs.Value.{Value, value}
 use Rattle.syntax.specs.Syntax.{Mark, mark, Types, MessageType, add, logicalNot, Expression, constant, valueAt, unary, binary, input}
 use Rattle.syntax.specs.Syntax.{output, Operation}
-use Rattle.syntax.specs.Syntax.{Behaviour, nil, oneWay, notification, ifThenElse, parallel, assign, choice, branch, lastBranch}
+use Rattle.syntax.specs.Syntax.{Behaviour, nil, oneWay, notification, ifThenElse, parallel, assign, choice, Branches, lastBranch, branch}
 use Rattle.syntax.specs.Syntax.{none, some, Network}
-use Rattle.syntax.specs.Rows.{rowOf}
+use Rattle.syntax.specs.Rows.{rowOf, entry}
+use Rattle.syntax.specs.Meets.{someAt, meets, firstOf, metInput}
 use Rattle.subtyping.specs.Subtype.{areSubtypes, isSubtype}
 use Rattle.typing.specs.Result.{fails, yields, refused, passed, next}
 use Rattle.typing.specs.Environment.{within, leaf, firmSteps, firmAboveSteps, noMandatory, place, assignTo}
@@ -21,8 +22,8 @@ use Rattle.typing.specs.ExpressionTyping.{typeOf}
 use Rattle.typing.specs.Occurs.{occurs, occursIn, allRoots, allRootsIn}
 use Rattle.typing.specs.Rules.{permits}
 use Rattle.typing.specs.Checker.{sameTypes, check}
-use Rattle.typing.specs.NetworkRules.{branchesOf, union, unionOf}
-use Rattle.typing.specs.NetworkChecker.{checkEach, oneType, oneTypeWith, oneTypeEach, checkServices, meetsOne, meetsAt, checkOutputs}
+use Rattle.typing.specs.NetworkRules.{branchesOf, sequencesOf, union, unionOf}
+use Rattle.typing.specs.NetworkChecker.{checkEach, oneType, oneTypeWith, oneTypeEach, checkServices, checkOutputs}
 use Rattle.typing.specs.NetworkChecker.{checkNetwork}
 
 -- Paths of one id, a path a.b, constants, and nodes of an environment without children.
@@ -54,8 +55,8 @@ roots-and-optional-nodes = (refl, refl, refl)
 
 -- In an assign: first the expression, then the path above (7), the basic type (9), a mandatory child of an optional node (7).
 pub order-of-assign :
-    (check 0 0 (assign 5 pathAB (unary logicalNot anInt)) (only false int end) ≡ refused (OperandType 5))
-    × (check 0 0 (assign 5 pathAB anInt) (only false int end) ≡ refused (PathNotFirm 5))
+    (check 0 (assign 5 pathAB (unary logicalNot anInt)) (only false int end) ≡ refused (OperandType 5))
+    × (check 0 (assign 5 pathAB anInt) (only false int end) ≡ refused (PathNotFirm 5))
     × (assignTo (at 1) bool (only false int (node 2 (mark true int) end end)) ≡ fails TypeMisfit)
     × (assignTo (at 1) int (only false int (node 2 (mark true int) end end)) ≡ fails PathNotFirm)
 unfolding check typeOf find readSteps firmAboveSteps noMandatory measure
@@ -65,14 +66,14 @@ order-of-assign = (refl, refl, refl, refl)
 pub order-of-operands :
     (typeOf end (binary add aString (valueAt (at 1))) ≡ fails PathNotFirm)
     × (typeOf end (binary add aString aString) ≡ fails OperandType)
-    × (check 0 0 (ifThenElse 5 (valueAt (at 1)) (nil 6) (nil 7)) (only true bool (node 2 (mark true int) end end))
+    × (check 0 (ifThenElse 5 (valueAt (at 1)) (nil 6) (nil 7)) (only true bool (node 2 (mark true int) end end))
     ≡ passed (only true bool (node 2 (mark true int) end end)))
 unfolding check next typeOf sameTypes find readSteps firmSteps
 order-of-operands = (refl, refl, refl)
 
 -- 11 of an outer parallel wins over an inner one, and over what is wrong on either side.
 pub order-of-parallel :
-    check 0 0 (parallel 5 (parallel 6 (assign 7 (at 1) anInt) (assign 8 (at 1) anInt)) (assign 9 (at 1) (valueAt (at 2)))) end
+    check 0 (parallel 5 (parallel 6 (assign 7 (at 1) anInt) (assign 8 (at 1) anInt)) (assign 9 (at 1) (valueAt (at 2)))) end
     ≡ refused (SharedRoot 5)
 unfolding check next occurs occursIn allRoots allRootsIn
 order-of-parallel = refl
@@ -84,7 +85,7 @@ roots i (suc n) = node i (mark true void) end (roots (suc i) n)
 
 pub limits :
     (within (roots 1 48) ≡ true) × (within (roots 1 49) ≡ false)
-    × (check 0 0 (assign 5 (at 100) anInt) (roots 1 48) ≡ refused (EnvironmentTooLarge 5))
+    × (check 0 (assign 5 (at 100) anInt) (roots 1 48) ≡ refused (EnvironmentTooLarge 5))
 unfolding roots check typeOf find set readSteps writeSteps firmAboveSteps measure
 limits = (refl, refl, refl)
 
@@ -101,10 +102,10 @@ abbrev receiving : ℕ → ℕ → Behaviour
 receiving r x = oneWay r (operation 0 0) (at x)
 
 pub order-of-branches :
-    (check 1 0 (receiving 5 1) end ≡ refused (WrongOperation 5))
-    × (check 0 0 (choice 5 (branch 6 (receiving 7 1) (nil 8) (branch 9 (receiving 10 2) (nil 11)
+    (check 1 (receiving 5 1) end ≡ refused (WrongOperation 5))
+    × (check 0 (choice 5 (branch 6 (receiving 7 1) (nil 8) (branch 9 (receiving 10 2) (nil 11)
     (lastBranch 12 (receiving 13 1) (assign 14 (at 1) (valueAt (at 3))))))) end ≡ refused (PathNotFirm 14))
-    × (check 0 0 (choice 5 (branch 6 (receiving 7 1) (nil 8) (lastBranch 12 (receiving 13 2) (nil 14)))) end ≡ refused (EnvironmentsDiffer 5))
+    × (check 0 (choice 5 (branch 6 (receiving 7 1) (nil 8) (lastBranch 12 (receiving 13 2) (nil 14)))) end ≡ refused (EnvironmentsDiffer 5))
 unfolding check next typeOf permits sameTypes find set readSteps writeSteps firmSteps firmAboveSteps measure
 order-of-branches = (refl, refl, refl)
 
@@ -125,7 +126,7 @@ pub starters-and-outputs :
     × (checkNetwork (served (twoBranches (nil 11)) (operation 0 0 ∷ sending 4 1 (leaf long) ∷ [])) ≡ refused (OutputMismatch 4))
     × (checkNetwork (served (twoBranches (nil 11)) (operation 0 0 ∷ sending 4 1 (leaf int) ∷ sending 6 9 (leaf long) ∷ []))
     ≡ passed (record { starter = some (node 1 (mark true int) end end); client = none } ∷ []))
-unfolding rowOf checkNetwork checkServices checkEach branchesOf union unionOf oneType oneTypeWith oneTypeEach meetsOne meetsAt checkOutputs
+unfolding rowOf checkNetwork checkServices checkEach branchesOf sequencesOf union unionOf oneType oneTypeWith oneTypeEach entry someAt meets firstOf metInput checkOutputs
     check next typeOf permits sameTypes areSubtypes find set readSteps writeSteps firmSteps firmAboveSteps measure
 starters-and-outputs = (refl, refl, refl, refl)
 

@@ -2,9 +2,8 @@
 use mathlib.Core.Path.{_≡_, sym, ap, subst, _∙_}
 use mathlib.Core.Bool.{Bool, true, false}
 use mathlib.Core.List.{List, []}
-use Prim.Native.Nat.{ℕ, _+_, _*_, _<_}
+use Prim.Native.Nat.{ℕ, _<_}
 use native.Mathlib.Omega.{arith}
-use lib.ListN.{length, take}
 use Rattle.forest.specs.Forest.{Forest, Tree}
 use Rattle.forest.specs.Path.{Path, replaceAt}
 use Rattle.scalar.specs.Value.{Value}
@@ -20,44 +19,35 @@ use Rattle.network.specs.Layout.{pathCount}
 use Rattle.network.specs.Decode.{pathOf}
 use Rattle.rows.specs.Readers.{pathIds}
 use Rattle.typing.specs.Environment.{within}
-use Rattle.state.specs.Session.{done, Session, Slot, live, State, setSlot}
-use Rattle.state.specs.Bytes.{u16Bytes, padded, progressBytes, treeBytes, slotBytes, stateBytes}
+use Rattle.state.specs.Session.{done, Session, withTree, Slot, live, State, setSlot}
+use Rattle.state.specs.Bytes.{slotBytes, stateBytes}
 use Rattle.state.specs.Shape.{WellMade}
-use Rattle.state.specs.KeepLaws.{advance-past}
-use Rattle.moves.specs.Moves.{moved, require, voidValue, withTree, onLive, saveWithin, takeReply}
+use Rattle.state.specs.KeepLaws.{made-tree, made-row}
+use Rattle.moves.specs.Moves.{moved, require, voidValue, onLive, saveWithin, takeReply}
 use Rattle.moves.specs.Step.{finish}
 use Rattle.slots.specs.SlotLaws.{row-set, tree-set, living-set, set-again, stands-set}
 use Rattle.slots.specs.Living.{Living}
+use Rattle.slots.specs.Slots.{treeStored}
 use Rattle.session_trees.specs.declared.Change.{Change}
 use Rattle.session_trees.specs.Changing.{KeptTree, ChangedTo, Replaces}
 use Rattle.moving.specs.Made.{InSession}
 use Rattle.row_parts.specs.PathLaws.{ids-path, path-is}
 use Rattle.waiting_rows.specs.Waiting.{replied, PutsReply, TakesReply}
+use Rattle.progress.specs.Stored.{rowStored}
 
 -- ---- `put_reply`
 
 pub reply-put : (s t : List ℕ) (slot r n : ℕ) {s₁ s₂ : List ℕ} → r < 256
-    → s₁ ≡ withPart (withPart s (slot + 2) (u16Bytes n)) (slot + 16) (padded 1024 (take n t))
-    → s₂ ≡ withPart s₁ (slot + 2416 + 6 * r) (progressBytes done) → PutsReply s slot r t n s₂
+    → s₁ ≡ treeStored s slot t n → s₂ ≡ rowStored s₁ slot r done → PutsReply s slot r t n s₂
 reply-put s t slot r n {s₁} {s₂} l a b = record {
   tells = λ S F h k.
-      let T : Session = withTree S F (S .progress) in
+      let T : Session = withTree S F in
       let R : Session = replied S r F in
-      let w : WellMade T =
-      record { bounded = k .made; upToFour = h .made .upToFour; messages = h .made .messages; noRowsPast = h .made .noRowsPast } in
-      let v : WellMade R =
-      record {
-        bounded = k .made;
-        upToFour = h .made .upToFour;
-        messages = h .made .messages;
-        noRowsPast = advance-past (S .progress) r done l (h .made .noRowsPast);
-      } in
-      let c : s₁ ≡ withPart s slot (slotBytes (live T)) =
-      a ∙ (ap (λ (j : ℕ). withPart (withPart s (slot + 2) (u16Bytes j)) (slot + 16) (padded 1024 (take n t))) (k .size)
-      ∙ (ap (λ (y : List ℕ). withPart (withPart s (slot + 2) (u16Bytes (length (treeBytes F)))) (slot + 16) (padded 1024 y)) (k .bytes)
-      ∙ tree-set h F (omega (arith, k .size, k .small)))) in
+      let w : WellMade T = made-tree (h .made) F (k .made) in
+      let v : WellMade R = made-row w r done l in
+      let c : s₁ ≡ withPart s slot (slotBytes (live T)) = a ∙ tree-set h F t n (k .bytes) (k .size) (omega (arith, k .size, k .small)) in
       let d : s₂ ≡ withPart (withPart s slot (slotBytes (live T))) slot (slotBytes (live R)) =
-      b ∙ (ap (λ (y : List ℕ). withPart y (slot + 2416 + 6 * r) (progressBytes done)) c ∙ row-set (living-set h T w) r done l) in
+      b ∙ (ap (λ (y : List ℕ). rowStored y slot r done) c ∙ row-set (living-set h T w) r done l) in
       (d ∙ set-again h T (live R) w v, v);
 }
 

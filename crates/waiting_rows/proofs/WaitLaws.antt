@@ -14,31 +14,30 @@ use Rattle.refusal.specs.declared.Refusal.the-variants.{MoveNotAllowed}
 use Rattle.syntax.specs.Syntax.{Operation, output, Optional, some, Behaviour}
 use Rattle.syntax.specs.Rows.{hasRow, atRow}
 use Rattle.typing.specs.Rules.{permits}
-use Rattle.network.specs.declared.BehaviourKind.{BehaviourKind}
 use Rattle.network.specs.Form.{WellFormed}
 use Rattle.network.specs.Layout.{behaviourCount}
-use Rattle.network.specs.Rows.{kindAt}
 use Rattle.network.specs.RowLaws.{counts-kept}
 use Rattle.network.specs.OnceLaws.{rows-of}
 use Rattle.network.specs.Decode.{pathOf, operationOf, behaviourOf}
 use Rattle.network.specs.TestLaws.{apart, not-true, not-false}
 use Rattle.rows.specs.declared.BehaviourRow.{BehaviourRow}
 use Rattle.rows.proofs.BehaviourRow as rows
-use Rattle.rows.specs.Readers.{behaviourRowAs, behaviourRowOf}
+use Rattle.rows.specs.Readers.{behaviourRowOf}
 use Rattle.operations.specs.Directions.{directionOf}
 use Rattle.operations.specs.PermitsLaws.{two-way}
 use Rattle.row_parts.specs.Behaviours.{behaviourBy}
 use Rattle.row_parts.specs.KindLaws.{row-is}
 use Rattle.state_rows.specs.Marks.{markFor, RowsOf}
+use Rattle.state_rows.specs.PartLaws.{row-stands}
 use Rattle.state.specs.Session.{Progress, Session}
 use Rattle.state.specs.Bytes.{readSession}
+use Rattle.state.specs.RowLaws.{row-absent}
 use Rattle.progress.specs.declared.Progress as coded
 use Rattle.progress.specs.Meaning.{meaning}
 use Rattle.progress.proofs.Progress as progress
 use Rattle.moves.specs.Moves.{Result, notAllowed, require, ifWaiting, onWaitingRow}
 use Rattle.waiting_rows.specs.declared.Waiting.{Waiting}
 use Rattle.waiting_rows.specs.Waiting.{HasRow, WaitsAt}
-use Rattle.waiting_rows.specs.PartLaws.{at-each-row, row-absent, row-present}
 
 -- ---- `has_row`
 
@@ -68,53 +67,15 @@ pub ruleset row-laws = (far-row, near-row)
 
 -- `onWaitingRow` of row r, by the row that a reader gives.
 abbrev asks : List ℕ → ℕ → Session → ℕ → BehaviourRow → (Operation → Path → Result) → Result
-asks file q S r BehaviourRow.Nil f = notAllowed
-asks file q S r (BehaviourRow.OneWay o x) f = notAllowed
-asks file q S r (BehaviourRow.RequestResponse o x c d) f = notAllowed
-asks file q S r (BehaviourRow.Notification o e) f = notAllowed
-asks file q S r (BehaviourRow.SolicitResponse o e x) f =
-    ifWaiting (S .progress r) (require (permits q output true (operationOf file o)) MoveNotAllowed (f (operationOf file o) (pathOf file x)))
-asks file q S r (BehaviourRow.If e a b) f = notAllowed
-asks file q S r (BehaviourRow.While e b) f = notAllowed
-asks file q S r (BehaviourRow.Sequence a b) f = notAllowed
-asks file q S r (BehaviourRow.Parallel a b) f = notAllowed
-asks file q S r (BehaviourRow.Assign x e) f = notAllowed
-asks file q S r (BehaviourRow.Choice a n) f = notAllowed
-asks file q S r (BehaviourRow.Branch a b) f = notAllowed
-asks file q S r BehaviourRow.Unknown f = notAllowed
+asks file q S r x f = onWaitingRow q S (some (behaviourBy file r x)) f
 
-module _ (file : List ℕ) (q : ℕ) (S : Session) (f : Operation → Path → Result) where
-  asks-by : (r : ℕ) (x : BehaviourRow) → onWaitingRow q S (some (behaviourBy file r x)) f ≡ asks file q S r x f
-  asks-by r BehaviourRow.Nil = refl
-  asks-by r (BehaviourRow.OneWay o x) = refl
-  asks-by r (BehaviourRow.RequestResponse o x c d) = refl
-  asks-by r (BehaviourRow.Notification o e) = refl
-  asks-by r (BehaviourRow.SolicitResponse o e x) = refl
-  asks-by r (BehaviourRow.If e a b) = refl
-  asks-by r (BehaviourRow.While e b) = refl
-  asks-by r (BehaviourRow.Sequence a b) = refl
-  asks-by r (BehaviourRow.Parallel a b) = refl
-  asks-by r (BehaviourRow.Assign x e) = refl
-  asks-by r (BehaviourRow.Choice a n) = refl
-  asks-by r (BehaviourRow.Branch a b) = refl
-  asks-by r BehaviourRow.Unknown = refl
-
-  asks-own : WellFormed file → (r : ℕ) → r < behaviourCount file → onWaitingRow q S (some (behaviourOf file r)) f ≡ asks file q S r (behaviourRowOf file r) f
-  asks-own w r l =
-      let k = row-is file w r (behaviourCount file) (record { exists = l; enough = omega arith }) refl refl in
-      ap (λ (b : Behaviour). onWaitingRow q S (some b) f) (k .0) ∙ asks-by r (behaviourRowOf file r)
-
-  asks-branch : (r : ℕ) → kindAt file r ≡ BehaviourKind.Branch → notAllowed ≡ asks file q S r (behaviourRowOf file r) f
-  unfolding behaviourRowOf behaviourRowAs
-  asks-branch r e = rw e refl
-
-  row-asks : WellFormed file → (b r : ℕ) → b < behaviourCount file → hasRow r (behaviourOf file b) ≡ true
-      → onWaitingRow q S (atRow r (behaviourOf file b)) f ≡ asks file q S r (behaviourRowOf file r) f
-  row-asks w b r l h =
-      let p = row-present r (behaviourOf file b) h in
-      ap (λ (x : Optional Behaviour). onWaitingRow q S x f) (p .1)
-      ∙ at-each-row file w (λ i c. onWaitingRow q S (some c) f ≡ asks file q S i (behaviourRowOf file i) f) (asks-own w)
-      (λ i e c d m. asks-branch i e) (λ i e c d. asks-branch i e) b r l (p .0) (p .1)
+row-asks : (file : List ℕ) (q : ℕ) (S : Session) (f : Operation → Path → Result) → WellFormed file → (b r : ℕ) → b < behaviourCount file
+    → hasRow r (behaviourOf file b) ≡ true → onWaitingRow q S (atRow r (behaviourOf file b)) f ≡ asks file q S r (behaviourRowOf file r) f
+row-asks file q S f w b r l h =
+    let i = rows-of file w b r l (T-of h) .1 in
+    row-stands file w b r l h (λ x. onWaitingRow q S x f) refl
+    ∙ ap (λ (c : Behaviour). onWaitingRow q S (some c) f)
+    (row-is file w r (behaviourCount file) (record { exists = i; enough = omega arith }) {x = behaviourRowOf file r} refl refl .0)
 
 -- ---- `waiting_at`
 

@@ -1,3 +1,2 @@
 pub mod Waiting
-pub mod PartLaws
 pub mod WaitingLaws

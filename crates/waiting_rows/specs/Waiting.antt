@@ -15,10 +15,10 @@ use Rattle.syntax.specs.Rows.{hasRow, atRow}
 use Rattle.network.specs.Form.{WellFormed}
 use Rattle.network.specs.Layout.{pathCount, behaviourCount, operationCount}
 use Rattle.network.specs.Decode.{pathOf, operationOf, behaviourOf}
-use Rattle.state.specs.Session.{done, advance, Session, live, State}
+use Rattle.state.specs.Session.{done, advance, Session, withTree, withProgress, live, State}
 use Rattle.state.specs.Bytes.{slotBytes, readSession}
 use Rattle.state.specs.Shape.{WellMade}
-use Rattle.moves.specs.Moves.{Result, notAllowed, withTree, onWaitingRow, takeReply}
+use Rattle.moves.specs.Moves.{Result, notAllowed, onWaitingRow, takeReply}
 use Rattle.moves.specs.Step.{Step, finish}
 use Rattle.session_trees.specs.Changing.{KeptTree}
 use Rattle.moving.specs.Made.{StateOf, InSession}
@@ -49,7 +49,7 @@ pub record WaitsAt (file s : List ℕ) (slot b q r : ℕ) (x : Waiting) : Type 0
 
 -- The session with the tree F and its row r done.
 abbrev pub replied : Session → ℕ → Forest Value → Session
-replied S r F = withTree S F (advance (S .progress) r done)
+replied S r F = withProgress (withTree S F) (advance (S .progress) r done)
 
 -- That session, whose tree stands in the first n bytes of t, is in the slot.
 pub record PutsReply (s : List ℕ) (slot r : ℕ) (t : List ℕ) (n : ℕ) (s′ : List ℕ) : Type 0 where

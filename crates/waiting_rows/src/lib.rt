@@ -3,6 +3,7 @@
 ghost use Prim.Native.Nat.{_+_, _≤_, _<_};
 ghost use lib.ListN.{length};
 ghost use Rattle.waiting_rows.specs.Waiting.{HasRow, WaitsAt, PutsReply, TakesReply};
+ghost use Rattle.state.specs.Places.{slotSize, treeRoom};
 use progress::Progress;
 use refusal::Outcome;
 use refusal::Refusal;
@@ -49,7 +50,7 @@ pub fn waiting_at(file: &[u8], state: &[u8], slot: usize, b: u16, q: u16, r: u16
 
 // Stores the first n bytes of `tree` as the session's tree, and its row r as done.
 pub fn put_reply(state: &mut [u8], slot: usize, r: u16, tree: &[u8], n: u16)
-    requires { ⌜ (slot + 4096 ≤ length (now state)) × (r < 256) × (n ≤ 1024) × (n ≤ length (now tree)) ⌝ }
+    requires { ⌜ (slot + slotSize ≤ length (now state)) × (r < 256) × (n ≤ treeRoom) × (n ≤ length (now tree)) ⌝ }
     ensures { λ _. ⌜ PutsReply (now (state .entry)) slot r (now (tree .entry)) n (now (state .exit)) ⌝ }
 {
     slots::put_tree(state, slot, tree, n);
@@ -66,7 +67,7 @@ pub fn take_reply(
     path: u16,
     message: &[u8],
 ) -> Outcome
-    requires { ⌜ (slot + 4096 ≤ length (now state)) × (r < 256) ⌝ }
+    requires { ⌜ (slot + slotSize ≤ length (now state)) × (r < 256) ⌝ }
     ensures { λ o. ⌜ TakesReply (now (file .entry)) (now (state .entry)) slot r path (now (message .entry)) (now (state .exit)) o ⌝ }
 {
     let mut tree = [0u8; 2304];

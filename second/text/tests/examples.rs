@@ -12,7 +12,7 @@ fn folder() -> PathBuf {
 /// Name, first line of the report, lines of the report, line and column of a refusal.
 type Verdict = (&'static str, &'static str, usize, Option<(usize, usize)>);
 
-const VERDICTS: [Verdict; 7] = [
+const VERDICTS: [Verdict; 8] = [
     ("assign", "accepted", 3, None),
     ("branches", "accepted", 5, None),
     ("flag_refused", "refused 7 3", 1, Some((18, 13))),
@@ -20,6 +20,7 @@ const VERDICTS: [Verdict; 7] = [
     ("hall_refused", "refused 9 5", 1, Some((21, 53))),
     ("nested", "accepted", 15, None),
     ("parallel", "accepted", 4, None),
+    ("scale", "accepted", 13, None),
 ];
 
 #[test]

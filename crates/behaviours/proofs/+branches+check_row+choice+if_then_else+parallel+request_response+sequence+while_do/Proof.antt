@@ -45,8 +45,8 @@ use Rattle.layout.proofs.behaviour_at.Reads as behaviour-at-reads
 use Rattle.layout.proofs.both.Reads as both-reads
 use Rattle.roots.proofs.apart.Reads as apart-reads
 use Rattle.rows.proofs.behaviour_row.Reads as behaviour-row-reads
+use Rattle.rows.proofs.branch_at.Reads as branch-at-reads
 use Rattle.rows.proofs.reply_type.Reads as reply-type-reads
-use Rattle.wire.proofs.u16_at.Reads as u16-at-reads
 use Rattle.behaviours.proofs.+branches+check_row+choice+if_then_else+parallel+request_response+sequence+while_do.{
   statement,
 }
@@ -147,52 +147,43 @@ abbrev while-do-below : ℕ → In 2 while-do-kinds.ps
 while-do-below t =
     and 2 while-do-kinds.ps (falls 2 while-do-kinds.ps _<_ μ-while-do t) while-do.Pre
 
-branches-settle-requires : (t : ℕ) → branches-lts.Need-settle-requires (settle-reads.Asked, settle-reads.Learnt, u16-at-reads.Asked, u16-at-reads.Learnt, sequence-below t, sequence.Post, same-reads.Asked, same-reads.Learnt, both-reads.Asked, both-reads.Learnt, branches-below t, branches.Post) (branches-at t) branches.Post
+branches-settle-requires : (t : ℕ) → branches-lts.Need-settle-requires (settle-reads.Asked, settle-reads.Learnt, branch-at-reads.Asked, branch-at-reads.Learnt, sequence-below t, sequence.Post, same-reads.Asked, same-reads.Learnt, both-reads.Asked, both-reads.Learnt, branches-below t, branches.Post) (branches-at t) branches.Post
 branches-settle-requires t c κs = search needs
 
-branches-returns : (t : ℕ) → branches-lts.Need-returns (settle-reads.Asked, settle-reads.Learnt, u16-at-reads.Asked, u16-at-reads.Learnt, sequence-below t, sequence.Post, same-reads.Asked, same-reads.Learnt, both-reads.Asked, both-reads.Learnt, branches-below t, branches.Post) (branches-at t) branches.Post
+branches-returns : (t : ℕ) → branches-lts.Need-returns (settle-reads.Asked, settle-reads.Learnt, branch-at-reads.Asked, branch-at-reads.Learnt, sequence-below t, sequence.Post, same-reads.Asked, same-reads.Learnt, both-reads.Asked, both-reads.Learnt, branches-below t, branches.Post) (branches-at t) branches.Post
 branches-returns t c = search branches-laws depth 12
 
-branches-add-u16-at : (t : ℕ) → branches-lts.Need-add-u16-at (settle-reads.Asked, settle-reads.Learnt, u16-at-reads.Asked, u16-at-reads.Learnt, sequence-below t, sequence.Post, same-reads.Asked, same-reads.Learnt, both-reads.Asked, both-reads.Learnt, branches-below t, branches.Post) (branches-at t) branches.Post
-branches-add-u16-at t c = search needs
+branches-branch-at-requires : (t : ℕ) → branches-lts.Need-branch-at-requires (settle-reads.Asked, settle-reads.Learnt, branch-at-reads.Asked, branch-at-reads.Learnt, sequence-below t, sequence.Post, same-reads.Asked, same-reads.Learnt, both-reads.Asked, both-reads.Learnt, branches-below t, branches.Post) (branches-at t) branches.Post
+branches-branch-at-requires t c κs = search needs
 
-branches-u16-at-requires : (t : ℕ) → branches-lts.Need-u16-at-requires (settle-reads.Asked, settle-reads.Learnt, u16-at-reads.Asked, u16-at-reads.Learnt, sequence-below t, sequence.Post, same-reads.Asked, same-reads.Learnt, both-reads.Asked, both-reads.Learnt, branches-below t, branches.Post) (branches-at t) branches.Post
-branches-u16-at-requires t c κs = search needs
-
-branches-add-u16-at-2 : (t : ℕ) → branches-lts.Need-add-u16-at-2 (settle-reads.Asked, settle-reads.Learnt, u16-at-reads.Asked, u16-at-reads.Learnt, sequence-below t, sequence.Post, same-reads.Asked, same-reads.Learnt, both-reads.Asked, both-reads.Learnt, branches-below t, branches.Post) (branches-at t) branches.Post
-branches-add-u16-at-2 t c = search needs
-
-branches-u16-at-requires-2 : (t : ℕ) → branches-lts.Need-u16-at-requires-2 (settle-reads.Asked, settle-reads.Learnt, u16-at-reads.Asked, u16-at-reads.Learnt, sequence-below t, sequence.Post, same-reads.Asked, same-reads.Learnt, both-reads.Asked, both-reads.Learnt, branches-below t, branches.Post) (branches-at t) branches.Post
-branches-u16-at-requires-2 t c κs = search needs
-
-branches-sequence-requires : (t : ℕ) → branches-lts.Need-sequence-requires (settle-reads.Asked, settle-reads.Learnt, u16-at-reads.Asked, u16-at-reads.Learnt, sequence-below t, sequence.Post, same-reads.Asked, same-reads.Learnt, both-reads.Asked, both-reads.Learnt, branches-below t, branches.Post) (branches-at t) branches.Post
+branches-sequence-requires : (t : ℕ) → branches-lts.Need-sequence-requires (settle-reads.Asked, settle-reads.Learnt, branch-at-reads.Asked, branch-at-reads.Learnt, sequence-below t, sequence.Post, same-reads.Asked, same-reads.Learnt, both-reads.Asked, both-reads.Learnt, branches-below t, branches.Post) (branches-at t) branches.Post
 branches-sequence-requires t c κs = (omega arith, search needs)
 
-branches-enum-told : (t : ℕ) → branches-lts.Need-enum-told (settle-reads.Asked, settle-reads.Learnt, u16-at-reads.Asked, u16-at-reads.Learnt, sequence-below t, sequence.Post, same-reads.Asked, same-reads.Learnt, both-reads.Asked, both-reads.Learnt, branches-below t, branches.Post) (branches-at t) branches.Post
+branches-enum-told : (t : ℕ) → branches-lts.Need-enum-told (settle-reads.Asked, settle-reads.Learnt, branch-at-reads.Asked, branch-at-reads.Learnt, sequence-below t, sequence.Post, same-reads.Asked, same-reads.Learnt, both-reads.Asked, both-reads.Learnt, branches-below t, branches.Post) (branches-at t) branches.Post
 branches-enum-told t c = search needs
 
-branches-enum-told-2 : (t : ℕ) → branches-lts.Need-enum-told-2 (settle-reads.Asked, settle-reads.Learnt, u16-at-reads.Asked, u16-at-reads.Learnt, sequence-below t, sequence.Post, same-reads.Asked, same-reads.Learnt, both-reads.Asked, both-reads.Learnt, branches-below t, branches.Post) (branches-at t) branches.Post
+branches-enum-told-2 : (t : ℕ) → branches-lts.Need-enum-told-2 (settle-reads.Asked, settle-reads.Learnt, branch-at-reads.Asked, branch-at-reads.Learnt, sequence-below t, sequence.Post, same-reads.Asked, same-reads.Learnt, both-reads.Asked, both-reads.Learnt, branches-below t, branches.Post) (branches-at t) branches.Post
 branches-enum-told-2 t c = search needs
 
-branches-returns-2 : (t : ℕ) → branches-lts.Need-returns-2 (settle-reads.Asked, settle-reads.Learnt, u16-at-reads.Asked, u16-at-reads.Learnt, sequence-below t, sequence.Post, same-reads.Asked, same-reads.Learnt, both-reads.Asked, both-reads.Learnt, branches-below t, branches.Post) (branches-at t) branches.Post
+branches-returns-2 : (t : ℕ) → branches-lts.Need-returns-2 (settle-reads.Asked, settle-reads.Learnt, branch-at-reads.Asked, branch-at-reads.Learnt, sequence-below t, sequence.Post, same-reads.Asked, same-reads.Learnt, both-reads.Asked, both-reads.Learnt, branches-below t, branches.Post) (branches-at t) branches.Post
 branches-returns-2 t c = search branches-laws depth 12
 
-branches-same-requires : (t : ℕ) → branches-lts.Need-same-requires (settle-reads.Asked, settle-reads.Learnt, u16-at-reads.Asked, u16-at-reads.Learnt, sequence-below t, sequence.Post, same-reads.Asked, same-reads.Learnt, both-reads.Asked, both-reads.Learnt, branches-below t, branches.Post) (branches-at t) branches.Post
+branches-same-requires : (t : ℕ) → branches-lts.Need-same-requires (settle-reads.Asked, settle-reads.Learnt, branch-at-reads.Asked, branch-at-reads.Learnt, sequence-below t, sequence.Post, same-reads.Asked, same-reads.Learnt, both-reads.Asked, both-reads.Learnt, branches-below t, branches.Post) (branches-at t) branches.Post
 branches-same-requires t c κs = search needs
 
-branches-both-requires : (t : ℕ) → branches-lts.Need-both-requires (settle-reads.Asked, settle-reads.Learnt, u16-at-reads.Asked, u16-at-reads.Learnt, sequence-below t, sequence.Post, same-reads.Asked, same-reads.Learnt, both-reads.Asked, both-reads.Learnt, branches-below t, branches.Post) (branches-at t) branches.Post
+branches-both-requires : (t : ℕ) → branches-lts.Need-both-requires (settle-reads.Asked, settle-reads.Learnt, branch-at-reads.Asked, branch-at-reads.Learnt, sequence-below t, sequence.Post, same-reads.Asked, same-reads.Learnt, both-reads.Asked, both-reads.Learnt, branches-below t, branches.Post) (branches-at t) branches.Post
 branches-both-requires t c κs = search needs
 
-branches-add-branches : (t : ℕ) → branches-lts.Need-add-branches (settle-reads.Asked, settle-reads.Learnt, u16-at-reads.Asked, u16-at-reads.Learnt, sequence-below t, sequence.Post, same-reads.Asked, same-reads.Learnt, both-reads.Asked, both-reads.Learnt, branches-below t, branches.Post) (branches-at t) branches.Post
+branches-add-branches : (t : ℕ) → branches-lts.Need-add-branches (settle-reads.Asked, settle-reads.Learnt, branch-at-reads.Asked, branch-at-reads.Learnt, sequence-below t, sequence.Post, same-reads.Asked, same-reads.Learnt, both-reads.Asked, both-reads.Learnt, branches-below t, branches.Post) (branches-at t) branches.Post
 branches-add-branches t c = search needs
 
-branches-sub-branches : (t : ℕ) → branches-lts.Need-sub-branches (settle-reads.Asked, settle-reads.Learnt, u16-at-reads.Asked, u16-at-reads.Learnt, sequence-below t, sequence.Post, same-reads.Asked, same-reads.Learnt, both-reads.Asked, both-reads.Learnt, branches-below t, branches.Post) (branches-at t) branches.Post
+branches-sub-branches : (t : ℕ) → branches-lts.Need-sub-branches (settle-reads.Asked, settle-reads.Learnt, branch-at-reads.Asked, branch-at-reads.Learnt, sequence-below t, sequence.Post, same-reads.Asked, same-reads.Learnt, both-reads.Asked, both-reads.Learnt, branches-below t, branches.Post) (branches-at t) branches.Post
 branches-sub-branches t c = search needs
 
-branches-branches-requires : (t : ℕ) → branches-lts.Need-branches-requires (settle-reads.Asked, settle-reads.Learnt, u16-at-reads.Asked, u16-at-reads.Learnt, sequence-below t, sequence.Post, same-reads.Asked, same-reads.Learnt, both-reads.Asked, both-reads.Learnt, branches-below t, branches.Post) (branches-at t) branches.Post
+branches-branches-requires : (t : ℕ) → branches-lts.Need-branches-requires (settle-reads.Asked, settle-reads.Learnt, branch-at-reads.Asked, branch-at-reads.Learnt, sequence-below t, sequence.Post, same-reads.Asked, same-reads.Learnt, both-reads.Asked, both-reads.Learnt, branches-below t, branches.Post) (branches-at t) branches.Post
 branches-branches-requires t c κs = (omega arith, search needs)
 
-branches-returns-3 : (t : ℕ) → branches-lts.Need-returns-3 (settle-reads.Asked, settle-reads.Learnt, u16-at-reads.Asked, u16-at-reads.Learnt, sequence-below t, sequence.Post, same-reads.Asked, same-reads.Learnt, both-reads.Asked, both-reads.Learnt, branches-below t, branches.Post) (branches-at t) branches.Post
+branches-returns-3 : (t : ℕ) → branches-lts.Need-returns-3 (settle-reads.Asked, settle-reads.Learnt, branch-at-reads.Asked, branch-at-reads.Learnt, sequence-below t, sequence.Post, same-reads.Asked, same-reads.Learnt, both-reads.Asked, both-reads.Learnt, branches-below t, branches.Post) (branches-at t) branches.Post
 branches-returns-3 t c = search branches-laws depth 12
 
 check-row-pass-requires : (t : ℕ) → check-row-lts.Need-pass-requires (pass-reads.Asked, pass-reads.Learnt, behaviour-row-reads.Asked, behaviour-row-reads.Learnt, one-way-reads.Asked, one-way-reads.Learnt, request-response-below t, request-response.Post, notification-reads.Asked, notification-reads.Learnt, solicit-response-reads.Asked, solicit-response-reads.Learnt, if-then-else-below t, if-then-else.Post, while-do-below t, while-do.Post, sequence-below t, sequence.Post, parallel-below t, parallel.Post, assign-reads.Asked, assign-reads.Learnt, choice-below t, choice.Post) (check-row-at t) check-row.Post
@@ -339,49 +330,40 @@ check-row-returns-13 t c = search row-laws depth 12
 check-row-returns-14 : (t : ℕ) → check-row-lts.Need-returns-14 (pass-reads.Asked, pass-reads.Learnt, behaviour-row-reads.Asked, behaviour-row-reads.Learnt, one-way-reads.Asked, one-way-reads.Learnt, request-response-below t, request-response.Post, notification-reads.Asked, notification-reads.Learnt, solicit-response-reads.Asked, solicit-response-reads.Learnt, if-then-else-below t, if-then-else.Post, while-do-below t, while-do.Post, sequence-below t, sequence.Post, parallel-below t, parallel.Post, assign-reads.Asked, assign-reads.Learnt, choice-below t, choice.Post) (check-row-at t) check-row.Post
 check-row-returns-14 t c = search row-laws depth 12
 
-choice-pass-requires : (t : ℕ) → choice-lts.Need-pass-requires (pass-reads.Asked, pass-reads.Learnt, behaviour-at-reads.Asked, behaviour-at-reads.Learnt, u16-at-reads.Asked, u16-at-reads.Learnt, sequence-below t, sequence.Post, branches-below t, branches.Post) (choice-at t) choice.Post
+choice-pass-requires : (t : ℕ) → choice-lts.Need-pass-requires (pass-reads.Asked, pass-reads.Learnt, behaviour-at-reads.Asked, behaviour-at-reads.Learnt, branch-at-reads.Asked, branch-at-reads.Learnt, sequence-below t, sequence.Post, branches-below t, branches.Post) (choice-at t) choice.Post
 choice-pass-requires t c κs = search needs
 
-choice-returns : (t : ℕ) → choice-lts.Need-returns (pass-reads.Asked, pass-reads.Learnt, behaviour-at-reads.Asked, behaviour-at-reads.Learnt, u16-at-reads.Asked, u16-at-reads.Learnt, sequence-below t, sequence.Post, branches-below t, branches.Post) (choice-at t) choice.Post
+choice-returns : (t : ℕ) → choice-lts.Need-returns (pass-reads.Asked, pass-reads.Learnt, behaviour-at-reads.Asked, behaviour-at-reads.Learnt, branch-at-reads.Asked, branch-at-reads.Learnt, sequence-below t, sequence.Post, branches-below t, branches.Post) (choice-at t) choice.Post
 choice-returns t c = search choice-laws depth 12
 
-choice-behaviour-at-requires : (t : ℕ) → choice-lts.Need-behaviour-at-requires (pass-reads.Asked, pass-reads.Learnt, behaviour-at-reads.Asked, behaviour-at-reads.Learnt, u16-at-reads.Asked, u16-at-reads.Learnt, sequence-below t, sequence.Post, branches-below t, branches.Post) (choice-at t) choice.Post
+choice-behaviour-at-requires : (t : ℕ) → choice-lts.Need-behaviour-at-requires (pass-reads.Asked, pass-reads.Learnt, behaviour-at-reads.Asked, behaviour-at-reads.Learnt, branch-at-reads.Asked, branch-at-reads.Learnt, sequence-below t, sequence.Post, branches-below t, branches.Post) (choice-at t) choice.Post
 choice-behaviour-at-requires t c κs = search needs
 
-choice-add-u16-at : (t : ℕ) → choice-lts.Need-add-u16-at (pass-reads.Asked, pass-reads.Learnt, behaviour-at-reads.Asked, behaviour-at-reads.Learnt, u16-at-reads.Asked, u16-at-reads.Learnt, sequence-below t, sequence.Post, branches-below t, branches.Post) (choice-at t) choice.Post
-choice-add-u16-at t c = search needs
+choice-branch-at-requires : (t : ℕ) → choice-lts.Need-branch-at-requires (pass-reads.Asked, pass-reads.Learnt, behaviour-at-reads.Asked, behaviour-at-reads.Learnt, branch-at-reads.Asked, branch-at-reads.Learnt, sequence-below t, sequence.Post, branches-below t, branches.Post) (choice-at t) choice.Post
+choice-branch-at-requires t c κs = search needs
 
-choice-u16-at-requires : (t : ℕ) → choice-lts.Need-u16-at-requires (pass-reads.Asked, pass-reads.Learnt, behaviour-at-reads.Asked, behaviour-at-reads.Learnt, u16-at-reads.Asked, u16-at-reads.Learnt, sequence-below t, sequence.Post, branches-below t, branches.Post) (choice-at t) choice.Post
-choice-u16-at-requires t c κs = search needs
-
-choice-add-u16-at-2 : (t : ℕ) → choice-lts.Need-add-u16-at-2 (pass-reads.Asked, pass-reads.Learnt, behaviour-at-reads.Asked, behaviour-at-reads.Learnt, u16-at-reads.Asked, u16-at-reads.Learnt, sequence-below t, sequence.Post, branches-below t, branches.Post) (choice-at t) choice.Post
-choice-add-u16-at-2 t c = search needs
-
-choice-u16-at-requires-2 : (t : ℕ) → choice-lts.Need-u16-at-requires-2 (pass-reads.Asked, pass-reads.Learnt, behaviour-at-reads.Asked, behaviour-at-reads.Learnt, u16-at-reads.Asked, u16-at-reads.Learnt, sequence-below t, sequence.Post, branches-below t, branches.Post) (choice-at t) choice.Post
-choice-u16-at-requires-2 t c κs = search needs
-
-choice-sequence-requires : (t : ℕ) → choice-lts.Need-sequence-requires (pass-reads.Asked, pass-reads.Learnt, behaviour-at-reads.Asked, behaviour-at-reads.Learnt, u16-at-reads.Asked, u16-at-reads.Learnt, sequence-below t, sequence.Post, branches-below t, branches.Post) (choice-at t) choice.Post
+choice-sequence-requires : (t : ℕ) → choice-lts.Need-sequence-requires (pass-reads.Asked, pass-reads.Learnt, behaviour-at-reads.Asked, behaviour-at-reads.Learnt, branch-at-reads.Asked, branch-at-reads.Learnt, sequence-below t, sequence.Post, branches-below t, branches.Post) (choice-at t) choice.Post
 choice-sequence-requires t c κs = (omega arith, search needs)
 
-choice-enum-told : (t : ℕ) → choice-lts.Need-enum-told (pass-reads.Asked, pass-reads.Learnt, behaviour-at-reads.Asked, behaviour-at-reads.Learnt, u16-at-reads.Asked, u16-at-reads.Learnt, sequence-below t, sequence.Post, branches-below t, branches.Post) (choice-at t) choice.Post
+choice-enum-told : (t : ℕ) → choice-lts.Need-enum-told (pass-reads.Asked, pass-reads.Learnt, behaviour-at-reads.Asked, behaviour-at-reads.Learnt, branch-at-reads.Asked, branch-at-reads.Learnt, sequence-below t, sequence.Post, branches-below t, branches.Post) (choice-at t) choice.Post
 choice-enum-told t c = search needs
 
-choice-enum-told-2 : (t : ℕ) → choice-lts.Need-enum-told-2 (pass-reads.Asked, pass-reads.Learnt, behaviour-at-reads.Asked, behaviour-at-reads.Learnt, u16-at-reads.Asked, u16-at-reads.Learnt, sequence-below t, sequence.Post, branches-below t, branches.Post) (choice-at t) choice.Post
+choice-enum-told-2 : (t : ℕ) → choice-lts.Need-enum-told-2 (pass-reads.Asked, pass-reads.Learnt, behaviour-at-reads.Asked, behaviour-at-reads.Learnt, branch-at-reads.Asked, branch-at-reads.Learnt, sequence-below t, sequence.Post, branches-below t, branches.Post) (choice-at t) choice.Post
 choice-enum-told-2 t c = search needs
 
-choice-returns-2 : (t : ℕ) → choice-lts.Need-returns-2 (pass-reads.Asked, pass-reads.Learnt, behaviour-at-reads.Asked, behaviour-at-reads.Learnt, u16-at-reads.Asked, u16-at-reads.Learnt, sequence-below t, sequence.Post, branches-below t, branches.Post) (choice-at t) choice.Post
+choice-returns-2 : (t : ℕ) → choice-lts.Need-returns-2 (pass-reads.Asked, pass-reads.Learnt, behaviour-at-reads.Asked, behaviour-at-reads.Learnt, branch-at-reads.Asked, branch-at-reads.Learnt, sequence-below t, sequence.Post, branches-below t, branches.Post) (choice-at t) choice.Post
 choice-returns-2 t c = search choice-laws depth 12
 
-choice-add-branches : (t : ℕ) → choice-lts.Need-add-branches (pass-reads.Asked, pass-reads.Learnt, behaviour-at-reads.Asked, behaviour-at-reads.Learnt, u16-at-reads.Asked, u16-at-reads.Learnt, sequence-below t, sequence.Post, branches-below t, branches.Post) (choice-at t) choice.Post
+choice-add-branches : (t : ℕ) → choice-lts.Need-add-branches (pass-reads.Asked, pass-reads.Learnt, behaviour-at-reads.Asked, behaviour-at-reads.Learnt, branch-at-reads.Asked, branch-at-reads.Learnt, sequence-below t, sequence.Post, branches-below t, branches.Post) (choice-at t) choice.Post
 choice-add-branches t c = search needs
 
-choice-sub-branches : (t : ℕ) → choice-lts.Need-sub-branches (pass-reads.Asked, pass-reads.Learnt, behaviour-at-reads.Asked, behaviour-at-reads.Learnt, u16-at-reads.Asked, u16-at-reads.Learnt, sequence-below t, sequence.Post, branches-below t, branches.Post) (choice-at t) choice.Post
+choice-sub-branches : (t : ℕ) → choice-lts.Need-sub-branches (pass-reads.Asked, pass-reads.Learnt, behaviour-at-reads.Asked, behaviour-at-reads.Learnt, branch-at-reads.Asked, branch-at-reads.Learnt, sequence-below t, sequence.Post, branches-below t, branches.Post) (choice-at t) choice.Post
 choice-sub-branches t c = search needs
 
-choice-branches-requires : (t : ℕ) → choice-lts.Need-branches-requires (pass-reads.Asked, pass-reads.Learnt, behaviour-at-reads.Asked, behaviour-at-reads.Learnt, u16-at-reads.Asked, u16-at-reads.Learnt, sequence-below t, sequence.Post, branches-below t, branches.Post) (choice-at t) choice.Post
+choice-branches-requires : (t : ℕ) → choice-lts.Need-branches-requires (pass-reads.Asked, pass-reads.Learnt, behaviour-at-reads.Asked, behaviour-at-reads.Learnt, branch-at-reads.Asked, branch-at-reads.Learnt, sequence-below t, sequence.Post, branches-below t, branches.Post) (choice-at t) choice.Post
 choice-branches-requires t c κs = (omega arith, search needs)
 
-choice-returns-3 : (t : ℕ) → choice-lts.Need-returns-3 (pass-reads.Asked, pass-reads.Learnt, behaviour-at-reads.Asked, behaviour-at-reads.Learnt, u16-at-reads.Asked, u16-at-reads.Learnt, sequence-below t, sequence.Post, branches-below t, branches.Post) (choice-at t) choice.Post
+choice-returns-3 : (t : ℕ) → choice-lts.Need-returns-3 (pass-reads.Asked, pass-reads.Learnt, behaviour-at-reads.Asked, behaviour-at-reads.Learnt, branch-at-reads.Asked, branch-at-reads.Learnt, sequence-below t, sequence.Post, branches-below t, branches.Post) (choice-at t) choice.Post
 choice-returns-3 t c = search choice-laws depth 12
 
 if-then-else-condition-requires : (t : ℕ) → if-then-else-lts.Need-condition-requires (condition-reads.Asked, condition-reads.Learnt, check-row-below t, check-row.Post, agree-reads.Asked, agree-reads.Learnt) (if-then-else-at t) if-then-else.Post
@@ -548,8 +530,8 @@ pub +branches+check-row+choice+if-then-else+parallel+request-response+sequence+w
     (λ t. branches-lts.spec (
       settle-reads.Asked,
       settle-reads.Learnt,
-      u16-at-reads.Asked,
-      u16-at-reads.Learnt,
+      branch-at-reads.Asked,
+      branch-at-reads.Learnt,
       sequence-below t,
       sequence.Post,
       same-reads.Asked,
@@ -563,10 +545,7 @@ pub +branches+check-row+choice+if-then-else+parallel+request-response+sequence+w
     branches.Post
     (branches-settle-requires t)
     (branches-returns t)
-    (branches-add-u16-at t)
-    (branches-u16-at-requires t)
-    (branches-add-u16-at-2 t)
-    (branches-u16-at-requires-2 t)
+    (branches-branch-at-requires t)
     (branches-sequence-requires t)
     (branches-enum-told t)
     (branches-enum-told-2 t)
@@ -658,8 +637,8 @@ pub +branches+check-row+choice+if-then-else+parallel+request-response+sequence+w
       pass-reads.Learnt,
       behaviour-at-reads.Asked,
       behaviour-at-reads.Learnt,
-      u16-at-reads.Asked,
-      u16-at-reads.Learnt,
+      branch-at-reads.Asked,
+      branch-at-reads.Learnt,
       sequence-below t,
       sequence.Post,
       branches-below t,
@@ -670,10 +649,7 @@ pub +branches+check-row+choice+if-then-else+parallel+request-response+sequence+w
     (choice-pass-requires t)
     (choice-returns t)
     (choice-behaviour-at-requires t)
-    (choice-add-u16-at t)
-    (choice-u16-at-requires t)
-    (choice-add-u16-at-2 t)
-    (choice-u16-at-requires-2 t)
+    (choice-branch-at-requires t)
     (choice-sequence-requires t)
     (choice-enum-told t)
     (choice-enum-told-2 t)

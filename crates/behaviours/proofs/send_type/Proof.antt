@@ -44,17 +44,11 @@ returns-2 c = search send-type-laws depth 12
 refuse-requires-2 : tie.Need-refuse-requires-2
 refuse-requires-2 c κs = search needs
 
-enum-told : tie.Need-enum-told
-enum-told c = search needs
+enum-known-why : tie.Need-enum-known-why
+enum-known-why c = search needs
 
 refuse-requires-3 : tie.Need-refuse-requires-3
 refuse-requires-3 c κs = search needs
-
-enum-told-2 : tie.Need-enum-told-2
-enum-told-2 c = search needs
-
-refuse-requires-4 : tie.Need-refuse-requires-4
-refuse-requires-4 c κs = search needs
 
 returns-3 : tie.Need-returns-3
 returns-3 c = search send-type-laws depth 12
@@ -64,9 +58,6 @@ returns-4 c = search send-type-laws depth 12
 
 returns-5 : tie.Need-returns-5
 returns-5 c = search send-type-laws depth 12
-
-returns-6 : tie.Need-returns-6
-returns-6 c = search send-type-laws depth 12
 
 pub send-type-spec : {M : Type 1} → statement M
 send-type-spec =
@@ -83,11 +74,8 @@ send-type-spec =
     pass-requires-2
     returns-2
     refuse-requires-2
-    enum-told
+    enum-known-why
     refuse-requires-3
-    enum-told-2
-    refuse-requires-4
     returns-3
     returns-4
-    returns-5
-    returns-6)
+    returns-5)

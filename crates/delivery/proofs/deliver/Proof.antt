@@ -8,8 +8,8 @@ use Rattle.delivery.proofs.queue.Reads as queue-reads
 use Rattle.delivery.proofs.start.Reads as start-reads
 use Rattle.refusal.proofs.refused.Reads as refused-reads
 use Rattle.rows.proofs.operation_service.Reads as operation-service-reads
+use Rattle.state.proofs.slot_start.Reads as slot-start-reads
 use Rattle.wire.proofs.byte_to_u16.Reads as byte-to-u16-reads
-use Rattle.wire.proofs.index.Reads as index-reads
 
 operation-service-requires : tie.Need-operation-service-requires
 operation-service-requires c κs = search needs
@@ -29,20 +29,8 @@ refused-requires-2 c κs = search needs
 returns-2 : tie.Need-returns-2
 returns-2 c = search (deliver-laws, needs) depth 12
 
-index-requires : tie.Need-index-requires
-index-requires c κs = search needs
-
-mul-slot : tie.Need-mul-slot
-mul-slot c = search needs
-
-index-requires-2 : tie.Need-index-requires-2
-index-requires-2 c κs = search needs
-
-add-slot : tie.Need-add-slot
-add-slot c = search needs
-
-mul-slot-2 : tie.Need-mul-slot-2
-mul-slot-2 c = search needs
+slot-start-requires : tie.Need-slot-start-requires
+slot-start-requires c κs = search needs
 
 enum-told : tie.Need-enum-told
 enum-told c = search needs
@@ -73,7 +61,7 @@ returns-3 c = search (deliver-laws, needs) depth 12
 
 returns-4 : tie.Need-returns-4
 returns-4 c =
-    let d = c .before .before .before .before .before .before .before in
+    let d = c .before .before .before .before .before .before in
     to-full (d .before .operation-service .ensures) (d .byte-to-u16 .ensures .0) (search needs) (c .refused4 .ensures)
 
 same-length : tie.Need-same-length
@@ -98,11 +86,7 @@ deliver-spec =
     returns
     refused-requires-2
     returns-2
-    index-requires
-    mul-slot
-    index-requires-2
-    add-slot
-    mul-slot-2
+    slot-start-requires
     enum-told
     refused-requires-3
     enum-told-2

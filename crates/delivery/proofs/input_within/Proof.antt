@@ -4,11 +4,11 @@ use Rattle.delivery.proofs.input_within.Statement.{statement}
 use Rattle.delivery.proofs.input_within.Tie as tie
 use Rattle.delivery.proofs.input_within.Reads as reads
 use Rattle.delivery.proofs.input_within.Lts as lts
-use Rattle.delivery.proofs.input_at.Reads as input-at-reads
 use Rattle.delivery.proofs.path_within.Reads as path-within-reads
+use Rattle.rows.proofs.input_of.Reads as input-of-reads
 
-input-at-requires : tie.Need-input-at-requires
-input-at-requires c κs = search needs
+input-of-requires : tie.Need-input-of-requires
+input-of-requires c κs = search needs
 
 enum-known-p : tie.Need-enum-known-p
 enum-known-p c = search needs
@@ -38,7 +38,7 @@ pub input-within-spec : {M : Type 1} → statement M
 input-within-spec =
     tie.close
     (tie.spec
-    input-at-requires
+    input-of-requires
     enum-known-p
     path-within-requires
     enum-known-p-2

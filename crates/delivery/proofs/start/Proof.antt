@@ -4,13 +4,13 @@ use Rattle.delivery.proofs.start.Statement.{statement}
 use Rattle.delivery.proofs.start.Tie as tie
 use Rattle.delivery.proofs.start.Reads as reads
 use Rattle.delivery.proofs.start.Lts as lts
-use Rattle.delivery.proofs.input_at.Reads as input-at-reads
 use Rattle.delivery.proofs.received.Reads as received-reads
 use Rattle.delivery.proofs.start_by.Reads as start-by-reads
 use Rattle.refusal.proofs.refused.Reads as refused-reads
+use Rattle.rows.proofs.input_of.Reads as input-of-reads
 
-input-at-requires : tie.Need-input-at-requires
-input-at-requires c κs = search needs
+input-of-requires : tie.Need-input-of-requires
+input-of-requires c κs = search needs
 
 enum-known-p : tie.Need-enum-known-p
 enum-known-p c = search needs
@@ -52,7 +52,7 @@ pub start-spec : {M : Type 1} → statement M
 start-spec =
     tie.close
     (tie.spec
-    input-at-requires
+    input-of-requires
     enum-known-p
     start-by-requires
     enum-known-p-2

@@ -8,6 +8,7 @@ use Rattle.delivery.proofs.start_tree.Lts as lts
 use Rattle.rows.proofs.path_row.Reads as path-row-reads
 use Rattle.session_trees.proofs.replace.Reads as replace-reads
 use Rattle.slots.proofs.begin.Reads as begin-reads
+use Rattle.state.specs.Places.{slotSize}
 
 slice-aggregate-begin : tie.Need-slice-aggregate-begin
 slice-aggregate-begin c = search needs
@@ -29,7 +30,7 @@ same-length c = search needs
 
 returns : tie.Need-returns
 returns c =
-    start-tree-is {n = 4096} refl refl (c .before .before .before .before .before .before .before .begin .ensures)
+    start-tree-is {n = slotSize} refl refl (c .before .before .before .before .before .before .before .begin .ensures)
     (c .before .before .before .path-row .ensures) (c .before .before .replace .ensures)
 
 pub start-tree-spec : {M : Type 1} → statement M

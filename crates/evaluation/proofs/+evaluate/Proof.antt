@@ -12,7 +12,7 @@ use Rattle.evaluation.proofs.binary.Reads as binary-reads
 use Rattle.evaluation.proofs.constant.Reads as constant-reads
 use Rattle.row_parts.proofs.part_of.Reads as part-of-reads
 use Rattle.evaluation.proofs.presence.Reads as presence-reads
-use Rattle.evaluation.proofs.stuck.Reads as stuck-reads
+use Rattle.evaluation.proofs.wrong.Reads as wrong-reads
 use Rattle.evaluation.proofs.unary.Reads as unary-reads
 use Rattle.evaluation.proofs.value_at.Reads as value-at-reads
 use Rattle.evaluation.proofs.+evaluate.{statement}
@@ -43,8 +43,8 @@ evaluate-part-of-requires : (t : ℕ) → evaluate-lts.Need-part-of-requires (
   unary-reads.Learnt,
   binary-reads.Asked,
   binary-reads.Learnt,
-  stuck-reads.Asked,
-  stuck-reads.Learnt,
+  wrong-reads.Asked,
+  wrong-reads.Learnt,
 ) (evaluate-at t) evaluate.Post
 evaluate-part-of-requires t c κs = search needs
 
@@ -63,8 +63,8 @@ evaluate-enum-known-b : (t : ℕ) → evaluate-lts.Need-enum-known-b (
   unary-reads.Learnt,
   binary-reads.Asked,
   binary-reads.Learnt,
-  stuck-reads.Asked,
-  stuck-reads.Learnt,
+  wrong-reads.Asked,
+  wrong-reads.Learnt,
 ) (evaluate-at t) evaluate.Post
 evaluate-enum-known-b t c = search needs
 
@@ -83,8 +83,8 @@ evaluate-constant-requires : (t : ℕ) → evaluate-lts.Need-constant-requires (
   unary-reads.Learnt,
   binary-reads.Asked,
   binary-reads.Learnt,
-  stuck-reads.Asked,
-  stuck-reads.Learnt,
+  wrong-reads.Asked,
+  wrong-reads.Learnt,
 ) (evaluate-at t) evaluate.Post
 evaluate-constant-requires t c κs = search needs
 
@@ -103,8 +103,8 @@ evaluate-enum-known-p : (t : ℕ) → evaluate-lts.Need-enum-known-p (
   unary-reads.Learnt,
   binary-reads.Asked,
   binary-reads.Learnt,
-  stuck-reads.Asked,
-  stuck-reads.Learnt,
+  wrong-reads.Asked,
+  wrong-reads.Learnt,
 ) (evaluate-at t) evaluate.Post
 evaluate-enum-known-p t c = search needs
 
@@ -123,8 +123,8 @@ evaluate-value-at-requires : (t : ℕ) → evaluate-lts.Need-value-at-requires (
   unary-reads.Learnt,
   binary-reads.Asked,
   binary-reads.Learnt,
-  stuck-reads.Asked,
-  stuck-reads.Learnt,
+  wrong-reads.Asked,
+  wrong-reads.Learnt,
 ) (evaluate-at t) evaluate.Post
 evaluate-value-at-requires t c κs = search needs
 
@@ -143,8 +143,8 @@ evaluate-enum-known-p-2 : (t : ℕ) → evaluate-lts.Need-enum-known-p-2 (
   unary-reads.Learnt,
   binary-reads.Asked,
   binary-reads.Learnt,
-  stuck-reads.Asked,
-  stuck-reads.Learnt,
+  wrong-reads.Asked,
+  wrong-reads.Learnt,
 ) (evaluate-at t) evaluate.Post
 evaluate-enum-known-p-2 t c = search needs
 
@@ -163,8 +163,8 @@ evaluate-presence-requires : (t : ℕ) → evaluate-lts.Need-presence-requires (
   unary-reads.Learnt,
   binary-reads.Asked,
   binary-reads.Learnt,
-  stuck-reads.Asked,
-  stuck-reads.Learnt,
+  wrong-reads.Asked,
+  wrong-reads.Learnt,
 ) (evaluate-at t) evaluate.Post
 evaluate-presence-requires t c κs = search needs
 
@@ -183,8 +183,8 @@ evaluate-enum-known-o : (t : ℕ) → evaluate-lts.Need-enum-known-o (
   unary-reads.Learnt,
   binary-reads.Asked,
   binary-reads.Learnt,
-  stuck-reads.Asked,
-  stuck-reads.Learnt,
+  wrong-reads.Asked,
+  wrong-reads.Learnt,
 ) (evaluate-at t) evaluate.Post
 evaluate-enum-known-o t c = search needs
 
@@ -203,8 +203,8 @@ evaluate-evaluate-requires : (t : ℕ) → evaluate-lts.Need-evaluate-requires (
   unary-reads.Learnt,
   binary-reads.Asked,
   binary-reads.Learnt,
-  stuck-reads.Asked,
-  stuck-reads.Learnt,
+  wrong-reads.Asked,
+  wrong-reads.Learnt,
 ) (evaluate-at t) evaluate.Post
 evaluate-evaluate-requires t c κs =
     let s = c .before .before .before .before .before .before in
@@ -226,8 +226,8 @@ evaluate-unary-requires : (t : ℕ) → evaluate-lts.Need-unary-requires (
   unary-reads.Learnt,
   binary-reads.Asked,
   binary-reads.Learnt,
-  stuck-reads.Asked,
-  stuck-reads.Learnt,
+  wrong-reads.Asked,
+  wrong-reads.Learnt,
 ) (evaluate-at t) evaluate.Post
 evaluate-unary-requires t c κs = search needs
 
@@ -246,8 +246,8 @@ evaluate-enum-known-o-2 : (t : ℕ) → evaluate-lts.Need-enum-known-o-2 (
   unary-reads.Learnt,
   binary-reads.Asked,
   binary-reads.Learnt,
-  stuck-reads.Asked,
-  stuck-reads.Learnt,
+  wrong-reads.Asked,
+  wrong-reads.Learnt,
 ) (evaluate-at t) evaluate.Post
 evaluate-enum-known-o-2 t c = search needs
 
@@ -266,8 +266,8 @@ evaluate-evaluate-requires-2 : (t : ℕ) → evaluate-lts.Need-evaluate-requires
   unary-reads.Learnt,
   binary-reads.Asked,
   binary-reads.Learnt,
-  stuck-reads.Asked,
-  stuck-reads.Learnt,
+  wrong-reads.Asked,
+  wrong-reads.Learnt,
 ) (evaluate-at t) evaluate.Post
 evaluate-evaluate-requires-2 t c κs =
     let s = c .before .before .before .before .before .before in
@@ -289,8 +289,8 @@ evaluate-evaluate-requires-3 : (t : ℕ) → evaluate-lts.Need-evaluate-requires
   unary-reads.Learnt,
   binary-reads.Asked,
   binary-reads.Learnt,
-  stuck-reads.Asked,
-  stuck-reads.Learnt,
+  wrong-reads.Asked,
+  wrong-reads.Learnt,
 ) (evaluate-at t) evaluate.Post
 evaluate-evaluate-requires-3 t c κs =
     let s = c .before .before .before .before .before .before .before in
@@ -312,8 +312,8 @@ evaluate-binary-requires : (t : ℕ) → evaluate-lts.Need-binary-requires (
   unary-reads.Learnt,
   binary-reads.Asked,
   binary-reads.Learnt,
-  stuck-reads.Asked,
-  stuck-reads.Learnt,
+  wrong-reads.Asked,
+  wrong-reads.Learnt,
 ) (evaluate-at t) evaluate.Post
 evaluate-binary-requires t c κs = search needs
 
@@ -332,12 +332,12 @@ evaluate-enum-told : (t : ℕ) → evaluate-lts.Need-enum-told (
   unary-reads.Learnt,
   binary-reads.Asked,
   binary-reads.Learnt,
-  stuck-reads.Asked,
-  stuck-reads.Learnt,
+  wrong-reads.Asked,
+  wrong-reads.Learnt,
 ) (evaluate-at t) evaluate.Post
 evaluate-enum-told t c = search needs
 
-evaluate-stuck-requires : (t : ℕ) → evaluate-lts.Need-stuck-requires (
+evaluate-wrong-requires : (t : ℕ) → evaluate-lts.Need-wrong-requires (
   part-of-reads.Asked,
   part-of-reads.Learnt,
   constant-reads.Asked,
@@ -352,10 +352,10 @@ evaluate-stuck-requires : (t : ℕ) → evaluate-lts.Need-stuck-requires (
   unary-reads.Learnt,
   binary-reads.Asked,
   binary-reads.Learnt,
-  stuck-reads.Asked,
-  stuck-reads.Learnt,
+  wrong-reads.Asked,
+  wrong-reads.Learnt,
 ) (evaluate-at t) evaluate.Post
-evaluate-stuck-requires t c κs = search needs
+evaluate-wrong-requires t c κs = search needs
 
 evaluate-returns : (t : ℕ) → evaluate-lts.Need-returns (
   part-of-reads.Asked,
@@ -372,8 +372,8 @@ evaluate-returns : (t : ℕ) → evaluate-lts.Need-returns (
   unary-reads.Learnt,
   binary-reads.Asked,
   binary-reads.Learnt,
-  stuck-reads.Asked,
-  stuck-reads.Learnt,
+  wrong-reads.Asked,
+  wrong-reads.Learnt,
 ) (evaluate-at t) evaluate.Post
 evaluate-returns t c = search row-laws depth 12
 
@@ -392,8 +392,8 @@ evaluate-returns-2 : (t : ℕ) → evaluate-lts.Need-returns-2 (
   unary-reads.Learnt,
   binary-reads.Asked,
   binary-reads.Learnt,
-  stuck-reads.Asked,
-  stuck-reads.Learnt,
+  wrong-reads.Asked,
+  wrong-reads.Learnt,
 ) (evaluate-at t) evaluate.Post
 evaluate-returns-2 t c = search row-laws depth 12
 
@@ -412,8 +412,8 @@ evaluate-returns-3 : (t : ℕ) → evaluate-lts.Need-returns-3 (
   unary-reads.Learnt,
   binary-reads.Asked,
   binary-reads.Learnt,
-  stuck-reads.Asked,
-  stuck-reads.Learnt,
+  wrong-reads.Asked,
+  wrong-reads.Learnt,
 ) (evaluate-at t) evaluate.Post
 evaluate-returns-3 t c = search row-laws depth 12
 
@@ -432,8 +432,8 @@ evaluate-returns-4 : (t : ℕ) → evaluate-lts.Need-returns-4 (
   unary-reads.Learnt,
   binary-reads.Asked,
   binary-reads.Learnt,
-  stuck-reads.Asked,
-  stuck-reads.Learnt,
+  wrong-reads.Asked,
+  wrong-reads.Learnt,
 ) (evaluate-at t) evaluate.Post
 evaluate-returns-4 t c = search row-laws depth 12
 
@@ -452,8 +452,8 @@ evaluate-returns-5 : (t : ℕ) → evaluate-lts.Need-returns-5 (
   unary-reads.Learnt,
   binary-reads.Asked,
   binary-reads.Learnt,
-  stuck-reads.Asked,
-  stuck-reads.Learnt,
+  wrong-reads.Asked,
+  wrong-reads.Learnt,
 ) (evaluate-at t) evaluate.Post
 evaluate-returns-5 t c = search row-laws depth 12
 
@@ -472,8 +472,8 @@ evaluate-returns-6 : (t : ℕ) → evaluate-lts.Need-returns-6 (
   unary-reads.Learnt,
   binary-reads.Asked,
   binary-reads.Learnt,
-  stuck-reads.Asked,
-  stuck-reads.Learnt,
+  wrong-reads.Asked,
+  wrong-reads.Learnt,
 ) (evaluate-at t) evaluate.Post
 evaluate-returns-6 t c = search row-laws depth 12
 
@@ -493,8 +493,8 @@ pub +evaluate-spec : {M : Type 1} → statement M
   unary-reads.Learnt,
   binary-reads.Asked,
   binary-reads.Learnt,
-  stuck-reads.Asked,
-  stuck-reads.Learnt,
+  wrong-reads.Asked,
+  wrong-reads.Learnt,
 )
     (evaluate-at t)
     evaluate.Post
@@ -513,7 +513,7 @@ pub +evaluate-spec : {M : Type 1} → statement M
     (evaluate-evaluate-requires-3 t)
     (evaluate-binary-requires t)
     (evaluate-enum-told t)
-    (evaluate-stuck-requires t)
+    (evaluate-wrong-requires t)
     (evaluate-returns t)
     (evaluate-returns-2 t)
     (evaluate-returns-3 t)

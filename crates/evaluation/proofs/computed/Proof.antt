@@ -5,14 +5,14 @@ use Rattle.evaluation.proofs.computed.Tie as tie
 use Rattle.evaluation.proofs.computed.Reads as reads
 use Rattle.evaluation.proofs.computed.Lts as lts
 use Rattle.evaluation.proofs.alone.Reads as alone-reads
-use Rattle.evaluation.proofs.stuck.Reads as stuck-reads
+use Rattle.evaluation.proofs.wrong.Reads as wrong-reads
 use Rattle.scalar.proofs.plain.Reads as plain-reads
 
 enum-told : tie.Need-enum-told
 enum-told c = search needs
 
-stuck-requires : tie.Need-stuck-requires
-stuck-requires c κs = search needs
+wrong-requires : tie.Need-wrong-requires
+wrong-requires c κs = search needs
 
 enum-known-c : tie.Need-enum-known-c
 enum-known-c c = search needs
@@ -34,7 +34,7 @@ computed-spec =
     tie.close
     (tie.spec
     enum-told
-    stuck-requires
+    wrong-requires
     enum-known-c
     plain-requires
     alone-requires

@@ -4,20 +4,58 @@ use Rattle.evaluation.proofs.condition.Statement.{statement}
 use Rattle.evaluation.proofs.condition.Tie as tie
 use Rattle.evaluation.proofs.condition.Reads as reads
 use Rattle.evaluation.proofs.condition.Lts as lts
-use Rattle.evaluation.proofs.is_stuck.Reads as is-stuck-reads
-use Rattle.evaluation.proofs.truth.Reads as truth-reads
+use Rattle.scalar.proofs.truth_of.Reads as truth-of-reads
+use Rattle.evaluation.proofs.decided.Reads as decided-reads
 
-is-stuck-requires : tie.Need-is-stuck-requires
-is-stuck-requires c κs = search needs
+enum-told : tie.Need-enum-told
+enum-told c = search needs
+
+truth-of-requires : tie.Need-truth-of-requires
+truth-of-requires c κs = search needs
+
+decided-requires : tie.Need-decided-requires
+decided-requires c κs = search needs
+
+enum-told-2 : tie.Need-enum-told-2
+enum-told-2 c = search needs
+
+truth-of-requires-2 : tie.Need-truth-of-requires-2
+truth-of-requires-2 c κs = search needs
+
+decided-requires-2 : tie.Need-decided-requires-2
+decided-requires-2 c κs = search needs
+
+enum-told-3 : tie.Need-enum-told-3
+enum-told-3 c = search needs
+
+enum-told-4 : tie.Need-enum-told-4
+enum-told-4 c = search needs
 
 returns : tie.Need-returns
 returns c = search condition-laws depth 12
 
-truth-requires : tie.Need-truth-requires
-truth-requires c κs = search needs
-
 returns-2 : tie.Need-returns-2
 returns-2 c = search condition-laws depth 12
 
+returns-3 : tie.Need-returns-3
+returns-3 c = search condition-laws depth 12
+
+returns-4 : tie.Need-returns-4
+returns-4 c = search condition-laws depth 12
+
 pub condition-spec : {M : Type 1} → statement M
-condition-spec = tie.close (tie.spec is-stuck-requires returns truth-requires returns-2)
+condition-spec =
+    tie.close
+    (tie.spec
+    enum-told
+    truth-of-requires
+    decided-requires
+    enum-told-2
+    truth-of-requires-2
+    decided-requires-2
+    enum-told-3
+    enum-told-4
+    returns
+    returns-2
+    returns-3
+    returns-4)

@@ -5,7 +5,7 @@ use Rattle.evaluation.proofs.constant.Tie as tie
 use Rattle.evaluation.proofs.constant.Reads as reads
 use Rattle.evaluation.proofs.constant.Lts as lts
 use Rattle.evaluation.proofs.alone.Reads as alone-reads
-use Rattle.evaluation.proofs.stuck.Reads as stuck-reads
+use Rattle.evaluation.proofs.wrong.Reads as wrong-reads
 use Rattle.layout.proofs.data_start.Reads as data-start-reads
 use Rattle.layout.proofs.smaller.Reads as smaller-reads
 use Rattle.scalar.proofs.read.Reads as read-reads
@@ -45,8 +45,8 @@ alone-requires c κs = search needs
 returns : tie.Need-returns
 returns c = search constant-laws depth 12
 
-stuck-requires : tie.Need-stuck-requires
-stuck-requires c κs = search needs
+wrong-requires : tie.Need-wrong-requires
+wrong-requires c κs = search needs
 
 returns-2 : tie.Need-returns-2
 returns-2 c = search constant-laws depth 12
@@ -66,5 +66,5 @@ constant-spec =
     read-requires
     alone-requires
     returns
-    stuck-requires
+    wrong-requires
     returns-2)

@@ -6,7 +6,7 @@ use Rattle.evaluation.proofs.tree_at.Statement.{statement}
 use Rattle.evaluation.proofs.tree_at.Tie as tie
 use Rattle.evaluation.proofs.tree_at.Reads as reads
 use Rattle.evaluation.proofs.tree_at.Lts as lts
-use Rattle.evaluation.proofs.stuck.Reads as stuck-reads
+use Rattle.evaluation.proofs.absent.Reads as absent-reads
 use Rattle.scalar.proofs.read.Reads as read-reads
 use Rattle.tree.proofs.head_at.Reads as head-at-reads
 
@@ -19,8 +19,8 @@ enum-known-b c = search needs
 enum-told : tie.Need-enum-told
 enum-told c = search needs
 
-stuck-requires : tie.Need-stuck-requires
-stuck-requires c κs = search needs
+absent-requires : tie.Need-absent-requires
+absent-requires c κs = search needs
 
 returns : tie.Need-returns
 returns c = search place-laws depth 12
@@ -52,7 +52,7 @@ tree-at-spec =
     head-at-requires
     enum-known-b
     enum-told
-    stuck-requires
+    absent-requires
     returns
     add-read
     sub-read

@@ -5,15 +5,11 @@ use Rattle.evaluation.proofs.unary.Tie as tie
 use Rattle.evaluation.proofs.unary.Reads as reads
 use Rattle.evaluation.proofs.unary.Lts as lts
 use Rattle.evaluation.proofs.computed.Reads as computed-reads
-use Rattle.evaluation.proofs.is_stuck.Reads as is-stuck-reads
-use Rattle.evaluation.proofs.stuck.Reads as stuck-reads
+use Rattle.evaluation.proofs.is_given.Reads as is-given-reads
 use Rattle.evaluation.proofs.unary_value.Reads as unary-value-reads
 
-is-stuck-requires : tie.Need-is-stuck-requires
-is-stuck-requires c κs = search needs
-
-stuck-requires : tie.Need-stuck-requires
-stuck-requires c κs = search needs
+is-given-requires : tie.Need-is-given-requires
+is-given-requires c κs = search needs
 
 returns : tie.Need-returns
 returns c = search operand-laws depth 12
@@ -29,11 +25,4 @@ returns-2 c = search operand-laws depth 12
 
 pub unary-spec : {M : Type 1} → statement M
 unary-spec =
-    tie.close
-    (tie.spec
-    is-stuck-requires
-    stuck-requires
-    returns
-    unary-value-requires
-    computed-requires
-    returns-2)
+    tie.close (tie.spec is-given-requires returns unary-value-requires computed-requires returns-2)

@@ -4,7 +4,7 @@ use Rattle.evaluation.proofs.value_at.Statement.{statement}
 use Rattle.evaluation.proofs.value_at.Tie as tie
 use Rattle.evaluation.proofs.value_at.Reads as reads
 use Rattle.evaluation.proofs.value_at.Lts as lts
-use Rattle.evaluation.proofs.stuck.Reads as stuck-reads
+use Rattle.evaluation.proofs.absent.Reads as absent-reads
 use Rattle.evaluation.proofs.tree_at.Reads as tree-at-reads
 use Rattle.rows.proofs.path_row.Reads as path-row-reads
 use Rattle.tree.proofs.follow.Reads as follow-reads
@@ -21,8 +21,8 @@ enum-known-at c = search needs
 enum-told : tie.Need-enum-told
 enum-told c = search needs
 
-stuck-requires : tie.Need-stuck-requires
-stuck-requires c κs = search needs
+absent-requires : tie.Need-absent-requires
+absent-requires c κs = search needs
 
 returns : tie.Need-returns
 returns c = search path-laws depth 12
@@ -41,7 +41,7 @@ value-at-spec =
     follow-requires
     enum-known-at
     enum-told
-    stuck-requires
+    absent-requires
     returns
     tree-at-requires
     returns-2)

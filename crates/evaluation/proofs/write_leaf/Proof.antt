@@ -8,7 +8,7 @@ use Rattle.evaluation.proofs.write_leaf.Statement.{statement}
 use Rattle.evaluation.proofs.write_leaf.Tie as tie
 use Rattle.evaluation.proofs.write_leaf.Reads as reads
 use Rattle.evaluation.proofs.write_leaf.Lts as lts
-use Rattle.evaluation.proofs.basic_of.Reads as basic-of-reads
+use Rattle.scalar.proofs.basic_of.Reads as basic-of-reads
 use Rattle.scalar.proofs.write.Reads as write-reads
 use Rattle.tree.proofs.octets.Reads as octets-reads
 use Rattle.tree_edit.proofs.leaf.Reads as leaf-reads

@@ -22,6 +22,9 @@ write-leaf-requires c κs = search needs
 enum-told-2 : tie.Need-enum-told-2
 enum-told-2 c = search needs
 
+enum-told-3 : tie.Need-enum-told-3
+enum-told-3 c = search needs
+
 same-length : tie.Need-same-length
 same-length c = search needs
 
@@ -37,6 +40,9 @@ returns-2 c = search source-laws depth 12
 returns-3 : tie.Need-returns-3
 returns-3 c = search source-laws depth 12
 
+returns-4 : tie.Need-returns-4
+returns-4 c = search source-laws depth 12
+
 pub write-value-spec : {M : Type 1} → statement M
 write-value-spec =
     tie.close
@@ -46,8 +52,10 @@ write-value-spec =
     enum-told
     write-leaf-requires
     enum-told-2
+    enum-told-3
     same-length
     returns
     same-length-2
     returns-2
-    returns-3)
+    returns-3
+    returns-4)

@@ -19,11 +19,8 @@ enum-known-y-2 c = search needs
 binary-type-requires-2 : tie.Need-binary-type-requires-2
 binary-type-requires-2 c κs = search needs
 
-enum-told : tie.Need-enum-told
-enum-told c = search needs
-
-enum-told-2 : tie.Need-enum-told-2
-enum-told-2 c = search needs
+enum-known-y-3 : tie.Need-enum-known-y-3
+enum-known-y-3 c = search needs
 
 returns : tie.Need-returns
 returns c = search operand-laws depth 12
@@ -34,9 +31,6 @@ returns-2 c = search operand-laws depth 12
 returns-3 : tie.Need-returns-3
 returns-3 c = search operand-laws depth 12
 
-returns-4 : tie.Need-returns-4
-returns-4 c = search operand-laws depth 12
-
 pub beside-spec : {M : Type 1} → statement M
 beside-spec =
     tie.close
@@ -45,9 +39,7 @@ beside-spec =
     binary-type-requires
     enum-known-y-2
     binary-type-requires-2
-    enum-told
-    enum-told-2
+    enum-known-y-3
     returns
     returns-2
-    returns-3
-    returns-4)
+    returns-3)

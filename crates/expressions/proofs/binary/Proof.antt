@@ -19,11 +19,8 @@ enum-known-x-2 c = search needs
 beside-requires-2 : tie.Need-beside-requires-2
 beside-requires-2 c κs = search needs
 
-enum-told : tie.Need-enum-told
-enum-told c = search needs
-
-enum-told-2 : tie.Need-enum-told-2
-enum-told-2 c = search needs
+enum-known-x-3 : tie.Need-enum-known-x-3
+enum-known-x-3 c = search needs
 
 returns : tie.Need-returns
 returns c = search operand-laws depth 12
@@ -34,9 +31,6 @@ returns-2 c = search operand-laws depth 12
 returns-3 : tie.Need-returns-3
 returns-3 c = search operand-laws depth 12
 
-returns-4 : tie.Need-returns-4
-returns-4 c = search operand-laws depth 12
-
 pub binary-spec : {M : Type 1} → statement M
 binary-spec =
     tie.close
@@ -45,9 +39,7 @@ binary-spec =
     beside-requires
     enum-known-x-2
     beside-requires-2
-    enum-told
-    enum-told-2
+    enum-known-x-3
     returns
     returns-2
-    returns-3
-    returns-4)
+    returns-3)

@@ -5,12 +5,11 @@ use Rattle.expressions.proofs.binary_type.Statement.{statement}
 use Rattle.expressions.proofs.binary_type.Tie as tie
 use Rattle.expressions.proofs.binary_type.Reads as reads
 use Rattle.expressions.proofs.binary_type.Lts as lts
-use Rattle.expressions.proofs.numeric.Reads as numeric-reads
 use Rattle.expressions.proofs.result.Reads as result-reads
 use Rattle.layout.proofs.both.Reads as both-reads
 
-numeric-requires : tie.Need-numeric-requires
-numeric-requires c κs = search needs
+is-number-requires : tie.Need-is-number-requires
+is-number-requires c κs = search needs
 
 both-requires : tie.Need-both-requires
 both-requires c κs = search needs
@@ -70,7 +69,7 @@ pub binary-type-spec : {M : Type 1} → statement M
 binary-type-spec =
     tie.close
     (tie.spec
-    numeric-requires
+    is-number-requires
     both-requires
     enum-told
     result-requires

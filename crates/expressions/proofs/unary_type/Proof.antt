@@ -5,7 +5,6 @@ use Rattle.expressions.proofs.unary_type.Statement.{statement}
 use Rattle.expressions.proofs.unary_type.Tie as tie
 use Rattle.expressions.proofs.unary_type.Reads as reads
 use Rattle.expressions.proofs.unary_type.Lts as lts
-use Rattle.expressions.proofs.numeric.Reads as numeric-reads
 use Rattle.expressions.proofs.result.Reads as result-reads
 
 enum-told : tie.Need-enum-told
@@ -17,8 +16,8 @@ result-requires c κs = search needs
 enum-told-2 : tie.Need-enum-told-2
 enum-told-2 c = search needs
 
-numeric-requires : tie.Need-numeric-requires
-numeric-requires c κs = search needs
+is-number-requires : tie.Need-is-number-requires
+is-number-requires c κs = search needs
 
 result-requires-2 : tie.Need-result-requires-2
 result-requires-2 c κs = search needs
@@ -36,7 +35,7 @@ unary-type-spec =
     enum-told
     result-requires
     enum-told-2
-    numeric-requires
+    is-number-requires
     result-requires-2
     returns
     returns-2)

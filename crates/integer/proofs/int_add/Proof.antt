@@ -1,40 +1,46 @@
-use Rattle.integer.specs.WrapLaws.{sum-of-patterns}
-use Rattle.integer.specs.Wrap.{wrap}
-use mir.ValLaws.{toZ-ofZ}
 use mir.Syntax.{w32}
+use Rattle.integer.proofs.Parts.{sum-exact, sum-past}
 use borrow.Author.Needs.{needs}
 use Rattle.integer.proofs.int_add.Statement.{statement}
 use Rattle.integer.proofs.int_add.Tie as tie
 
-int-bits-requires : tie.Need-int-bits-requires
-int-bits-requires c κs = search needs
+int-sum-fits-requires : tie.Need-int-sum-fits-requires
+int-sum-fits-requires c κs = search needs
 
-int-bits-requires-2 : tie.Need-int-bits-requires-2
-int-bits-requires-2 c κs = search needs
-
-add-u32-requires : tie.Need-add-u32-requires
-add-u32-requires c κs = search needs
-
-int-of-requires : tie.Need-int-of-requires
-int-of-requires c κs = search needs
+add-result : tie.Need-add-result
+add-result c = let s = c .before .before in sum-exact w32 (s .args .a) (s .args .b) (s .fits .a) (s .fits .b) (c .before .int-sum-fits .ensures) (c .if1 .taken) .0
 
 returns : tie.Need-returns
-unfolding wrap
-returns c =
-    let s = c .before .before .before .before in
-    cc (
-      toZ-ofZ w32 (c .int-of .result) (record { sfits = c .int-of .ok }),
-      toZ-ofZ w32 (s .args .a) (s .fits .a),
-      toZ-ofZ w32 (s .args .b) (s .fits .b),
-      sum-of-patterns w32 (s .args .a) (s .args .b) (s .fits .a) (s .fits .b),
-    )
+returns c = let s = c .before .before in sum-exact w32 (s .args .a) (s .args .b) (s .fits .a) (s .fits .b) (c .before .int-sum-fits .ensures) (c .if1 .taken) .1
+
+int-moved-requires : tie.Need-int-moved-requires
+int-moved-requires c κs = search needs
+
+int-moved-requires-2 : tie.Need-int-moved-requires-2
+int-moved-requires-2 c κs = search needs
+
+add-result-2 : tie.Need-add-result-2
+add-result-2 c =
+    let k = c .before .before in
+    let s = k .before .before in
+    sum-past w32 (s .args .a) (s .args .b) (s .fits .a) (s .fits .b) (k .before .int-sum-fits .ensures) (k .if1 .left)
+    (record { sfits = c .before .int-moved .ok }) (record { sfits = c .int-moved2 .ok }) (c .before .int-moved .ensures) (c .int-moved2 .ensures) .0
+
+returns-2 : tie.Need-returns-2
+returns-2 c =
+    let k = c .before .before in
+    let s = k .before .before in
+    sum-past w32 (s .args .a) (s .args .b) (s .fits .a) (s .fits .b) (k .before .int-sum-fits .ensures) (k .if1 .left)
+    (record { sfits = c .before .int-moved .ok }) (record { sfits = c .int-moved2 .ok }) (c .before .int-moved .ensures) (c .int-moved2 .ensures) .1
 
 pub int-add-spec : {M : Type 1} → statement M
 int-add-spec =
     tie.close
     (tie.spec
-    int-bits-requires
-    int-bits-requires-2
-    add-u32-requires
-    int-of-requires
-    returns)
+    int-sum-fits-requires
+    add-result
+    returns
+    int-moved-requires
+    int-moved-requires-2
+    add-result-2
+    returns-2)

@@ -1,20 +1,16 @@
-use Rattle.integer.specs.WrapLaws.{zero-minus}
-use mir.ValLaws.{toZ-ofZ}
 use mir.Syntax.{w32}
-use borrow.Author.Needs.{needs}
+use Rattle.integer.proofs.Parts.{opposite-exact, opposite-least}
 use Rattle.integer.proofs.int_negate.Statement.{statement}
 use Rattle.integer.proofs.int_negate.Tie as tie
 
-int-subtract-requires : tie.Need-int-subtract-requires
-int-subtract-requires c κs = search needs
+sub-result : tie.Need-sub-result
+sub-result c = opposite-exact w32 (c .before .args .a) (c .before .fits .a) (c .if1 .taken) .0
 
 returns : tie.Need-returns
-returns c =
-    cc (
-      toZ-ofZ w32 (c .int-subtract .result) (record { sfits = c .int-subtract .ok }),
-      toZ-ofZ w32 (c .before .args .a) (c .before .fits .a),
-      zero-minus (c .before .args .a),
-    )
+returns c = opposite-exact w32 (c .before .args .a) (c .before .fits .a) (c .if1 .taken) .1
+
+returns-2 : tie.Need-returns-2
+returns-2 c = opposite-least w32 (c .before .args .a) (c .before .fits .a) (c .if1 .left)
 
 pub int-negate-spec : {M : Type 1} → statement M
-int-negate-spec = tie.close (tie.spec int-subtract-requires returns)
+int-negate-spec = tie.close (tie.spec sub-result returns returns-2)

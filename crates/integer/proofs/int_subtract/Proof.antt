@@ -1,35 +1,46 @@
-use Rattle.integer.specs.WrapLaws.{difference-of-patterns}
-use Rattle.integer.specs.Wrap.{wrap}
-use mir.ValLaws.{toZ-ofZ}
 use mir.Syntax.{w32}
+use Rattle.integer.proofs.Parts.{difference-exact, difference-past}
 use borrow.Author.Needs.{needs}
 use Rattle.integer.proofs.int_subtract.Statement.{statement}
 use Rattle.integer.proofs.int_subtract.Tie as tie
 
-int-bits-requires : tie.Need-int-bits-requires
-int-bits-requires c κs = search needs
+int-difference-fits-requires : tie.Need-int-difference-fits-requires
+int-difference-fits-requires c κs = search needs
 
-int-bits-requires-2 : tie.Need-int-bits-requires-2
-int-bits-requires-2 c κs = search needs
-
-sub-u32-requires : tie.Need-sub-u32-requires
-sub-u32-requires c κs = search needs
-
-int-of-requires : tie.Need-int-of-requires
-int-of-requires c κs = search needs
+sub-result : tie.Need-sub-result
+sub-result c = let s = c .before .before in difference-exact w32 (s .args .a) (s .args .b) (s .fits .a) (s .fits .b) (c .before .int-difference-fits .ensures) (c .if1 .taken) .0
 
 returns : tie.Need-returns
-unfolding wrap
-returns c =
-    let s = c .before .before .before .before in
-    cc (
-      toZ-ofZ w32 (c .int-of .result) (record { sfits = c .int-of .ok }),
-      toZ-ofZ w32 (s .args .a) (s .fits .a),
-      toZ-ofZ w32 (s .args .b) (s .fits .b),
-      difference-of-patterns w32 (s .args .a) (s .args .b) (s .fits .a) (s .fits .b),
-    )
+returns c = let s = c .before .before in difference-exact w32 (s .args .a) (s .args .b) (s .fits .a) (s .fits .b) (c .before .int-difference-fits .ensures) (c .if1 .taken) .1
+
+int-moved-requires : tie.Need-int-moved-requires
+int-moved-requires c κs = search needs
+
+int-moved-requires-2 : tie.Need-int-moved-requires-2
+int-moved-requires-2 c κs = search needs
+
+sub-result-2 : tie.Need-sub-result-2
+sub-result-2 c =
+    let k = c .before .before in
+    let s = k .before .before in
+    difference-past w32 (s .args .a) (s .args .b) (s .fits .a) (s .fits .b) (k .before .int-difference-fits .ensures) (k .if1 .left)
+    (record { sfits = c .before .int-moved .ok }) (record { sfits = c .int-moved2 .ok }) (c .before .int-moved .ensures) (c .int-moved2 .ensures) .0
+
+returns-2 : tie.Need-returns-2
+returns-2 c =
+    let k = c .before .before in
+    let s = k .before .before in
+    difference-past w32 (s .args .a) (s .args .b) (s .fits .a) (s .fits .b) (k .before .int-difference-fits .ensures) (k .if1 .left)
+    (record { sfits = c .before .int-moved .ok }) (record { sfits = c .int-moved2 .ok }) (c .before .int-moved .ensures) (c .int-moved2 .ensures) .1
 
 pub int-subtract-spec : {M : Type 1} → statement M
 int-subtract-spec =
     tie.close
-    (tie.spec int-bits-requires int-bits-requires-2 sub-u32-requires int-of-requires returns)
+    (tie.spec
+    int-difference-fits-requires
+    sub-result
+    returns
+    int-moved-requires
+    int-moved-requires-2
+    sub-result-2
+    returns-2)

@@ -1,20 +1,16 @@
-use Rattle.integer.specs.WrapLaws.{zero-minus}
-use mir.ValLaws.{toZ-ofZ}
 use mir.Syntax.{w64}
-use borrow.Author.Needs.{needs}
+use Rattle.integer.proofs.Parts.{opposite-exact, opposite-least}
 use Rattle.integer.proofs.long_negate.Statement.{statement}
 use Rattle.integer.proofs.long_negate.Tie as tie
 
-long-subtract-requires : tie.Need-long-subtract-requires
-long-subtract-requires c κs = search needs
+sub-result : tie.Need-sub-result
+sub-result c = opposite-exact w64 (c .before .args .a) (c .before .fits .a) (c .if1 .taken) .0
 
 returns : tie.Need-returns
-returns c =
-    cc (
-      toZ-ofZ w64 (c .long-subtract .result) (record { sfits = c .long-subtract .ok }),
-      toZ-ofZ w64 (c .before .args .a) (c .before .fits .a),
-      zero-minus (c .before .args .a),
-    )
+returns c = opposite-exact w64 (c .before .args .a) (c .before .fits .a) (c .if1 .taken) .1
+
+returns-2 : tie.Need-returns-2
+returns-2 c = opposite-least w64 (c .before .args .a) (c .before .fits .a) (c .if1 .left)
 
 pub long-negate-spec : {M : Type 1} → statement M
-long-negate-spec = tie.close (tie.spec long-subtract-requires returns)
+long-negate-spec = tie.close (tie.spec sub-result returns returns-2)

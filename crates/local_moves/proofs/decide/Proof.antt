@@ -43,6 +43,12 @@ enum-told-3 c = search needs
 refused-requires : tie.Need-refused-requires
 refused-requires c κs = search needs
 
+enum-told-4 : tie.Need-enum-told-4
+enum-told-4 c = search needs
+
+refused-requires-2 : tie.Need-refused-requires-2
+refused-requires-2 c κs = search needs
+
 same-length-2 : tie.Need-same-length-2
 same-length-2 c = search needs
 
@@ -61,6 +67,12 @@ same-length-4 c = search needs
 returns-4 : tie.Need-returns-4
 returns-4 c = search (if-laws, needs) depth 12
 
+same-length-5 : tie.Need-same-length-5
+same-length-5 c = search needs
+
+returns-5 : tie.Need-returns-5
+returns-5 c = search (if-laws, needs) depth 12
+
 pub decide-spec : {M : Type 1} → statement M
 decide-spec =
     tie.close
@@ -76,9 +88,13 @@ decide-spec =
     settle-requires-2
     enum-told-3
     refused-requires
+    enum-told-4
+    refused-requires-2
     same-length-2
     returns-2
     same-length-3
     returns-3
     same-length-4
-    returns-4)
+    returns-4
+    same-length-5
+    returns-5)

@@ -44,6 +44,12 @@ enum-told-3 c = search needs
 refused-requires : tie.Need-refused-requires
 refused-requires c κs = search needs
 
+enum-told-4 : tie.Need-enum-told-4
+enum-told-4 c = search needs
+
+refused-requires-2 : tie.Need-refused-requires-2
+refused-requires-2 c κs = search needs
+
 same-length-2 : tie.Need-same-length-2
 same-length-2 c = search needs
 
@@ -62,6 +68,12 @@ same-length-4 c = search needs
 returns-4 : tie.Need-returns-4
 returns-4 c = search (while-laws, needs) depth 12
 
+same-length-5 : tie.Need-same-length-5
+same-length-5 c = search needs
+
+returns-5 : tie.Need-returns-5
+returns-5 c = search (while-laws, needs) depth 12
+
 pub repeat-spec : {M : Type 1} → statement M
 repeat-spec =
     tie.close
@@ -77,9 +89,13 @@ repeat-spec =
     settle-requires
     enum-told-3
     refused-requires
+    enum-told-4
+    refused-requires-2
     same-length-2
     returns-2
     same-length-3
     returns-3
     same-length-4
-    returns-4)
+    returns-4
+    same-length-5
+    returns-5)

@@ -10,7 +10,7 @@ use Rattle.moving.specs.MadeLaws.{slot-inside}
 use Rattle.refusal.proofs.refused.Reads as refused-reads
 use Rattle.rows.proofs.operation_location.Reads as operation-location-reads
 use Rattle.rows.proofs.reply_type.Reads as reply-type-reads
-use Rattle.targets.proofs.in_file.Reads as in-file-reads
+use Rattle.operations.proofs.in_file.Reads as in-file-reads
 use Rattle.tree.proofs.is_message.Reads as is-message-reads
 use Rattle.tree.proofs.octets.Reads as octets-reads
 use Rattle.types.proofs.fits.Reads as fits-reads

@@ -5,19 +5,14 @@ use Rattle.progress.proofs.row_progress.Tie as tie
 use Rattle.progress.proofs.row_progress.Reads as reads
 use Rattle.progress.proofs.row_progress.Lts as lts
 use Rattle.progress.proofs.progress_at.Reads as progress-at-reads
+use Rattle.state.proofs.row_start.Reads as row-start-reads
 use Rattle.wire.proofs.index.Reads as index-reads
-
-add-progress-at : tie.Need-add-progress-at
-add-progress-at c = search needs
 
 index-requires : tie.Need-index-requires
 index-requires c κs = search needs
 
-mul-progress-at : tie.Need-mul-progress-at
-mul-progress-at c = search needs
-
-add-progress-at-2 : tie.Need-add-progress-at-2
-add-progress-at-2 c = search needs
+row-start-requires : tie.Need-row-start-requires
+row-start-requires c κs = search needs
 
 progress-at-requires : tie.Need-progress-at-requires
 progress-at-requires c κs = search needs
@@ -30,12 +25,4 @@ returns-2 c = search row-laws depth 12
 
 pub row-progress-spec : {M : Type 1} → statement M
 row-progress-spec =
-    tie.close
-    (tie.spec
-    add-progress-at
-    index-requires
-    mul-progress-at
-    add-progress-at-2
-    progress-at-requires
-    returns
-    returns-2)
+    tie.close (tie.spec index-requires row-start-requires progress-at-requires returns returns-2)

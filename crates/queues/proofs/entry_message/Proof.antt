@@ -4,17 +4,12 @@ use Rattle.queues.proofs.entry_message.Statement.{statement}
 use Rattle.queues.proofs.entry_message.Tie as tie
 use Rattle.queues.proofs.entry_message.Reads as reads
 use Rattle.queues.proofs.entry_message.Lts as lts
+use Rattle.state.proofs.entry_start.Reads as entry-start-reads
 use Rattle.wire.proofs.index.Reads as index-reads
 use Rattle.wire.proofs.u16_at.Reads as u16-at-reads
 
-add-at : tie.Need-add-at
-add-at c = search needs
-
-mul-at : tie.Need-mul-at
-mul-at c = search needs
-
-add-at-2 : tie.Need-add-at-2
-add-at-2 c = search needs
+entry-start-requires : tie.Need-entry-start-requires
+entry-start-requires c κs = search needs
 
 add-u16-at : tie.Need-add-u16-at
 add-u16-at c = search needs
@@ -34,4 +29,4 @@ returns c = search (span-is, needs) depth 12
 pub entry-message-spec : {M : Type 1} → statement M
 entry-message-spec =
     tie.close
-    (tie.spec add-at mul-at add-at-2 add-u16-at u16-at-requires index-requires add-t7 returns)
+    (tie.spec entry-start-requires add-u16-at u16-at-requires index-requires add-t7 returns)

@@ -5,16 +5,11 @@ use Rattle.queues.proofs.entry_reply.Tie as tie
 use Rattle.queues.proofs.entry_reply.Reads as reads
 use Rattle.queues.proofs.entry_reply.Lts as lts
 use Rattle.queues.proofs.reply_at.Reads as reply-at-reads
+use Rattle.state.proofs.entry_start.Reads as entry-start-reads
 use Rattle.wire.proofs.byte_at.Reads as byte-at-reads
 
-add-at : tie.Need-add-at
-add-at c = search needs
-
-mul-at : tie.Need-mul-at
-mul-at c = search needs
-
-add-at-2 : tie.Need-add-at-2
-add-at-2 c = search needs
+entry-start-requires : tie.Need-entry-start-requires
+entry-start-requires c κs = search needs
 
 add-byte-at : tie.Need-add-byte-at
 add-byte-at c = search needs
@@ -35,9 +30,7 @@ pub entry-reply-spec : {M : Type 1} → statement M
 entry-reply-spec =
     tie.close
     (tie.spec
-    add-at
-    mul-at
-    add-at-2
+    entry-start-requires
     add-byte-at
     byte-at-requires
     add-reply-at

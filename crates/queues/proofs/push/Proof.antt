@@ -7,6 +7,7 @@ use Rattle.queues.proofs.push.Lts as lts
 use Rattle.queues.proofs.count.Reads as count-reads
 use Rattle.queues.proofs.put_head.Reads as put-head-reads
 use Rattle.queues.proofs.put_message.Reads as put-message-reads
+use Rattle.state.proofs.entry_start.Reads as entry-start-reads
 
 count-requires : tie.Need-count-requires
 count-requires c κs = search needs
@@ -15,16 +16,10 @@ same-length : tie.Need-same-length
 same-length c = search needs
 
 returns : tie.Need-returns
-returns c = search (push-full, needs) depth 12
+returns c = search (push-full, push-one, needs) depth 12
 
-add-at : tie.Need-add-at
-add-at c = search needs
-
-mul-at : tie.Need-mul-at
-mul-at c = search needs
-
-add-at-2 : tie.Need-add-at-2
-add-at-2 c = search needs
+entry-start-requires : tie.Need-entry-start-requires
+entry-start-requires c κs = search needs
 
 cast-put-head : tie.Need-cast-put-head
 cast-put-head c = search needs
@@ -42,7 +37,7 @@ same-length-2 : tie.Need-same-length-2
 same-length-2 c = search needs
 
 returns-2 : tie.Need-returns-2
-returns-2 c = search (push-one, needs) depth 12
+returns-2 c = search (push-full, push-one, needs) depth 12
 
 pub push-spec : {M : Type 1} → statement M
 push-spec =
@@ -51,9 +46,7 @@ push-spec =
     count-requires
     same-length
     returns
-    add-at
-    mul-at
-    add-at-2
+    entry-start-requires
     cast-put-head
     put-head-requires
     add-put-message

@@ -6,15 +6,10 @@ use Rattle.queues.proofs.remove.Reads as reads
 use Rattle.queues.proofs.remove.Lts as lts
 use Rattle.queues.proofs.clear.Reads as clear-reads
 use Rattle.queues.proofs.move_up.Reads as move-up-reads
+use Rattle.state.proofs.entry_start.Reads as entry-start-reads
 
-add-at : tie.Need-add-at
-add-at c = search needs
-
-mul-at : tie.Need-mul-at
-mul-at c = search needs
-
-add-at-2 : tie.Need-add-at-2
-add-at-2 c = search needs
+entry-start-requires : tie.Need-entry-start-requires
+entry-start-requires c κs = search needs
 
 sub-n : tie.Need-sub-n
 sub-n c = search needs
@@ -41,9 +36,7 @@ pub remove-spec : {M : Type 1} → statement M
 remove-spec =
     tie.close
     (tie.spec
-    add-at
-    mul-at
-    add-at-2
+    entry-start-requires
     sub-n
     mul-n
     move-up-requires

@@ -5,7 +5,7 @@ use Rattle.readiness.proofs.branch_deciders.Tie as tie
 use Rattle.readiness.proofs.branch_deciders.Reads as reads
 use Rattle.readiness.proofs.branch_deciders.Lts as lts
 use Rattle.readiness.proofs.branch_at.Reads as branch-at-reads
-use Rattle.wire.proofs.u16_at.Reads as u16-at-reads
+use Rattle.rows.proofs.branch_at.Reads as branch-at-reads′
 
 returns : tie.Need-returns
 returns c = search branch-laws depth 12
@@ -13,29 +13,12 @@ returns c = search branch-laws depth 12
 branch-at-requires : tie.Need-branch-at-requires
 branch-at-requires c κs = search needs
 
-add-u16-at : tie.Need-add-u16-at
-add-u16-at c = search needs
-
-u16-at-requires : tie.Need-u16-at-requires
-u16-at-requires c κs = search needs
-
-add-u16-at-2 : tie.Need-add-u16-at-2
-add-u16-at-2 c = search needs
-
-u16-at-requires-2 : tie.Need-u16-at-requires-2
-u16-at-requires-2 c κs = search needs
+branch-at-requires-2 : tie.Need-branch-at-requires-2
+branch-at-requires-2 c κs = search needs
 
 returns-2 : tie.Need-returns-2
 returns-2 c = search branch-laws depth 12
 
 pub branch-deciders-spec : {M : Type 1} → statement M
 branch-deciders-spec =
-    tie.close
-    (tie.spec
-    returns
-    branch-at-requires
-    add-u16-at
-    u16-at-requires
-    add-u16-at-2
-    u16-at-requires-2
-    returns-2)
+    tie.close (tie.spec returns branch-at-requires branch-at-requires-2 returns-2)

@@ -6,7 +6,7 @@ use Rattle.readiness.proofs.branch_ways.Reads as reads
 use Rattle.readiness.proofs.branch_ways.Lts as lts
 use Rattle.readiness.proofs.branch_at.Reads as branch-at-reads
 use Rattle.readiness.proofs.in_order.Reads as in-order-reads
-use Rattle.wire.proofs.u16_at.Reads as u16-at-reads
+use Rattle.rows.proofs.branch_at.Reads as branch-at-reads′
 
 returns : tie.Need-returns
 returns c = search branch-ways-laws depth 12
@@ -14,17 +14,8 @@ returns c = search branch-ways-laws depth 12
 branch-at-requires : tie.Need-branch-at-requires
 branch-at-requires c κs = search needs
 
-add-u16-at : tie.Need-add-u16-at
-add-u16-at c = search needs
-
-u16-at-requires : tie.Need-u16-at-requires
-u16-at-requires c κs = search needs
-
-add-u16-at-2 : tie.Need-add-u16-at-2
-add-u16-at-2 c = search needs
-
-u16-at-requires-2 : tie.Need-u16-at-requires-2
-u16-at-requires-2 c κs = search needs
+branch-at-requires-2 : tie.Need-branch-at-requires-2
+branch-at-requires-2 c κs = search needs
 
 in-order-requires : tie.Need-in-order-requires
 in-order-requires c κs = search needs
@@ -35,12 +26,4 @@ returns-2 c = search branch-ways-laws depth 12
 pub branch-ways-spec : {M : Type 1} → statement M
 branch-ways-spec =
     tie.close
-    (tie.spec
-    returns
-    branch-at-requires
-    add-u16-at
-    u16-at-requires
-    add-u16-at-2
-    u16-at-requires-2
-    in-order-requires
-    returns-2)
+    (tie.spec returns branch-at-requires branch-at-requires-2 in-order-requires returns-2)

@@ -14,8 +14,8 @@ use Rattle.reopening.proofs.+clear_branches+clear_row.Lts-clear_row as 
 use Rattle.layout.proofs.behaviour_at.Reads as behaviour-at-reads
 use Rattle.reopening.proofs.clear.Reads as clear-reads
 use Rattle.row_parts.proofs.subs_of.Reads as subs-of-reads
+use Rattle.rows.proofs.branch_at.Reads as branch-at-reads
 use Rattle.wire.proofs.index.Reads as index-reads
-use Rattle.wire.proofs.u16_at.Reads as u16-at-reads
 use Rattle.reopening.proofs.+clear_branches+clear_row.{statement}
 use Rattle.reopening.proofs.+clear_branches+clear_row.Tie.{close}
 
@@ -48,55 +48,46 @@ abbrev clear-row-below : ℕ → In 2 clear-row-kinds.ps
 clear-row-below t =
     and 2 clear-row-kinds.ps (falls 2 clear-row-kinds.ps _<_ μ-clear-row t) clear-row.Pre
 
-clear-branches-clear-requires : (t : ℕ) → clear-branches-lts.Need-clear-requires (clear-reads.Asked, clear-reads.Learnt, u16-at-reads.Asked, u16-at-reads.Learnt, clear-row-below t, clear-row.Post, clear-branches-below t, clear-branches.Post) (clear-branches-at t) clear-branches.Post
+clear-branches-clear-requires : (t : ℕ) → clear-branches-lts.Need-clear-requires (clear-reads.Asked, clear-reads.Learnt, branch-at-reads.Asked, branch-at-reads.Learnt, clear-row-below t, clear-row.Post, clear-branches-below t, clear-branches.Post) (clear-branches-at t) clear-branches.Post
 clear-branches-clear-requires t c κs = search needs
 
-clear-branches-same-length : (t : ℕ) → clear-branches-lts.Need-same-length (clear-reads.Asked, clear-reads.Learnt, u16-at-reads.Asked, u16-at-reads.Learnt, clear-row-below t, clear-row.Post, clear-branches-below t, clear-branches.Post) (clear-branches-at t) clear-branches.Post
+clear-branches-same-length : (t : ℕ) → clear-branches-lts.Need-same-length (clear-reads.Asked, clear-reads.Learnt, branch-at-reads.Asked, branch-at-reads.Learnt, clear-row-below t, clear-row.Post, clear-branches-below t, clear-branches.Post) (clear-branches-at t) clear-branches.Post
 clear-branches-same-length t c = search needs
 
-clear-branches-returns : (t : ℕ) → clear-branches-lts.Need-returns (clear-reads.Asked, clear-reads.Learnt, u16-at-reads.Asked, u16-at-reads.Learnt, clear-row-below t, clear-row.Post, clear-branches-below t, clear-branches.Post) (clear-branches-at t) clear-branches.Post
+clear-branches-returns : (t : ℕ) → clear-branches-lts.Need-returns (clear-reads.Asked, clear-reads.Learnt, branch-at-reads.Asked, branch-at-reads.Learnt, clear-row-below t, clear-row.Post, clear-branches-below t, clear-branches.Post) (clear-branches-at t) clear-branches.Post
 clear-branches-returns t c = search branches-laws depth 12
 
-clear-branches-add-u16-at : (t : ℕ) → clear-branches-lts.Need-add-u16-at (clear-reads.Asked, clear-reads.Learnt, u16-at-reads.Asked, u16-at-reads.Learnt, clear-row-below t, clear-row.Post, clear-branches-below t, clear-branches.Post) (clear-branches-at t) clear-branches.Post
-clear-branches-add-u16-at t c = search needs
+clear-branches-branch-at-requires : (t : ℕ) → clear-branches-lts.Need-branch-at-requires (clear-reads.Asked, clear-reads.Learnt, branch-at-reads.Asked, branch-at-reads.Learnt, clear-row-below t, clear-row.Post, clear-branches-below t, clear-branches.Post) (clear-branches-at t) clear-branches.Post
+clear-branches-branch-at-requires t c κs = search needs
 
-clear-branches-u16-at-requires : (t : ℕ) → clear-branches-lts.Need-u16-at-requires (clear-reads.Asked, clear-reads.Learnt, u16-at-reads.Asked, u16-at-reads.Learnt, clear-row-below t, clear-row.Post, clear-branches-below t, clear-branches.Post) (clear-branches-at t) clear-branches.Post
-clear-branches-u16-at-requires t c κs = search needs
-
-clear-branches-clear-row-requires : (t : ℕ) → clear-branches-lts.Need-clear-row-requires (clear-reads.Asked, clear-reads.Learnt, u16-at-reads.Asked, u16-at-reads.Learnt, clear-row-below t, clear-row.Post, clear-branches-below t, clear-branches.Post) (clear-branches-at t) clear-branches.Post
+clear-branches-clear-row-requires : (t : ℕ) → clear-branches-lts.Need-clear-row-requires (clear-reads.Asked, clear-reads.Learnt, branch-at-reads.Asked, branch-at-reads.Learnt, clear-row-below t, clear-row.Post, clear-branches-below t, clear-branches.Post) (clear-branches-at t) clear-branches.Post
 clear-branches-clear-row-requires t c κs = (omega arith, search needs)
 
-clear-branches-add-u16-at-2 : (t : ℕ) → clear-branches-lts.Need-add-u16-at-2 (clear-reads.Asked, clear-reads.Learnt, u16-at-reads.Asked, u16-at-reads.Learnt, clear-row-below t, clear-row.Post, clear-branches-below t, clear-branches.Post) (clear-branches-at t) clear-branches.Post
-clear-branches-add-u16-at-2 t c = search needs
-
-clear-branches-u16-at-requires-2 : (t : ℕ) → clear-branches-lts.Need-u16-at-requires-2 (clear-reads.Asked, clear-reads.Learnt, u16-at-reads.Asked, u16-at-reads.Learnt, clear-row-below t, clear-row.Post, clear-branches-below t, clear-branches.Post) (clear-branches-at t) clear-branches.Post
-clear-branches-u16-at-requires-2 t c κs = search needs
-
-clear-branches-clear-row-requires-2 : (t : ℕ) → clear-branches-lts.Need-clear-row-requires-2 (clear-reads.Asked, clear-reads.Learnt, u16-at-reads.Asked, u16-at-reads.Learnt, clear-row-below t, clear-row.Post, clear-branches-below t, clear-branches.Post) (clear-branches-at t) clear-branches.Post
+clear-branches-clear-row-requires-2 : (t : ℕ) → clear-branches-lts.Need-clear-row-requires-2 (clear-reads.Asked, clear-reads.Learnt, branch-at-reads.Asked, branch-at-reads.Learnt, clear-row-below t, clear-row.Post, clear-branches-below t, clear-branches.Post) (clear-branches-at t) clear-branches.Post
 clear-branches-clear-row-requires-2 t c κs = (omega arith, search needs)
 
-clear-branches-same-length-2 : (t : ℕ) → clear-branches-lts.Need-same-length-2 (clear-reads.Asked, clear-reads.Learnt, u16-at-reads.Asked, u16-at-reads.Learnt, clear-row-below t, clear-row.Post, clear-branches-below t, clear-branches.Post) (clear-branches-at t) clear-branches.Post
+clear-branches-same-length-2 : (t : ℕ) → clear-branches-lts.Need-same-length-2 (clear-reads.Asked, clear-reads.Learnt, branch-at-reads.Asked, branch-at-reads.Learnt, clear-row-below t, clear-row.Post, clear-branches-below t, clear-branches.Post) (clear-branches-at t) clear-branches.Post
 clear-branches-same-length-2 t c = search needs
 
-clear-branches-returns-2 : (t : ℕ) → clear-branches-lts.Need-returns-2 (clear-reads.Asked, clear-reads.Learnt, u16-at-reads.Asked, u16-at-reads.Learnt, clear-row-below t, clear-row.Post, clear-branches-below t, clear-branches.Post) (clear-branches-at t) clear-branches.Post
+clear-branches-returns-2 : (t : ℕ) → clear-branches-lts.Need-returns-2 (clear-reads.Asked, clear-reads.Learnt, branch-at-reads.Asked, branch-at-reads.Learnt, clear-row-below t, clear-row.Post, clear-branches-below t, clear-branches.Post) (clear-branches-at t) clear-branches.Post
 clear-branches-returns-2 t c = search branches-laws depth 12
 
-clear-branches-add-clear-branches : (t : ℕ) → clear-branches-lts.Need-add-clear-branches (clear-reads.Asked, clear-reads.Learnt, u16-at-reads.Asked, u16-at-reads.Learnt, clear-row-below t, clear-row.Post, clear-branches-below t, clear-branches.Post) (clear-branches-at t) clear-branches.Post
+clear-branches-add-clear-branches : (t : ℕ) → clear-branches-lts.Need-add-clear-branches (clear-reads.Asked, clear-reads.Learnt, branch-at-reads.Asked, branch-at-reads.Learnt, clear-row-below t, clear-row.Post, clear-branches-below t, clear-branches.Post) (clear-branches-at t) clear-branches.Post
 clear-branches-add-clear-branches t c = search needs
 
-clear-branches-add-clear-branches-2 : (t : ℕ) → clear-branches-lts.Need-add-clear-branches-2 (clear-reads.Asked, clear-reads.Learnt, u16-at-reads.Asked, u16-at-reads.Learnt, clear-row-below t, clear-row.Post, clear-branches-below t, clear-branches.Post) (clear-branches-at t) clear-branches.Post
+clear-branches-add-clear-branches-2 : (t : ℕ) → clear-branches-lts.Need-add-clear-branches-2 (clear-reads.Asked, clear-reads.Learnt, branch-at-reads.Asked, branch-at-reads.Learnt, clear-row-below t, clear-row.Post, clear-branches-below t, clear-branches.Post) (clear-branches-at t) clear-branches.Post
 clear-branches-add-clear-branches-2 t c = search needs
 
-clear-branches-sub-clear-branches : (t : ℕ) → clear-branches-lts.Need-sub-clear-branches (clear-reads.Asked, clear-reads.Learnt, u16-at-reads.Asked, u16-at-reads.Learnt, clear-row-below t, clear-row.Post, clear-branches-below t, clear-branches.Post) (clear-branches-at t) clear-branches.Post
+clear-branches-sub-clear-branches : (t : ℕ) → clear-branches-lts.Need-sub-clear-branches (clear-reads.Asked, clear-reads.Learnt, branch-at-reads.Asked, branch-at-reads.Learnt, clear-row-below t, clear-row.Post, clear-branches-below t, clear-branches.Post) (clear-branches-at t) clear-branches.Post
 clear-branches-sub-clear-branches t c = search needs
 
-clear-branches-clear-branches-requires : (t : ℕ) → clear-branches-lts.Need-clear-branches-requires (clear-reads.Asked, clear-reads.Learnt, u16-at-reads.Asked, u16-at-reads.Learnt, clear-row-below t, clear-row.Post, clear-branches-below t, clear-branches.Post) (clear-branches-at t) clear-branches.Post
+clear-branches-clear-branches-requires : (t : ℕ) → clear-branches-lts.Need-clear-branches-requires (clear-reads.Asked, clear-reads.Learnt, branch-at-reads.Asked, branch-at-reads.Learnt, clear-row-below t, clear-row.Post, clear-branches-below t, clear-branches.Post) (clear-branches-at t) clear-branches.Post
 clear-branches-clear-branches-requires t c κs = (omega arith, search needs)
 
-clear-branches-same-length-3 : (t : ℕ) → clear-branches-lts.Need-same-length-3 (clear-reads.Asked, clear-reads.Learnt, u16-at-reads.Asked, u16-at-reads.Learnt, clear-row-below t, clear-row.Post, clear-branches-below t, clear-branches.Post) (clear-branches-at t) clear-branches.Post
+clear-branches-same-length-3 : (t : ℕ) → clear-branches-lts.Need-same-length-3 (clear-reads.Asked, clear-reads.Learnt, branch-at-reads.Asked, branch-at-reads.Learnt, clear-row-below t, clear-row.Post, clear-branches-below t, clear-branches.Post) (clear-branches-at t) clear-branches.Post
 clear-branches-same-length-3 t c = search needs
 
-clear-branches-returns-3 : (t : ℕ) → clear-branches-lts.Need-returns-3 (clear-reads.Asked, clear-reads.Learnt, u16-at-reads.Asked, u16-at-reads.Learnt, clear-row-below t, clear-row.Post, clear-branches-below t, clear-branches.Post) (clear-branches-at t) clear-branches.Post
+clear-branches-returns-3 : (t : ℕ) → clear-branches-lts.Need-returns-3 (clear-reads.Asked, clear-reads.Learnt, branch-at-reads.Asked, branch-at-reads.Learnt, clear-row-below t, clear-row.Post, clear-branches-below t, clear-branches.Post) (clear-branches-at t) clear-branches.Post
 clear-branches-returns-3 t c = search branches-laws depth 12
 
 clear-row-index-requires : (t : ℕ) → clear-row-lts.Need-index-requires (index-reads.Asked, index-reads.Learnt, clear-reads.Asked, clear-reads.Learnt, subs-of-reads.Asked, subs-of-reads.Learnt, clear-row-below t, clear-row.Post, behaviour-at-reads.Asked, behaviour-at-reads.Learnt, clear-branches-below t, clear-branches.Post) (clear-row-at t) clear-row.Post
@@ -181,17 +172,14 @@ clear-row-returns-5 : (t : ℕ) → clear-row-lts.Need-returns-5 (index-reads.As
 clear-row-returns-5 t c = search row-laws depth 12
 
 pub +clear-branches+clear-row-spec : {M : Type 1} → statement M
-+clear-branches+clear-row-spec = close μ-clear-branches μ-clear-row (λ t. clear-branches-lts.spec (clear-reads.Asked, clear-reads.Learnt, u16-at-reads.Asked, u16-at-reads.Learnt, clear-row-below t, clear-row.Post, clear-branches-below t, clear-branches.Post)
++clear-branches+clear-row-spec = close μ-clear-branches μ-clear-row (λ t. clear-branches-lts.spec (clear-reads.Asked, clear-reads.Learnt, branch-at-reads.Asked, branch-at-reads.Learnt, clear-row-below t, clear-row.Post, clear-branches-below t, clear-branches.Post)
     (clear-branches-at t)
     clear-branches.Post
     (clear-branches-clear-requires t)
     (clear-branches-same-length t)
     (clear-branches-returns t)
-    (clear-branches-add-u16-at t)
-    (clear-branches-u16-at-requires t)
+    (clear-branches-branch-at-requires t)
     (clear-branches-clear-row-requires t)
-    (clear-branches-add-u16-at-2 t)
-    (clear-branches-u16-at-requires-2 t)
     (clear-branches-clear-row-requires-2 t)
     (clear-branches-same-length-2 t)
     (clear-branches-returns-2 t)

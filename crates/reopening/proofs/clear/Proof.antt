@@ -5,18 +5,13 @@ use Rattle.reopening.proofs.clear.Tie as tie
 use Rattle.reopening.proofs.clear.Reads as reads
 use Rattle.reopening.proofs.clear.Lts as lts
 use Rattle.progress.proofs.put_progress.Reads as put-progress-reads
+use Rattle.state.proofs.row_start.Reads as row-start-reads
 
 returns : tie.Need-returns
 returns c = search clear-laws depth 12
 
-add-put-progress : tie.Need-add-put-progress
-add-put-progress c = search needs
-
-mul-put-progress : tie.Need-mul-put-progress
-mul-put-progress c = search needs
-
-add-put-progress-2 : tie.Need-add-put-progress-2
-add-put-progress-2 c = search needs
+row-start-requires : tie.Need-row-start-requires
+row-start-requires c κs = search needs
 
 put-progress-requires : tie.Need-put-progress-requires
 put-progress-requires c κs = search needs
@@ -29,12 +24,4 @@ returns-2 c = search clear-laws depth 12
 
 pub clear-spec : {M : Type 1} → statement M
 clear-spec =
-    tie.close
-    (tie.spec
-    returns
-    add-put-progress
-    mul-put-progress
-    add-put-progress-2
-    put-progress-requires
-    same-length
-    returns-2)
+    tie.close (tie.spec returns row-start-requires put-progress-requires same-length returns-2)

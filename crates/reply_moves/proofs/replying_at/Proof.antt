@@ -1,5 +1,4 @@
-use Rattle.reply_moves.proofs.RowLaws.{row-replies}
-use Rattle.reply_moves.proofs.RowLaws.{replying-laws}
+use Rattle.reply_moves.proofs.RowLaws.{replying-laws, row-replies}
 use borrow.Author.Needs.{needs}
 use Rattle.reply_moves.proofs.replying_at.Statement.{statement}
 use Rattle.reply_moves.proofs.replying_at.Tie as tie
@@ -7,7 +6,7 @@ use Rattle.reply_moves.proofs.replying_at.Reads as reads
 use Rattle.reply_moves.proofs.replying_at.Lts as lts
 use Rattle.operations.proofs.permits.Reads as permits-reads
 use Rattle.readiness.proofs.is_done.Reads as is-done-reads
-use Rattle.rows.proofs.behaviour_row.Reads as behaviour-row-reads
+use Rattle.rows.proofs.input_of.Reads as input-of-reads
 use Rattle.waiting_rows.proofs.has_row.Reads as has-row-reads
 
 has-row-requires : tie.Need-has-row-requires
@@ -16,8 +15,8 @@ has-row-requires c κs = search needs
 returns : tie.Need-returns
 returns c = search (replying-laws, needs) depth 12
 
-behaviour-row-requires : tie.Need-behaviour-row-requires
-behaviour-row-requires c κs = search needs
+input-of-requires : tie.Need-input-of-requires
+input-of-requires c κs = search needs
 
 enum-known-o : tie.Need-enum-known-o
 enum-known-o c = search needs
@@ -39,8 +38,11 @@ returns-4 c = search (replying-laws, needs) depth 12
 
 returns-5 : tie.Need-returns-5
 returns-5 c =
-    row-replies (c .before .before .before .before .before .before .before .before .before .before .before .before .args .file .now) (c .before .before .before .before .before .before .before .before .before .before .before .before .args .state .now) (c .before .before .before .before .before .before .before .before .before .before .before .before .args .slot) (c .before .before .before .before .before .before .before .before .before .before .before .before .args .b) (c .before .before .before .before .before .before .before .before .before .before .before .before .args .q) (c .before .before .before .before .before .before .before .before .before .before .before .before .args .r) (c .before .before .before .before .before .before .before .before .before .has-row .ensures) (c .before .before .before .before .before .before .before .before .if1 .left) (c .before .before .before .before .before .before .before .behaviour-row .ensures) (c .before .before .before .before .before .o .given .1)
-    (c .before .before .before .is-done .ensures) (c .before .before .if2 .left) (c .before .permits .ensures) (c .if3 .left)
+    let a = c .before .before .before .before .before .before .before .before .before .before .before .before .args in
+    row-replies (a .file .now) (a .state .now) (a .slot) (a .b) (a .q) (a .r) (c .before .before .before .before .before .before .before .before
+    .before .has-row .ensures) (c .before .before .before .before .before .before .before .before .if1 .left) (c .before .before .before .before .before
+    .before .before .input-of .ensures) (c .before .before .before .before .before .o .given .1) (c .before .before .before .is-done .ensures) (c .before
+    .before .if2 .left) (c .before .permits .ensures) (c .if3 .left)
 
 pub replying-at-spec : {M : Type 1} → statement M
 replying-at-spec =
@@ -48,7 +50,7 @@ replying-at-spec =
     (tie.spec
     has-row-requires
     returns
-    behaviour-row-requires
+    input-of-requires
     enum-known-o
     returns-2
     is-done-requires

@@ -8,7 +8,7 @@ use Rattle.roots.proofs.with_branches.Reads as with-branches
 use Rattle.roots.proofs.with_branches.Kinds as with-branches-kinds
 use Rattle.roots.proofs.+with_branches.Lts-with_branches as with-branches-lts
 use Rattle.roots.proofs.join.Reads as join-reads
-use Rattle.wire.proofs.u16_at.Reads as u16-at-reads
+use Rattle.rows.proofs.branch_at.Reads as branch-at-reads
 use Rattle.roots.proofs.+with_branches.{statement}
 use Rattle.roots.proofs.+with_branches.Tie.{close}
 
@@ -27,49 +27,37 @@ with-branches-below t =
     (falls 2 with-branches-kinds.ps _<_ μ-with-branches t)
     with-branches.Pre
 
-with-branches-returns : (t : ℕ) → with-branches-lts.Need-returns (u16-at-reads.Asked, u16-at-reads.Learnt, join-reads.Asked, join-reads.Learnt, with-branches-below t, with-branches.Post) (with-branches-at t) with-branches.Post
+with-branches-returns : (t : ℕ) → with-branches-lts.Need-returns (branch-at-reads.Asked, branch-at-reads.Learnt, join-reads.Asked, join-reads.Learnt, with-branches-below t, with-branches.Post) (with-branches-at t) with-branches.Post
 with-branches-returns t c = search branch-laws depth 12
 
-with-branches-add-u16-at : (t : ℕ) → with-branches-lts.Need-add-u16-at (u16-at-reads.Asked, u16-at-reads.Learnt, join-reads.Asked, join-reads.Learnt, with-branches-below t, with-branches.Post) (with-branches-at t) with-branches.Post
-with-branches-add-u16-at t c = search needs
+with-branches-branch-at-requires : (t : ℕ) → with-branches-lts.Need-branch-at-requires (branch-at-reads.Asked, branch-at-reads.Learnt, join-reads.Asked, join-reads.Learnt, with-branches-below t, with-branches.Post) (with-branches-at t) with-branches.Post
+with-branches-branch-at-requires t c κs = search needs
 
-with-branches-u16-at-requires : (t : ℕ) → with-branches-lts.Need-u16-at-requires (u16-at-reads.Asked, u16-at-reads.Learnt, join-reads.Asked, join-reads.Learnt, with-branches-below t, with-branches.Post) (with-branches-at t) with-branches.Post
-with-branches-u16-at-requires t c κs = search needs
-
-with-branches-join-requires : (t : ℕ) → with-branches-lts.Need-join-requires (u16-at-reads.Asked, u16-at-reads.Learnt, join-reads.Asked, join-reads.Learnt, with-branches-below t, with-branches.Post) (with-branches-at t) with-branches.Post
+with-branches-join-requires : (t : ℕ) → with-branches-lts.Need-join-requires (branch-at-reads.Asked, branch-at-reads.Learnt, join-reads.Asked, join-reads.Learnt, with-branches-below t, with-branches.Post) (with-branches-at t) with-branches.Post
 with-branches-join-requires t c κs = search needs
 
-with-branches-add-u16-at-2 : (t : ℕ) → with-branches-lts.Need-add-u16-at-2 (u16-at-reads.Asked, u16-at-reads.Learnt, join-reads.Asked, join-reads.Learnt, with-branches-below t, with-branches.Post) (with-branches-at t) with-branches.Post
-with-branches-add-u16-at-2 t c = search needs
-
-with-branches-u16-at-requires-2 : (t : ℕ) → with-branches-lts.Need-u16-at-requires-2 (u16-at-reads.Asked, u16-at-reads.Learnt, join-reads.Asked, join-reads.Learnt, with-branches-below t, with-branches.Post) (with-branches-at t) with-branches.Post
-with-branches-u16-at-requires-2 t c κs = search needs
-
-with-branches-join-requires-2 : (t : ℕ) → with-branches-lts.Need-join-requires-2 (u16-at-reads.Asked, u16-at-reads.Learnt, join-reads.Asked, join-reads.Learnt, with-branches-below t, with-branches.Post) (with-branches-at t) with-branches.Post
+with-branches-join-requires-2 : (t : ℕ) → with-branches-lts.Need-join-requires-2 (branch-at-reads.Asked, branch-at-reads.Learnt, join-reads.Asked, join-reads.Learnt, with-branches-below t, with-branches.Post) (with-branches-at t) with-branches.Post
 with-branches-join-requires-2 t c κs = search needs
 
-with-branches-add-with-branches : (t : ℕ) → with-branches-lts.Need-add-with-branches (u16-at-reads.Asked, u16-at-reads.Learnt, join-reads.Asked, join-reads.Learnt, with-branches-below t, with-branches.Post) (with-branches-at t) with-branches.Post
+with-branches-add-with-branches : (t : ℕ) → with-branches-lts.Need-add-with-branches (branch-at-reads.Asked, branch-at-reads.Learnt, join-reads.Asked, join-reads.Learnt, with-branches-below t, with-branches.Post) (with-branches-at t) with-branches.Post
 with-branches-add-with-branches t c = search needs
 
-with-branches-sub-with-branches : (t : ℕ) → with-branches-lts.Need-sub-with-branches (u16-at-reads.Asked, u16-at-reads.Learnt, join-reads.Asked, join-reads.Learnt, with-branches-below t, with-branches.Post) (with-branches-at t) with-branches.Post
+with-branches-sub-with-branches : (t : ℕ) → with-branches-lts.Need-sub-with-branches (branch-at-reads.Asked, branch-at-reads.Learnt, join-reads.Asked, join-reads.Learnt, with-branches-below t, with-branches.Post) (with-branches-at t) with-branches.Post
 with-branches-sub-with-branches t c = search needs
 
-with-branches-with-branches-requires : (t : ℕ) → with-branches-lts.Need-with-branches-requires (u16-at-reads.Asked, u16-at-reads.Learnt, join-reads.Asked, join-reads.Learnt, with-branches-below t, with-branches.Post) (with-branches-at t) with-branches.Post
+with-branches-with-branches-requires : (t : ℕ) → with-branches-lts.Need-with-branches-requires (branch-at-reads.Asked, branch-at-reads.Learnt, join-reads.Asked, join-reads.Learnt, with-branches-below t, with-branches.Post) (with-branches-at t) with-branches.Post
 with-branches-with-branches-requires t c κs = (omega arith, search needs)
 
-with-branches-returns-2 : (t : ℕ) → with-branches-lts.Need-returns-2 (u16-at-reads.Asked, u16-at-reads.Learnt, join-reads.Asked, join-reads.Learnt, with-branches-below t, with-branches.Post) (with-branches-at t) with-branches.Post
+with-branches-returns-2 : (t : ℕ) → with-branches-lts.Need-returns-2 (branch-at-reads.Asked, branch-at-reads.Learnt, join-reads.Asked, join-reads.Learnt, with-branches-below t, with-branches.Post) (with-branches-at t) with-branches.Post
 with-branches-returns-2 t c = search branch-laws depth 12
 
 pub +with-branches-spec : {M : Type 1} → statement M
-+with-branches-spec = close μ-with-branches λ t. with-branches-lts.spec (u16-at-reads.Asked, u16-at-reads.Learnt, join-reads.Asked, join-reads.Learnt, with-branches-below t, with-branches.Post)
++with-branches-spec = close μ-with-branches λ t. with-branches-lts.spec (branch-at-reads.Asked, branch-at-reads.Learnt, join-reads.Asked, join-reads.Learnt, with-branches-below t, with-branches.Post)
     (with-branches-at t)
     with-branches.Post
     (with-branches-returns t)
-    (with-branches-add-u16-at t)
-    (with-branches-u16-at-requires t)
+    (with-branches-branch-at-requires t)
     (with-branches-join-requires t)
-    (with-branches-add-u16-at-2 t)
-    (with-branches-u16-at-requires-2 t)
     (with-branches-join-requires-2 t)
     (with-branches-add-with-branches t)
     (with-branches-sub-with-branches t)

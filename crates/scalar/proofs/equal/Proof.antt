@@ -1,9 +1,11 @@
-use Rattle.scalar.proofs.Operating.{equal-bools, equal-ints, equal-longs, equal-doubles, equal-strings, equal-raws, equal-other}
+use Rattle.scalar.proofs.Operating.{answer, ints, longs, equal-bools, equal-integers, equal-doubles, equal-strings, equal-raws, equal-other}
 use mir.Val.{SFits}
 use lib.Ieee.{binary64, fits}
 use lib.Dec.{T}
 use mir.Syntax.{w32, w64}
 use borrow.Author.Needs.{needs}
+use mathlib.Core.Path.{refl, _∙_}
+use Rattle.scalar.specs.Basic.{int, long}
 use Rattle.scalar.proofs.equal.Statement.{statement}
 use Rattle.scalar.proofs.equal.Tie as tie
 use Rattle.scalar.proofs.equal.Reads as reads
@@ -51,7 +53,7 @@ returns-2 c =
     let g = c .before .p2 .given in
     let fp : SFits w32 (g .0 .0) = search needs in
     let fq : SFits w32 (g .0 .1 .0) = search needs in
-    equal-ints (s .before .args .a) (s .before .args .b) (s .paired .result) (s .paired .ensures) (g .1) fp fq
+    answer _ ∙ equal-integers (s .before .args .a) (s .before .args .b) int w32 refl refl (ints (s .before .args .a) (s .before .args .b) (s .paired .result) (s .paired .ensures) (g .1)) fp fq
 
 returns-3 : tie.Need-returns-3
 returns-3 c =
@@ -59,7 +61,7 @@ returns-3 c =
     let g = c .before .p3 .given in
     let fp : SFits w64 (g .0 .0) = search needs in
     let fq : SFits w64 (g .0 .1 .0) = search needs in
-    equal-longs (s .before .args .a) (s .before .args .b) (s .paired .result) (s .paired .ensures) (g .1) fp fq
+    answer _ ∙ equal-integers (s .before .args .a) (s .before .args .b) long w64 refl refl (longs (s .before .args .a) (s .before .args .b) (s .paired .result) (s .paired .ensures) (g .1)) fp fq
 
 returns-4 : tie.Need-returns-4
 returns-4 c =

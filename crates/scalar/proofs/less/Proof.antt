@@ -1,6 +1,7 @@
-use Rattle.scalar.proofs.Operating.{less-ints, less-longs, less-doubles, less-other}
+use Rattle.scalar.proofs.Operating.{answer, ints, longs, doubles, less-integers, less-doubles, less-other}
 use lib.Signed.{ltZ}
-use mathlib.Core.Path.{_≡_, refl}
+use mathlib.Core.Path.{_≡_, refl, _∙_}
+use Rattle.scalar.specs.Basic.{int, long}
 use mir.ValLaws.{toZ-ofZ}
 use mir.Val.{SFits, toZ, ofZ}
 use lib.Ieee.{binary64, fits}
@@ -36,7 +37,7 @@ returns c =
     let fp : SFits w32 (g .0 .0) = search needs in
     let fq : SFits w32 (g .0 .1 .0) = search needs in
     let r : ltZ (toZ w32 (ofZ w32 (g .0 .0))) (toZ w32 (ofZ w32 (g .0 .1 .0))) ≡ ltZ (g .0 .0) (g .0 .1 .0) = rw (toZ-ofZ w32 (g .0 .0) fp, toZ-ofZ w32 (g .0 .1 .0) fq) refl in
-    less-ints (s .before .args .a) (s .before .args .b) (s .paired .result) (s .paired .ensures) (g .1) fp fq r
+    answer _ ∙ less-integers (s .before .args .a) (s .before .args .b) int w32 refl (ints (s .before .args .a) (s .before .args .b) (s .paired .result) (s .paired .ensures) (g .1)) fp fq r
 
 returns-2 : tie.Need-returns-2
 returns-2 c =
@@ -45,7 +46,7 @@ returns-2 c =
     let fp : SFits w64 (g .0 .0) = search needs in
     let fq : SFits w64 (g .0 .1 .0) = search needs in
     let r : ltZ (toZ w64 (ofZ w64 (g .0 .0))) (toZ w64 (ofZ w64 (g .0 .1 .0))) ≡ ltZ (g .0 .0) (g .0 .1 .0) = rw (toZ-ofZ w64 (g .0 .0) fp, toZ-ofZ w64 (g .0 .1 .0) fq) refl in
-    less-longs (s .before .args .a) (s .before .args .b) (s .paired .result) (s .paired .ensures) (g .1) fp fq r
+    answer _ ∙ less-integers (s .before .args .a) (s .before .args .b) long w64 refl (longs (s .before .args .a) (s .before .args .b) (s .paired .result) (s .paired .ensures) (g .1)) fp fq r
 
 returns-3 : tie.Need-returns-3
 returns-3 c =
@@ -53,7 +54,7 @@ returns-3 c =
     let g = c .before .before .p3 .given in
     let fp : T (fits binary64 (g .0 .0)) = search needs in
     let fq : T (fits binary64 (g .0 .1 .0)) = search needs in
-    less-doubles (s .before .args .a) (s .before .args .b) (s .paired .result) (s .paired .ensures) (g .1) fp fq (c .double-less .ensures)
+    answer _ ∙ less-doubles (s .before .args .a) (s .before .args .b) (g .0 .0) (g .0 .1 .0) (doubles (s .before .args .a) (s .before .args .b) (s .paired .result) (s .paired .ensures) (g .1)) fp fq (c .double-less .ensures)
 
 returns-4 : tie.Need-returns-4
 returns-4 c = let s = c .before in less-other (s .before .args .a) (s .before .args .b) (s .paired .result) (s .paired .ensures) (c .match .keys4)

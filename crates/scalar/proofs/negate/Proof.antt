@@ -1,10 +1,11 @@
 use Rattle.integer.specs.Wrap.{wrap}
 use lib.IntN.{negℤ}
-use Rattle.scalar.proofs.Operating.{negate-int, negate-long, negate-double, negate-other}
+use Rattle.scalar.proofs.Operating.{answer, value-is, negate-integer, negate-double, negate-other}
 use mir.Syntax.{w32, w64}
 use mir.Val.{SFits, toZ, ofZ}
 use mir.ValLaws.{toZ-ofZ}
-use mathlib.Core.Path.{_≡_}
+use mathlib.Core.Path.{_≡_, refl, _∙_}
+use Rattle.scalar.specs.Basic.{int, long}
 use lib.Dec.{T}
 use lib.Ieee.{binary64, fits}
 use borrow.Author.Needs.{needs}
@@ -31,14 +32,14 @@ returns c =
     let g = c .before .before .x .given in
     let f : SFits w32 (g .0 .0) = search needs in
     let r : toZ w32 (ofZ w32 (c .int-negate .result)) ≡ wrap w32 (negℤ (g .0 .0)) = cc (toZ-ofZ w32 (c .int-negate .result) (record { sfits = c .int-negate .ok }), toZ-ofZ w32 (g .0 .0) f) in
-    negate-int (c .before .before .before .before .args .a) (g .1) f r
+    answer _ ∙ negate-integer (c .before .before .before .before .args .a) int w32 refl (value-is (c .before .before .before .before .args .a) (g .1)) f r
 
 returns-2 : tie.Need-returns-2
 returns-2 c =
     let g = c .before .before .x2 .given in
     let f : SFits w64 (g .0 .0) = search needs in
     let r : toZ w64 (ofZ w64 (c .long-negate .result)) ≡ wrap w64 (negℤ (g .0 .0)) = cc (toZ-ofZ w64 (c .long-negate .result) (record { sfits = c .long-negate .ok }), toZ-ofZ w64 (g .0 .0) f) in
-    negate-long (c .before .before .before .before .args .a) (g .1) f r
+    answer _ ∙ negate-integer (c .before .before .before .before .args .a) long w64 refl (value-is (c .before .before .before .before .args .a) (g .1)) f r
 
 returns-3 : tie.Need-returns-3
 returns-3 c =

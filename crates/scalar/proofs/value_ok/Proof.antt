@@ -1,5 +1,7 @@
 use native.Mathlib.Omega.{arith}
-use Rattle.scalar.specs.ValueLaws.{bool-value, bool-long, int-value, double-plain, double-nan, double-long, long-value, text-value, void-value, no-value}
+use mathlib.Core.Path.{refl}
+use mir.Syntax.{w32, w64}
+use Rattle.scalar.specs.ValueLaws.{bool-value, bool-long, integer-value, double-plain, double-nan, double-long, text-value, void-value, no-value}
 use borrow.Author.Needs.{needs}
 use Rattle.scalar.proofs.value_ok.Statement.{statement}
 use Rattle.scalar.proofs.value_ok.Tie as tie
@@ -23,13 +25,13 @@ returns-4 : tie.Need-returns-4
 returns-4 c = let a = c .before .before .before in bool-long (a .args .s .now) (a .args .at) (a .args .basic) (a .args .len) (a .pre) (c .before .match .keys1) (c .if1 .left)
 
 returns-5 : tie.Need-returns-5
-returns-5 c = let a = c .before .before in int-value (a .args .s .now) (a .args .at) (a .args .basic) (a .args .len) (a .pre) (c .match .keys2)
+returns-5 c = let a = c .before .before in integer-value (a .args .s .now) (a .args .at) (a .args .basic) (a .args .len) (a .pre) w32 (rw (c .match .keys2) refl)
 
 returns-6 : tie.Need-returns-6
 returns-6 c = let a = c .before .before .before in double-long (a .args .s .now) (a .args .at) (a .args .basic) (a .args .len) (a .pre) (c .before .match .keys3) (c .if2 .left)
 
 returns-7 : tie.Need-returns-7
-returns-7 c = let a = c .before .before in long-value (a .args .s .now) (a .args .at) (a .args .basic) (a .args .len) (a .pre) (c .match .keys4)
+returns-7 c = let a = c .before .before in integer-value (a .args .s .now) (a .args .at) (a .args .basic) (a .args .len) (a .pre) w64 (rw (c .match .keys4) refl)
 
 returns-8 : tie.Need-returns-8
 returns-8 c = let a = c .before .before in void-value (a .args .s .now) (a .args .at) (a .args .basic) (a .args .len) (a .pre) (c .match .keys5)

@@ -1,4 +1,5 @@
-use Rattle.scalar.proofs.Reading.{room, bool-written, int-written, long-written, double-written, string-written, raw-written, void-written, wrote-byte, wrote-32, wrote-64, wrote-all, wrote-none}
+use Rattle.scalar.specs.Basic.{int, long}
+use Rattle.scalar.proofs.Reading.{room, bool-written, integer-written, double-written, string-written, raw-written, void-written, wrote-byte, wrote-32, wrote-64, wrote-all, wrote-none}
 use Rattle.scalar.specs.NumberLaws.{length-littleEndian}
 use Rattle.scalar.specs.Scalar.{valueOf}
 use Rattle.scalar.specs.Value.{bytesOf}
@@ -28,7 +29,7 @@ int-bits-requires : tie.Need-int-bits-requires
 int-bits-requires c κs = search needs
 
 put-u32-requires : tie.Need-put-u32-requires
-put-u32-requires c κs = let a = c .before .before .before .before .before .before in let f : SFits w32 (c .before .before .before .k2 .given .0 .0) = search needs in room (a .args .out .now) (a .args .at) 4 (int-written (a .args .x) (c .before .before .before .k2 .given .1) f) (length-littleEndian 4 _) (a .pre)
+put-u32-requires c κs = let a = c .before .before .before .before .before .before in let f : SFits w32 (c .before .before .before .k2 .given .0 .0) = search needs in room (a .args .out .now) (a .args .at) 4 (integer-written (a .args .x) int w32 (c .before .before .before .k2 .given .0 .0) (c .before .before .before .k2 .given .1) refl f) (length-littleEndian 4 _) (a .pre)
 
 enum-known-k-3 : tie.Need-enum-known-k-3
 enum-known-k-3 c = search needs
@@ -46,7 +47,7 @@ long-bits-requires : tie.Need-long-bits-requires
 long-bits-requires c κs = search needs
 
 put-u64-requires-2 : tie.Need-put-u64-requires-2
-put-u64-requires-2 c κs = let a = c .before .before .before .before .before .before in let f : SFits w64 (c .before .before .before .k4 .given .0 .0) = search needs in room (a .args .out .now) (a .args .at) 8 (long-written (a .args .x) (c .before .before .before .k4 .given .1) f) (length-littleEndian 8 _) (a .pre)
+put-u64-requires-2 c κs = let a = c .before .before .before .before .before .before in let f : SFits w64 (c .before .before .before .k4 .given .0 .0) = search needs in room (a .args .out .now) (a .args .at) 8 (integer-written (a .args .x) long w64 (c .before .before .before .k4 .given .0 .0) (c .before .before .before .k4 .given .1) refl f) (length-littleEndian 8 _) (a .pre)
 
 enum-told : tie.Need-enum-told
 enum-told c = search needs
@@ -79,7 +80,7 @@ returns-2 c =
     let f : SFits w32 (g .0 .0) = search needs in
     let i = c .before .before .before .int-bits in
     let l : i .result < 0x100000000 = search needs in
-    wrote-32 (a .args .out .now) (c .before .before .put-u32 .last .0) (a .args .at) (bytesOf (valueOf (a .args .x))) (int-written (a .args .x) (g .1) f) (a .pre) l (i .ensures ∙ ap (ofZ w32) (toZ-ofZ w32 (g .0 .0) f)) (c .before .before .put-u32 .ensures)
+    wrote-32 (a .args .out .now) (c .before .before .put-u32 .last .0) (a .args .at) (bytesOf (valueOf (a .args .x))) (integer-written (a .args .x) int w32 (g .0 .0) (g .1) refl f) (a .pre) l (i .ensures ∙ ap (ofZ w32) (toZ-ofZ w32 (g .0 .0) f)) (c .before .before .put-u32 .ensures)
 
 same-length-3 : tie.Need-same-length-3
 same-length-3 c = search needs
@@ -102,7 +103,7 @@ returns-4 c =
     let f : SFits w64 (g .0 .0) = search needs in
     let i = c .before .before .before .long-bits in
     let l : i .result < 0x10000000000000000 = search needs in
-    wrote-64 (a .args .out .now) (c .before .before .put-u642 .last .0) (a .args .at) (bytesOf (valueOf (a .args .x))) (long-written (a .args .x) (g .1) f) (a .pre) l (i .ensures ∙ ap (ofZ w64) (toZ-ofZ w64 (g .0 .0) f)) (c .before .before .put-u642 .ensures)
+    wrote-64 (a .args .out .now) (c .before .before .put-u642 .last .0) (a .args .at) (bytesOf (valueOf (a .args .x))) (integer-written (a .args .x) long w64 (g .0 .0) (g .1) refl f) (a .pre) l (i .ensures ∙ ap (ofZ w64) (toZ-ofZ w64 (g .0 .0) f)) (c .before .before .put-u642 .ensures)
 
 same-length-5 : tie.Need-same-length-5
 same-length-5 c = search needs

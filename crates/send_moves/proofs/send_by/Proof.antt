@@ -10,8 +10,8 @@ use Rattle.refusal.proofs.refused.Reads as refused-reads
 use Rattle.rows.proofs.operation_location.Reads as operation-location-reads
 use Rattle.send_moves.proofs.send_inside.Reads as send-inside-reads
 use Rattle.send_moves.proofs.send_outside.Reads as send-outside-reads
-use Rattle.targets.proofs.in_file.Reads as in-file-reads
-use Rattle.targets.proofs.met_input.Reads as met-input-reads
+use Rattle.operations.proofs.in_file.Reads as in-file-reads
+use Rattle.operations.proofs.met_input.Reads as met-input-reads
 
 operation-location-requires : tie.Need-operation-location-requires
 operation-location-requires c κs = search needs

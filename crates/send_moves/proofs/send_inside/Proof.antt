@@ -1,8 +1,9 @@
-use mathlib.Core.Path.{refl, _∙_}
-use native.Mathlib.Omega.{arith}
-use Rattle.progress.specs.Meaning.{meaning}
+use Rattle.send_moves.proofs.MakingLaws.{inside-past, inside-sent}
+use Rattle.send_moves.proofs.MakingLaws.{put-length, message-inside, part-length, inside-not, inside-missing, inside-wrong, inside-misfit}
 use Rattle.queues.specs.Queue.{replyOf}
-use Rattle.send_moves.proofs.MakingLaws.{put-length, message-inside, part-length, inside-not, inside-stuck, inside-misfit, inside-past, inside-sent}
+use Rattle.progress.specs.Meaning.{meaning}
+use native.Mathlib.Omega.{arith}
+use mathlib.Core.Path.{refl, _∙_}
 use borrow.Author.Needs.{needs}
 use Rattle.send_moves.proofs.send_inside.Statement.{statement}
 use Rattle.send_moves.proofs.send_inside.Tie as tie
@@ -57,25 +58,6 @@ write-message-requires c κs = search needs
 enum-known-n : tie.Need-enum-known-n
 enum-known-n c = search needs
 
-enum-told-3 : tie.Need-enum-told-3
-enum-told-3 c = search needs
-
-refused-requires : tie.Need-refused-requires
-refused-requires c κs = search needs
-
-same-length-2 : tie.Need-same-length-2
-same-length-2 c = search needs
-
-returns-2 : tie.Need-returns-2
-returns-2 c =
-    let a = c .before .before .before .before .before .before .before .before .before .before .before .before .before .before .before .before .args in
-    inside-stuck (a .file .now) (a .state .now) (a .slot) (a .i) (a .k) (a .e) (a .to) (meaning (a .after)) (replyOf (a .back)) (c .before .before
-    .before .before .before .before .before .before .before .before .before .before .target-of .ensures) ((c .before .before .before .before .before
-    .before .before .before .before .before .byte-to-u16 .ensures .0) ∙ (c .before .before .before .before .before .before .before .before .before
-    .before .before .operation-service .ensures)) (c .before .before .before .before .before .before .before .before .before .allowed .ensures) (c
-    .before .before .before .before .before .before .before .enum-told .given .1) (c .before .before .before .before .write-message .ensures) (c .before
-    .enum-told3 .given .1) (c .refused .ensures)
-
 array-share-prefix-m : tie.Need-array-share-prefix-m
 array-share-prefix-m c =
     message-inside (c .before .before .before .before .write-message .ensures) (c .before .n .given .1)
@@ -91,14 +73,14 @@ request-type-requires c κs = search needs
 must-fit-requires : tie.Need-must-fit-requires
 must-fit-requires c κs = search needs
 
-refused-requires-2 : tie.Need-refused-requires-2
-refused-requires-2 c κs = search needs
+refused-requires : tie.Need-refused-requires
+refused-requires c κs = search needs
 
-same-length-3 : tie.Need-same-length-3
-same-length-3 c = search needs
+same-length-2 : tie.Need-same-length-2
+same-length-2 c = search needs
 
-returns-3 : tie.Need-returns-3
-returns-3 c =
+returns-2 : tie.Need-returns-2
+returns-2 c =
     let a = c .before .before .before .before .before .before .before .before .before .before .before .before .before .before .before .before .before
     .before .before .before .before .args in
     inside-misfit (a .file .now) (a .state .now) (a .slot) (a .i) (a .k) (a .e) (a .to) (meaning (a .after)) (replyOf (a .back)) (c .before .before
@@ -108,7 +90,7 @@ returns-3 c =
     .operation-service .ensures)) (c .before .before .before .before .before .before .before .before .before .before .before .before .before .before
     .allowed .ensures) (c .before .before .before .before .before .before .before .before .before .before .before .before .enum-told .given .1) (c
     .before .before .before .before .before .before .before .before .before .write-message .ensures) (c .before .before .before .before .before .before
-    .n .given .1) _ refl (c .before .before .before .request-type .ensures) (c .before .before .must-fit .ensures) (c .before .if1 .taken) (c .refused2
+    .n .given .1) _ refl (c .before .before .before .request-type .ensures) (c .before .before .must-fit .ensures) (c .before .if1 .taken) (c .refused
     .ensures)
 
 array-share-prefix-m-2 : tie.Need-array-share-prefix-m-2
@@ -125,14 +107,14 @@ slice-aggregate-starts-within c =
 starts-within-requires : tie.Need-starts-within-requires
 starts-within-requires c κs = search needs
 
-refused-requires-3 : tie.Need-refused-requires-3
-refused-requires-3 c κs = search needs
+refused-requires-2 : tie.Need-refused-requires-2
+refused-requires-2 c κs = search needs
 
-same-length-4 : tie.Need-same-length-4
-same-length-4 c = search needs
+same-length-3 : tie.Need-same-length-3
+same-length-3 c = search needs
 
-returns-4 : tie.Need-returns-4
-returns-4 c =
+returns-3 : tie.Need-returns-3
+returns-3 c =
     let a = c .before .before .before .before .before .before .before .before .before .before .before .before .before .before .before .before .before
     .before .before .before .before .before .before .before .args in
     inside-past (a .file .now) (a .state .now) (a .slot) (a .i) (a .k) (a .e) (a .to) (meaning (a .after)) (replyOf (a .back)) (c .before .before
@@ -145,7 +127,7 @@ returns-4 c =
     .before .before .before .before .before .before .before .before .write-message .ensures) (c .before .before .before .before .before .before .before
     .before .before .n .given .1) _ refl (c .before .before .before .before .before .before .request-type .ensures) (c .before .before .before .before
     .before .must-fit .ensures) (c .before .before .before .before .if1 .left) (c .before .before .starts-within .ensures) (c .before .if2 .taken) (c
-    .refused3 .ensures)
+    .refused2 .ensures)
 
 put-row-requires : tie.Need-put-row-requires
 put-row-requires c κs = (
@@ -185,11 +167,23 @@ deliver-requires c κs =
     .before .before .before .before .before .before .before .before .before .before .before .before .before .before .before .before .before .before
     .before .before .before .before .before .before .before .pre .2) (c .before .before .before .before .put-row .ensures)
 
-same-length-5 : tie.Need-same-length-5
-same-length-5 c = search needs
+enum-told-3 : tie.Need-enum-told-3
+enum-told-3 c = search needs
 
-returns-5 : tie.Need-returns-5
-returns-5 c =
+refused-requires-3 : tie.Need-refused-requires-3
+refused-requires-3 c κs = search needs
+
+enum-told-4 : tie.Need-enum-told-4
+enum-told-4 c = search needs
+
+refused-requires-4 : tie.Need-refused-requires-4
+refused-requires-4 c κs = search needs
+
+same-length-4 : tie.Need-same-length-4
+same-length-4 c = search needs
+
+returns-4 : tie.Need-returns-4
+returns-4 c =
     let a = c .before .before .before .before .before .before .before .before .before .before .before .before .before .before .before .before .before
     .before .before .before .before .before .before .before .before .before .before .before .before .before .before .before .args in
     inside-sent (a .file .now) (a .state .now) (a .slot) (a .i) (a .k) (a .e) (a .to) (meaning (a .after)) (replyOf (a .back)) (c .before .before
@@ -211,6 +205,32 @@ returns-5 c =
     .before .before .before .before .before .before .before .before .before .before .before .before .before .before .before .before .before .before
     .before .before .pre .2) (c .before .before .before .before .before .before .before .put-row .ensures) (c .before .before .deliver .ensures)
 
+same-length-5 : tie.Need-same-length-5
+same-length-5 c = search needs
+
+returns-5 : tie.Need-returns-5
+returns-5 c =
+    let a = c .before .before .before .before .before .before .before .before .before .before .before .before .before .before .before .before .args in
+    inside-missing (a .file .now) (a .state .now) (a .slot) (a .i) (a .k) (a .e) (a .to) (meaning (a .after)) (replyOf (a .back)) (c .before .before
+    .before .before .before .before .before .before .before .before .before .before .target-of .ensures) ((c .before .before .before .before .before
+    .before .before .before .before .before .byte-to-u16 .ensures .0) ∙ (c .before .before .before .before .before .before .before .before .before
+    .before .before .operation-service .ensures)) (c .before .before .before .before .before .before .before .before .before .allowed .ensures) (c
+    .before .before .before .before .before .before .before .enum-told .given .1) (c .before .before .before .before .write-message .ensures) (c .before
+    .enum-told3 .given .1) (c .refused3 .ensures)
+
+same-length-6 : tie.Need-same-length-6
+same-length-6 c = search needs
+
+returns-6 : tie.Need-returns-6
+returns-6 c =
+    let a = c .before .before .before .before .before .before .before .before .before .before .before .before .before .before .before .before .args in
+    inside-wrong (a .file .now) (a .state .now) (a .slot) (a .i) (a .k) (a .e) (a .to) (meaning (a .after)) (replyOf (a .back)) (c .before .before
+    .before .before .before .before .before .before .before .before .before .before .target-of .ensures) ((c .before .before .before .before .before
+    .before .before .before .before .before .byte-to-u16 .ensures .0) ∙ (c .before .before .before .before .before .before .before .before .before
+    .before .before .operation-service .ensures)) (c .before .before .before .before .before .before .before .before .before .allowed .ensures) (c
+    .before .before .before .before .before .before .before .enum-told .given .1) (c .before .before .before .before .write-message .ensures) (c .before
+    .enum-told4 .given .1) (c .refused4 .ensures)
+
 pub send-inside-spec : {M : Type 1} → statement M
 send-inside-spec =
     tie.close
@@ -226,26 +246,30 @@ send-inside-spec =
     slice-aggregate-write-message
     write-message-requires
     enum-known-n
-    enum-told-3
-    refused-requires
-    same-length-2
-    returns-2
     array-share-prefix-m
     slice-aggregate-must-fit
     request-type-requires
     must-fit-requires
-    refused-requires-2
-    same-length-3
-    returns-3
+    refused-requires
+    same-length-2
+    returns-2
     array-share-prefix-m-2
     slice-aggregate-starts-within
     starts-within-requires
-    refused-requires-3
-    same-length-4
-    returns-4
+    refused-requires-2
+    same-length-3
+    returns-3
     put-row-requires
     array-share-prefix-m-3
     slice-aggregate-deliver
     deliver-requires
+    enum-told-3
+    refused-requires-3
+    enum-told-4
+    refused-requires-4
+    same-length-4
+    returns-4
     same-length-5
-    returns-5)
+    returns-5
+    same-length-6
+    returns-6)

@@ -1,8 +1,8 @@
-use mathlib.Core.Path.{refl}
-use native.Mathlib.Omega.{arith}
+use Rattle.send_moves.proofs.MakingLaws.{message-inside, part-length, outside-done}
 use Rattle.progress.specs.Meaning.{meaning}
-use Rattle.send_moves.proofs.MakingLaws.{message-inside, part-length, outside-short, outside-target, outside-stuck, outside-misfit}
-use Rattle.send_moves.proofs.MakingLaws.{outside-long, outside-done}
+use native.Mathlib.Omega.{arith}
+use mathlib.Core.Path.{refl}
+use Rattle.send_moves.proofs.MakingLaws.{message-laws, outside-laws}
 use borrow.Author.Needs.{needs}
 use Rattle.send_moves.proofs.send_outside.Statement.{statement}
 use Rattle.send_moves.proofs.send_outside.Tie as tie
@@ -20,18 +20,13 @@ refused-requires : tie.Need-refused-requires
 refused-requires c κs = search needs
 
 returns : tie.Need-returns
-returns c =
-    let a = c .before .before .before .before .before .args in
-    outside-short (a .file .now) (a .state .now) (a .slot) (a .i) (a .o) (a .e) (a .to) (meaning (a .after)) (a .out .now) (c .before .if1 .taken)
+returns c = search (outside-laws, message-laws, needs) depth 12
 
 refused-requires-2 : tie.Need-refused-requires-2
 refused-requires-2 c κs = search needs
 
 returns-2 : tie.Need-returns-2
-returns-2 c =
-    let a = c .before .before .before .before .before .before .args in
-    outside-target (a .file .now) (a .state .now) (a .slot) (a .i) (a .o) (a .e) (a .to) (meaning (a .after)) (a .out .now) (c .before .if2 .taken) (c
-    .refused2 .ensures)
+returns-2 c = search (outside-laws, message-laws, needs) depth 12
 
 slice-aggregate-write-message : tie.Need-slice-aggregate-write-message
 slice-aggregate-write-message c = search needs
@@ -42,8 +37,17 @@ write-message-requires c κs = search needs
 enum-known-n : tie.Need-enum-known-n
 enum-known-n c = search needs
 
-enum-told : tie.Need-enum-told
-enum-told c = search needs
+array-share-prefix-m : tie.Need-array-share-prefix-m
+array-share-prefix-m c = search (message-laws, needs) depth 12
+
+slice-aggregate-must-fit : tie.Need-slice-aggregate-must-fit
+slice-aggregate-must-fit c = search (message-laws, needs) depth 12
+
+request-type-requires : tie.Need-request-type-requires
+request-type-requires c κs = search needs
+
+must-fit-requires : tie.Need-must-fit-requires
+must-fit-requires c κs = search needs
 
 refused-requires-3 : tie.Need-refused-requires-3
 refused-requires-3 c κs = search needs
@@ -52,26 +56,7 @@ same-length : tie.Need-same-length
 same-length c = search needs
 
 returns-3 : tie.Need-returns-3
-returns-3 c =
-    let a = c .before .before .before .before .before .before .before .before .before .before .before .before .args in
-    outside-stuck (a .file .now) (a .state .now) (a .slot) (a .i) (a .o) (a .e) (a .to) (meaning (a .after)) (a .out .now) (c .before .before .before
-    .before .before .before .before .if2 .left) (c .before .before .before .before .write-message .ensures) (c .before .enum-told .given .1) (c
-    .refused3 .ensures)
-
-array-share-prefix-m : tie.Need-array-share-prefix-m
-array-share-prefix-m c =
-    message-inside (c .before .before .before .before .write-message .ensures) (c .before .n .given .1)
-
-slice-aggregate-must-fit : tie.Need-slice-aggregate-must-fit
-slice-aggregate-must-fit c =
-    part-length (c .before .before .before .before .before .write-message .last .0) (c .before .before .n .given .0 .0) (message-inside (c .before
-    .before .before .before .before .write-message .ensures) (c .before .before .n .given .1))
-
-request-type-requires : tie.Need-request-type-requires
-request-type-requires c κs = search needs
-
-must-fit-requires : tie.Need-must-fit-requires
-must-fit-requires c κs = search needs
+returns-3 c = search (outside-laws, message-laws, needs) depth 12
 
 refused-requires-4 : tie.Need-refused-requires-4
 refused-requires-4 c κs = search needs
@@ -80,37 +65,13 @@ same-length-2 : tie.Need-same-length-2
 same-length-2 c = search needs
 
 returns-4 : tie.Need-returns-4
-returns-4 c =
-    let a = c .before .before .before .before .before .before .before .before .before .before .before .before .before .before .before .before .before
-    .args in
-    outside-misfit (a .file .now) (a .state .now) (a .slot) (a .i) (a .o) (a .e) (a .to) (meaning (a .after)) (a .out .now) (c .before .before .before
-    .before .before .before .before .before .before .before .before .before .if2 .left) (c .before .before .before .before .before .before .before
-    .before .before .write-message .ensures) (c .before .before .before .before .before .before .n .given .1) _ refl (c .before .before .before
-    .request-type .ensures) (c .before .before .must-fit .ensures) (c .before .if3 .taken) (c .refused4 .ensures)
-
-refused-requires-5 : tie.Need-refused-requires-5
-refused-requires-5 c κs = search needs
-
-same-length-3 : tie.Need-same-length-3
-same-length-3 c = search needs
-
-returns-5 : tie.Need-returns-5
-returns-5 c =
-    let a = c .before .before .before .before .before .before .before .before .before .before .before .before .before .before .before .before .before
-    .before .args in
-    outside-long (a .file .now) (a .state .now) (a .slot) (a .i) (a .o) (a .e) (a .to) (meaning (a .after)) (a .out .now) (c .before .before .before
-    .before .before .before .before .before .before .before .before .before .before .if2 .left) (c .before .before .before .before .before .before
-    .before .before .before .before .write-message .ensures) (c .before .before .before .before .before .before .before .n .given .1) _ refl (c .before
-    .before .before .before .request-type .ensures) (c .before .before .before .must-fit .ensures) (c .before .before .if3 .left) (part-length (c
-    .before .before .before .before .before .before .before .before .before .before .write-message .last .0) (c .before .before .before .before .before
-    .before .before .n .given .0 .0) (message-inside (c .before .before .before .before .before .before .before .before .before .before .write-message
-    .ensures) (c .before .before .before .before .before .before .before .n .given .1))) (c .before .if4 .taken)
+returns-4 c = search (outside-laws, message-laws, needs) depth 12
 
 put-row-requires : tie.Need-put-row-requires
 put-row-requires c κs = search needs
 
 array-share-prefix-m-2 : tie.Need-array-share-prefix-m-2
-array-share-prefix-m-2 c = search needs
+array-share-prefix-m-2 c = search (message-laws, needs) depth 12
 
 slice-aggregate-append : tie.Need-slice-aggregate-append
 slice-aggregate-append c =
@@ -139,14 +100,26 @@ append-requires c κs =
 done-requires : tie.Need-done-requires
 done-requires c κs = search needs
 
+enum-told : tie.Need-enum-told
+enum-told c = search needs
+
+refused-requires-5 : tie.Need-refused-requires-5
+refused-requires-5 c κs = search needs
+
+enum-told-2 : tie.Need-enum-told-2
+enum-told-2 c = search needs
+
+refused-requires-6 : tie.Need-refused-requires-6
+refused-requires-6 c κs = search needs
+
+same-length-3 : tie.Need-same-length-3
+same-length-3 c = search needs
+
 same-length-4 : tie.Need-same-length-4
 same-length-4 c = search needs
 
-same-length-5 : tie.Need-same-length-5
-same-length-5 c = search needs
-
-returns-6 : tie.Need-returns-6
-returns-6 c =
+returns-5 : tie.Need-returns-5
+returns-5 c =
     let a = c .before .before .before .before .before .before .before .before .before .before .before .before .before .before .before .before .before
     .before .before .before .before .before .before .before .before .before .before .args in
     outside-done (a .file .now) (a .state .now) (a .slot) (a .i) (a .o) (a .e) (a .to) (meaning (a .after)) (a .out .now) (c .before .before .before
@@ -165,6 +138,18 @@ returns-6 c =
     .1) (c .before .before .before .before .before .before .before .before .put-row .ensures) (c .before .before .before .append .ensures) (c .done
     .ensures)
 
+same-length-5 : tie.Need-same-length-5
+same-length-5 c = search needs
+
+returns-6 : tie.Need-returns-6
+returns-6 c = search (outside-laws, message-laws, needs) depth 12
+
+same-length-6 : tie.Need-same-length-6
+same-length-6 c = search needs
+
+returns-7 : tie.Need-returns-7
+returns-7 c = search (outside-laws, message-laws, needs) depth 12
+
 pub send-outside-spec : {M : Type 1} → statement M
 send-outside-spec =
     tie.close
@@ -176,25 +161,29 @@ send-outside-spec =
     slice-aggregate-write-message
     write-message-requires
     enum-known-n
-    enum-told
-    refused-requires-3
-    same-length
-    returns-3
     array-share-prefix-m
     slice-aggregate-must-fit
     request-type-requires
     must-fit-requires
+    refused-requires-3
+    same-length
+    returns-3
     refused-requires-4
     same-length-2
     returns-4
-    refused-requires-5
-    same-length-3
-    returns-5
     put-row-requires
     array-share-prefix-m-2
     slice-aggregate-append
     append-requires
     done-requires
+    enum-told
+    refused-requires-5
+    enum-told-2
+    refused-requires-6
+    same-length-3
     same-length-4
+    returns-5
     same-length-5
-    returns-6)
+    returns-6
+    same-length-6
+    returns-7)

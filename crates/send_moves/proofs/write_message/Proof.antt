@@ -1,4 +1,4 @@
-use Rattle.send_moves.proofs.MakingLaws.{message-stuck, message-written}
+use Rattle.send_moves.proofs.MakingLaws.{message-written}
 use borrow.Author.Needs.{needs}
 use Rattle.send_moves.proofs.write_message.Statement.{statement}
 use Rattle.send_moves.proofs.write_message.Tie as tie
@@ -21,28 +21,9 @@ same-length : tie.Need-same-length
 same-length c = search needs
 
 returns : tie.Need-returns
-returns c =
-    let a = c .before .before .before .before .before .before .before .before .before .before .args in
-    message-stuck (a .file .now) (a .state .now) (a .slot) (a .e) (c .before .before .before .before .before .before .tree-of .ensures) (c .before
-    .before .before .before .evaluate .ensures) (c .before .before .before .write-value .ensures) (c .if1 .taken)
-
-same-length-2 : tie.Need-same-length-2
-same-length-2 c = search needs
-
-returns-2 : tie.Need-returns-2
-returns-2 c =
-    let a = c .before .before .before .before .before .before .before .before .before .before .args in
-    message-written (a .file .now) (a .state .now) (a .slot) (a .e) (c .before .before .before .before .before .before .tree-of .ensures) (c .before
-    .before .before .before .evaluate .ensures) (c .before .before .before .write-value .ensures) (c .if1 .left) (search needs)
+returns c = search (message-written, needs) depth 12
 
 pub write-message-spec : {M : Type 1} → statement M
 write-message-spec =
     tie.close
-    (tie.spec
-    tree-of-requires
-    evaluate-requires
-    write-value-requires
-    same-length
-    returns
-    same-length-2
-    returns-2)
+    (tie.spec tree-of-requires evaluate-requires write-value-requires same-length returns)

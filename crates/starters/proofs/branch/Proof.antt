@@ -7,19 +7,10 @@ use Rattle.starters.proofs.branch.Reads as reads
 use Rattle.starters.proofs.branch.Lts as lts
 use Rattle.behaviours.proofs.sequence.Reads as sequence-reads
 use Rattle.environments.proofs.empty.Reads as empty-reads
-use Rattle.wire.proofs.u16_at.Reads as u16-at-reads
+use Rattle.rows.proofs.branch_at.Reads as branch-at-reads
 
-add-u16-at : tie.Need-add-u16-at
-add-u16-at c = search needs
-
-u16-at-requires : tie.Need-u16-at-requires
-u16-at-requires c κs = search needs
-
-add-u16-at-2 : tie.Need-add-u16-at-2
-add-u16-at-2 c = search needs
-
-u16-at-requires-2 : tie.Need-u16-at-requires-2
-u16-at-requires-2 c κs = search needs
+branch-at-requires : tie.Need-branch-at-requires
+branch-at-requires c κs = search needs
 
 empty-requires : tie.Need-empty-requires
 empty-requires c κs = search needs
@@ -31,13 +22,4 @@ returns : tie.Need-returns
 returns c = search branch-laws depth 12
 
 pub branch-spec : {M : Type 1} → statement M
-branch-spec =
-    tie.close
-    (tie.spec
-    add-u16-at
-    u16-at-requires
-    add-u16-at-2
-    u16-at-requires-2
-    empty-requires
-    sequence-requires
-    returns)
+branch-spec = tie.close (tie.spec branch-at-requires empty-requires sequence-requires returns)

@@ -6,43 +6,44 @@ use Rattle.starters.proofs.check_starter.Tie as tie
 use Rattle.starters.proofs.check_starter.Reads as reads
 use Rattle.starters.proofs.check_starter.Lts as lts
 use Rattle.environments.proofs.empty.Reads as empty-reads
+use Rattle.environments.proofs.pass.Reads as pass-reads
 use Rattle.environments.proofs.refuse.Reads as refuse-reads
 use Rattle.layout.proofs.behaviour_at.Reads as behaviour-at-reads
 use Rattle.layout.proofs.behaviour_count.Reads as behaviour-count-reads
+use Rattle.rows.proofs.behaviour_row.Reads as behaviour-row-reads
 use Rattle.starters.proofs.each.Reads as each-reads
 use Rattle.starters.proofs.gather.Reads as gather-reads
 use Rattle.starters.proofs.join.Reads as join-reads
-use Rattle.wire.proofs.u16_at.Reads as u16-at-reads
 
 behaviour-count-requires : tie.Need-behaviour-count-requires
 behaviour-count-requires c κs = search needs
 
-behaviour-at-requires : tie.Need-behaviour-at-requires
-behaviour-at-requires c κs = search needs
+behaviour-row-requires : tie.Need-behaviour-row-requires
+behaviour-row-requires c κs = search needs
 
-add-u16-at : tie.Need-add-u16-at
-add-u16-at c = search needs
-
-u16-at-requires : tie.Need-u16-at-requires
-u16-at-requires c κs = search needs
-
-add-u16-at-2 : tie.Need-add-u16-at-2
-add-u16-at-2 c = search needs
-
-u16-at-requires-2 : tie.Need-u16-at-requires-2
-u16-at-requires-2 c κs = search needs
-
-behaviour-at-requires-2 : tie.Need-behaviour-at-requires-2
-behaviour-at-requires-2 c κs = search needs
+enum-known-first : tie.Need-enum-known-first
+enum-known-first c = search needs
 
 empty-requires : tie.Need-empty-requires
 empty-requires c κs = search needs
 
-gather-requires : tie.Need-gather-requires
-gather-requires c κs = search needs
+pass-requires : tie.Need-pass-requires
+pass-requires c κs = search needs
 
 returns : tie.Need-returns
 returns c = search start-laws depth 12
+
+behaviour-at-requires : tie.Need-behaviour-at-requires
+behaviour-at-requires c κs = search needs
+
+empty-requires-2 : tie.Need-empty-requires-2
+empty-requires-2 c κs = search needs
+
+gather-requires : tie.Need-gather-requires
+gather-requires c κs = search needs
+
+returns-2 : tie.Need-returns-2
+returns-2 c = search start-laws depth 12
 
 each-requires : tie.Need-each-requires
 each-requires c κs = search needs
@@ -59,35 +60,35 @@ enum-told c = search needs
 join-requires : tie.Need-join-requires
 join-requires c κs = search needs
 
-returns-2 : tie.Need-returns-2
-returns-2 c = search start-laws depth 12
-
 returns-3 : tie.Need-returns-3
-returns-3 c =
+returns-3 c = search start-laws depth 12
+
+returns-4 : tie.Need-returns-4
+returns-4 c =
     let tried = c .before .before .before in
     let at = tried .before .before .before .before in
-    let row = at .before .before .before in
-    starts-joined _ _ _ (row .before .behaviour-count .ensures) (row .behaviour-at .ensures .0) (at .before .before .u16-at .ensures) (at .before .u16-at2 .ensures)
-    (at .behaviour-at2 .ensures .0) (tried .each .ensures) (search (c .before .enum-told .given)) (c .join .ensures)
+    let row = at .before .before .before .before in
+    starts-joined _ _ _ (row .before .behaviour-count .ensures) (row .behaviour-row .ensures) (at .before .before .first .given .1) (at .behaviour-at .ensures .0)
+    (tried .each .ensures) (search (c .before .enum-told .given)) (c .join .ensures)
 
 pub check-starter-spec : {M : Type 1} → statement M
 check-starter-spec =
     tie.close
     (tie.spec
     behaviour-count-requires
-    behaviour-at-requires
-    add-u16-at
-    u16-at-requires
-    add-u16-at-2
-    u16-at-requires-2
-    behaviour-at-requires-2
+    behaviour-row-requires
+    enum-known-first
     empty-requires
-    gather-requires
+    pass-requires
     returns
+    behaviour-at-requires
+    empty-requires-2
+    gather-requires
+    returns-2
     each-requires
     enum-known-why
     refuse-requires
     enum-told
     join-requires
-    returns-2
-    returns-3)
+    returns-3
+    returns-4)

@@ -6,7 +6,6 @@ use Rattle.state_form.proofs.head_form.Reads as reads
 use Rattle.state_form.proofs.head_form.Lts as lts
 use Rattle.layout.proofs.both.Reads as both-reads
 use Rattle.state_form.proofs.all_zero.Reads as all-zero-reads
-use Rattle.state_form.proofs.tree_form.Reads as tree-form-reads
 use Rattle.wire.proofs.byte_at.Reads as byte-at-reads
 
 byte-at-requires : tie.Need-byte-at-requires
@@ -27,14 +26,8 @@ add-all-zero c = search needs
 all-zero-requires : tie.Need-all-zero-requires
 all-zero-requires c κs = search needs
 
-tree-form-requires : tie.Need-tree-form-requires
-tree-form-requires c κs = search needs
-
 both-requires-2 : tie.Need-both-requires-2
 both-requires-2 c κs = search needs
-
-both-requires-3 : tie.Need-both-requires-3
-both-requires-3 c κs = search needs
 
 returns : tie.Need-returns
 returns c = search head-laws depth 12
@@ -49,7 +42,5 @@ head-form-spec =
     both-requires
     add-all-zero
     all-zero-requires
-    tree-form-requires
     both-requires-2
-    both-requires-3
     returns)

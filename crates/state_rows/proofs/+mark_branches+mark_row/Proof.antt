@@ -13,9 +13,9 @@ use Rattle.state_rows.proofs.mark_row.Kinds as mark-row-kinds
 use Rattle.state_rows.proofs.+mark_branches+mark_row.Lts-mark_row as mark-row-lts
 use Rattle.layout.proofs.start.Reads as start-reads
 use Rattle.row_parts.proofs.subs_of.Reads as subs-of-reads
+use Rattle.rows.proofs.branch_at.Reads as branch-at-reads
 use Rattle.state_rows.proofs.mark.Reads as mark-reads
 use Rattle.wire.proofs.index.Reads as index-reads
-use Rattle.wire.proofs.u16_at.Reads as u16-at-reads
 use Rattle.state_rows.proofs.+mark_branches+mark_row.{statement}
 use Rattle.state_rows.proofs.+mark_branches+mark_row.Tie.{close}
 
@@ -44,52 +44,43 @@ abbrev mark-row-below : ℕ → In 2 mark-row-kinds.ps
 mark-row-below t =
     and 2 mark-row-kinds.ps (falls 2 mark-row-kinds.ps _<_ μ-mark-row t) mark-row.Pre
 
-mark-branches-mark-requires : (t : ℕ) → mark-branches-lts.Need-mark-requires (mark-reads.Asked, mark-reads.Learnt, start-reads.Asked, start-reads.Learnt, u16-at-reads.Asked, u16-at-reads.Learnt, mark-row-below t, mark-row.Post, mark-branches-below t, mark-branches.Post) (mark-branches-at t) mark-branches.Post
+mark-branches-mark-requires : (t : ℕ) → mark-branches-lts.Need-mark-requires (mark-reads.Asked, mark-reads.Learnt, start-reads.Asked, start-reads.Learnt, branch-at-reads.Asked, branch-at-reads.Learnt, mark-row-below t, mark-row.Post, mark-branches-below t, mark-branches.Post) (mark-branches-at t) mark-branches.Post
 mark-branches-mark-requires t c κs = search needs
 
-mark-branches-returns : (t : ℕ) → mark-branches-lts.Need-returns (mark-reads.Asked, mark-reads.Learnt, start-reads.Asked, start-reads.Learnt, u16-at-reads.Asked, u16-at-reads.Learnt, mark-row-below t, mark-row.Post, mark-branches-below t, mark-branches.Post) (mark-branches-at t) mark-branches.Post
+mark-branches-returns : (t : ℕ) → mark-branches-lts.Need-returns (mark-reads.Asked, mark-reads.Learnt, start-reads.Asked, start-reads.Learnt, branch-at-reads.Asked, branch-at-reads.Learnt, mark-row-below t, mark-row.Post, mark-branches-below t, mark-branches.Post) (mark-branches-at t) mark-branches.Post
 mark-branches-returns t c = search branch-laws depth 12
 
-mark-branches-start-requires : (t : ℕ) → mark-branches-lts.Need-start-requires (mark-reads.Asked, mark-reads.Learnt, start-reads.Asked, start-reads.Learnt, u16-at-reads.Asked, u16-at-reads.Learnt, mark-row-below t, mark-row.Post, mark-branches-below t, mark-branches.Post) (mark-branches-at t) mark-branches.Post
+mark-branches-start-requires : (t : ℕ) → mark-branches-lts.Need-start-requires (mark-reads.Asked, mark-reads.Learnt, start-reads.Asked, start-reads.Learnt, branch-at-reads.Asked, branch-at-reads.Learnt, mark-row-below t, mark-row.Post, mark-branches-below t, mark-branches.Post) (mark-branches-at t) mark-branches.Post
 mark-branches-start-requires t c κs = search needs
 
-mark-branches-mul-at : (t : ℕ) → mark-branches-lts.Need-mul-at (mark-reads.Asked, mark-reads.Learnt, start-reads.Asked, start-reads.Learnt, u16-at-reads.Asked, u16-at-reads.Learnt, mark-row-below t, mark-row.Post, mark-branches-below t, mark-branches.Post) (mark-branches-at t) mark-branches.Post
-mark-branches-mul-at t c = search needs
+mark-branches-mul-branch-at : (t : ℕ) → mark-branches-lts.Need-mul-branch-at (mark-reads.Asked, mark-reads.Learnt, start-reads.Asked, start-reads.Learnt, branch-at-reads.Asked, branch-at-reads.Learnt, mark-row-below t, mark-row.Post, mark-branches-below t, mark-branches.Post) (mark-branches-at t) mark-branches.Post
+mark-branches-mul-branch-at t c = search needs
 
-mark-branches-add-at : (t : ℕ) → mark-branches-lts.Need-add-at (mark-reads.Asked, mark-reads.Learnt, start-reads.Asked, start-reads.Learnt, u16-at-reads.Asked, u16-at-reads.Learnt, mark-row-below t, mark-row.Post, mark-branches-below t, mark-branches.Post) (mark-branches-at t) mark-branches.Post
-mark-branches-add-at t c = search needs
+mark-branches-add-branch-at : (t : ℕ) → mark-branches-lts.Need-add-branch-at (mark-reads.Asked, mark-reads.Learnt, start-reads.Asked, start-reads.Learnt, branch-at-reads.Asked, branch-at-reads.Learnt, mark-row-below t, mark-row.Post, mark-branches-below t, mark-branches.Post) (mark-branches-at t) mark-branches.Post
+mark-branches-add-branch-at t c = search needs
 
-mark-branches-add-u16-at : (t : ℕ) → mark-branches-lts.Need-add-u16-at (mark-reads.Asked, mark-reads.Learnt, start-reads.Asked, start-reads.Learnt, u16-at-reads.Asked, u16-at-reads.Learnt, mark-row-below t, mark-row.Post, mark-branches-below t, mark-branches.Post) (mark-branches-at t) mark-branches.Post
-mark-branches-add-u16-at t c = search needs
+mark-branches-branch-at-requires : (t : ℕ) → mark-branches-lts.Need-branch-at-requires (mark-reads.Asked, mark-reads.Learnt, start-reads.Asked, start-reads.Learnt, branch-at-reads.Asked, branch-at-reads.Learnt, mark-row-below t, mark-row.Post, mark-branches-below t, mark-branches.Post) (mark-branches-at t) mark-branches.Post
+mark-branches-branch-at-requires t c κs = search needs
 
-mark-branches-u16-at-requires : (t : ℕ) → mark-branches-lts.Need-u16-at-requires (mark-reads.Asked, mark-reads.Learnt, start-reads.Asked, start-reads.Learnt, u16-at-reads.Asked, u16-at-reads.Learnt, mark-row-below t, mark-row.Post, mark-branches-below t, mark-branches.Post) (mark-branches-at t) mark-branches.Post
-mark-branches-u16-at-requires t c κs = search needs
-
-mark-branches-mark-row-requires : (t : ℕ) → mark-branches-lts.Need-mark-row-requires (mark-reads.Asked, mark-reads.Learnt, start-reads.Asked, start-reads.Learnt, u16-at-reads.Asked, u16-at-reads.Learnt, mark-row-below t, mark-row.Post, mark-branches-below t, mark-branches.Post) (mark-branches-at t) mark-branches.Post
+mark-branches-mark-row-requires : (t : ℕ) → mark-branches-lts.Need-mark-row-requires (mark-reads.Asked, mark-reads.Learnt, start-reads.Asked, start-reads.Learnt, branch-at-reads.Asked, branch-at-reads.Learnt, mark-row-below t, mark-row.Post, mark-branches-below t, mark-branches.Post) (mark-branches-at t) mark-branches.Post
 mark-branches-mark-row-requires t c κs = (omega arith, search needs)
 
-mark-branches-add-u16-at-2 : (t : ℕ) → mark-branches-lts.Need-add-u16-at-2 (mark-reads.Asked, mark-reads.Learnt, start-reads.Asked, start-reads.Learnt, u16-at-reads.Asked, u16-at-reads.Learnt, mark-row-below t, mark-row.Post, mark-branches-below t, mark-branches.Post) (mark-branches-at t) mark-branches.Post
-mark-branches-add-u16-at-2 t c = search needs
-
-mark-branches-u16-at-requires-2 : (t : ℕ) → mark-branches-lts.Need-u16-at-requires-2 (mark-reads.Asked, mark-reads.Learnt, start-reads.Asked, start-reads.Learnt, u16-at-reads.Asked, u16-at-reads.Learnt, mark-row-below t, mark-row.Post, mark-branches-below t, mark-branches.Post) (mark-branches-at t) mark-branches.Post
-mark-branches-u16-at-requires-2 t c κs = search needs
-
-mark-branches-mark-row-requires-2 : (t : ℕ) → mark-branches-lts.Need-mark-row-requires-2 (mark-reads.Asked, mark-reads.Learnt, start-reads.Asked, start-reads.Learnt, u16-at-reads.Asked, u16-at-reads.Learnt, mark-row-below t, mark-row.Post, mark-branches-below t, mark-branches.Post) (mark-branches-at t) mark-branches.Post
+mark-branches-mark-row-requires-2 : (t : ℕ) → mark-branches-lts.Need-mark-row-requires-2 (mark-reads.Asked, mark-reads.Learnt, start-reads.Asked, start-reads.Learnt, branch-at-reads.Asked, branch-at-reads.Learnt, mark-row-below t, mark-row.Post, mark-branches-below t, mark-branches.Post) (mark-branches-at t) mark-branches.Post
 mark-branches-mark-row-requires-2 t c κs = (omega arith, search needs)
 
-mark-branches-returns-2 : (t : ℕ) → mark-branches-lts.Need-returns-2 (mark-reads.Asked, mark-reads.Learnt, start-reads.Asked, start-reads.Learnt, u16-at-reads.Asked, u16-at-reads.Learnt, mark-row-below t, mark-row.Post, mark-branches-below t, mark-branches.Post) (mark-branches-at t) mark-branches.Post
+mark-branches-returns-2 : (t : ℕ) → mark-branches-lts.Need-returns-2 (mark-reads.Asked, mark-reads.Learnt, start-reads.Asked, start-reads.Learnt, branch-at-reads.Asked, branch-at-reads.Learnt, mark-row-below t, mark-row.Post, mark-branches-below t, mark-branches.Post) (mark-branches-at t) mark-branches.Post
 mark-branches-returns-2 t c = search branch-laws depth 12
 
-mark-branches-add-mark-branches : (t : ℕ) → mark-branches-lts.Need-add-mark-branches (mark-reads.Asked, mark-reads.Learnt, start-reads.Asked, start-reads.Learnt, u16-at-reads.Asked, u16-at-reads.Learnt, mark-row-below t, mark-row.Post, mark-branches-below t, mark-branches.Post) (mark-branches-at t) mark-branches.Post
+mark-branches-add-mark-branches : (t : ℕ) → mark-branches-lts.Need-add-mark-branches (mark-reads.Asked, mark-reads.Learnt, start-reads.Asked, start-reads.Learnt, branch-at-reads.Asked, branch-at-reads.Learnt, mark-row-below t, mark-row.Post, mark-branches-below t, mark-branches.Post) (mark-branches-at t) mark-branches.Post
 mark-branches-add-mark-branches t c = search needs
 
-mark-branches-sub-mark-branches : (t : ℕ) → mark-branches-lts.Need-sub-mark-branches (mark-reads.Asked, mark-reads.Learnt, start-reads.Asked, start-reads.Learnt, u16-at-reads.Asked, u16-at-reads.Learnt, mark-row-below t, mark-row.Post, mark-branches-below t, mark-branches.Post) (mark-branches-at t) mark-branches.Post
+mark-branches-sub-mark-branches : (t : ℕ) → mark-branches-lts.Need-sub-mark-branches (mark-reads.Asked, mark-reads.Learnt, start-reads.Asked, start-reads.Learnt, branch-at-reads.Asked, branch-at-reads.Learnt, mark-row-below t, mark-row.Post, mark-branches-below t, mark-branches.Post) (mark-branches-at t) mark-branches.Post
 mark-branches-sub-mark-branches t c = search needs
 
-mark-branches-mark-branches-requires : (t : ℕ) → mark-branches-lts.Need-mark-branches-requires (mark-reads.Asked, mark-reads.Learnt, start-reads.Asked, start-reads.Learnt, u16-at-reads.Asked, u16-at-reads.Learnt, mark-row-below t, mark-row.Post, mark-branches-below t, mark-branches.Post) (mark-branches-at t) mark-branches.Post
+mark-branches-mark-branches-requires : (t : ℕ) → mark-branches-lts.Need-mark-branches-requires (mark-reads.Asked, mark-reads.Learnt, start-reads.Asked, start-reads.Learnt, branch-at-reads.Asked, branch-at-reads.Learnt, mark-row-below t, mark-row.Post, mark-branches-below t, mark-branches.Post) (mark-branches-at t) mark-branches.Post
 mark-branches-mark-branches-requires t c κs = (omega arith, search needs)
 
-mark-branches-returns-3 : (t : ℕ) → mark-branches-lts.Need-returns-3 (mark-reads.Asked, mark-reads.Learnt, start-reads.Asked, start-reads.Learnt, u16-at-reads.Asked, u16-at-reads.Learnt, mark-row-below t, mark-row.Post, mark-branches-below t, mark-branches.Post) (mark-branches-at t) mark-branches.Post
+mark-branches-returns-3 : (t : ℕ) → mark-branches-lts.Need-returns-3 (mark-reads.Asked, mark-reads.Learnt, start-reads.Asked, start-reads.Learnt, branch-at-reads.Asked, branch-at-reads.Learnt, mark-row-below t, mark-row.Post, mark-branches-below t, mark-branches.Post) (mark-branches-at t) mark-branches.Post
 mark-branches-returns-3 t c = search branch-laws depth 12
 
 mark-row-index-requires : (t : ℕ) → mark-row-lts.Need-index-requires (index-reads.Asked, index-reads.Learnt, mark-reads.Asked, mark-reads.Learnt, subs-of-reads.Asked, subs-of-reads.Learnt, mark-row-below t, mark-row.Post, mark-branches-below t, mark-branches.Post) (mark-row-at t) mark-row.Post
@@ -156,19 +147,16 @@ mark-row-returns-5 : (t : ℕ) → mark-row-lts.Need-returns-5 (index-reads.Aske
 mark-row-returns-5 t c = search row-laws depth 12
 
 pub +mark-branches+mark-row-spec : {M : Type 1} → statement M
-+mark-branches+mark-row-spec = close μ-mark-branches μ-mark-row (λ t. mark-branches-lts.spec (mark-reads.Asked, mark-reads.Learnt, start-reads.Asked, start-reads.Learnt, u16-at-reads.Asked, u16-at-reads.Learnt, mark-row-below t, mark-row.Post, mark-branches-below t, mark-branches.Post)
++mark-branches+mark-row-spec = close μ-mark-branches μ-mark-row (λ t. mark-branches-lts.spec (mark-reads.Asked, mark-reads.Learnt, start-reads.Asked, start-reads.Learnt, branch-at-reads.Asked, branch-at-reads.Learnt, mark-row-below t, mark-row.Post, mark-branches-below t, mark-branches.Post)
     (mark-branches-at t)
     mark-branches.Post
     (mark-branches-mark-requires t)
     (mark-branches-returns t)
     (mark-branches-start-requires t)
-    (mark-branches-mul-at t)
-    (mark-branches-add-at t)
-    (mark-branches-add-u16-at t)
-    (mark-branches-u16-at-requires t)
+    (mark-branches-mul-branch-at t)
+    (mark-branches-add-branch-at t)
+    (mark-branches-branch-at-requires t)
     (mark-branches-mark-row-requires t)
-    (mark-branches-add-u16-at-2 t)
-    (mark-branches-u16-at-requires-2 t)
     (mark-branches-mark-row-requires-2 t)
     (mark-branches-returns-2 t)
     (mark-branches-add-mark-branches t)

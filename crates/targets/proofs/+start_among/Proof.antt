@@ -7,8 +7,8 @@ use borrow.Fn.PlainCycle.{Measures, is, falls, and}
 use Rattle.targets.proofs.start_among.Reads as start-among
 use Rattle.targets.proofs.start_among.Kinds as start-among-kinds
 use Rattle.targets.proofs.+start_among.Lts-start_among as start-among-lts
+use Rattle.rows.proofs.branch_at.Reads as branch-at-reads
 use Rattle.targets.proofs.names_input.Reads as names-input-reads
-use Rattle.wire.proofs.u16_at.Reads as u16-at-reads
 use Rattle.targets.proofs.+start_among.{statement}
 use Rattle.targets.proofs.+start_among.Tie.{close}
 
@@ -24,8 +24,8 @@ start-among-below t =
     and 1 start-among-kinds.ps (falls 1 start-among-kinds.ps _<_ μ-start-among t) start-among.Pre
 
 start-among-returns : (t : ℕ) → start-among-lts.Need-returns (
-  u16-at-reads.Asked,
-  u16-at-reads.Learnt,
+  branch-at-reads.Asked,
+  branch-at-reads.Learnt,
   names-input-reads.Asked,
   names-input-reads.Learnt,
   start-among-below t,
@@ -33,29 +33,19 @@ start-among-returns : (t : ℕ) → start-among-lts.Need-returns (
 ) (start-among-at t) start-among.Post
 start-among-returns t c = search among-laws depth 12
 
-start-among-add-u16-at : (t : ℕ) → start-among-lts.Need-add-u16-at (
-  u16-at-reads.Asked,
-  u16-at-reads.Learnt,
+start-among-branch-at-requires : (t : ℕ) → start-among-lts.Need-branch-at-requires (
+  branch-at-reads.Asked,
+  branch-at-reads.Learnt,
   names-input-reads.Asked,
   names-input-reads.Learnt,
   start-among-below t,
   start-among.Post,
 ) (start-among-at t) start-among.Post
-start-among-add-u16-at t c = search needs
-
-start-among-u16-at-requires : (t : ℕ) → start-among-lts.Need-u16-at-requires (
-  u16-at-reads.Asked,
-  u16-at-reads.Learnt,
-  names-input-reads.Asked,
-  names-input-reads.Learnt,
-  start-among-below t,
-  start-among.Post,
-) (start-among-at t) start-among.Post
-start-among-u16-at-requires t c κs = search needs
+start-among-branch-at-requires t c κs = search needs
 
 start-among-names-input-requires : (t : ℕ) → start-among-lts.Need-names-input-requires (
-  u16-at-reads.Asked,
-  u16-at-reads.Learnt,
+  branch-at-reads.Asked,
+  branch-at-reads.Learnt,
   names-input-reads.Asked,
   names-input-reads.Learnt,
   start-among-below t,
@@ -64,8 +54,8 @@ start-among-names-input-requires : (t : ℕ) → start-among-lts.Need-names-inpu
 start-among-names-input-requires t c κs = search needs
 
 start-among-returns-2 : (t : ℕ) → start-among-lts.Need-returns-2 (
-  u16-at-reads.Asked,
-  u16-at-reads.Learnt,
+  branch-at-reads.Asked,
+  branch-at-reads.Learnt,
   names-input-reads.Asked,
   names-input-reads.Learnt,
   start-among-below t,
@@ -74,8 +64,8 @@ start-among-returns-2 : (t : ℕ) → start-among-lts.Need-returns-2 (
 start-among-returns-2 t c = search among-laws depth 12
 
 start-among-add-start-among : (t : ℕ) → start-among-lts.Need-add-start-among (
-  u16-at-reads.Asked,
-  u16-at-reads.Learnt,
+  branch-at-reads.Asked,
+  branch-at-reads.Learnt,
   names-input-reads.Asked,
   names-input-reads.Learnt,
   start-among-below t,
@@ -84,8 +74,8 @@ start-among-add-start-among : (t : ℕ) → start-among-lts.Need-add-start-among
 start-among-add-start-among t c = search needs
 
 start-among-add-start-among-2 : (t : ℕ) → start-among-lts.Need-add-start-among-2 (
-  u16-at-reads.Asked,
-  u16-at-reads.Learnt,
+  branch-at-reads.Asked,
+  branch-at-reads.Learnt,
   names-input-reads.Asked,
   names-input-reads.Learnt,
   start-among-below t,
@@ -94,8 +84,8 @@ start-among-add-start-among-2 : (t : ℕ) → start-among-lts.Need-add-start-amo
 start-among-add-start-among-2 t c = search needs
 
 start-among-sub-start-among : (t : ℕ) → start-among-lts.Need-sub-start-among (
-  u16-at-reads.Asked,
-  u16-at-reads.Learnt,
+  branch-at-reads.Asked,
+  branch-at-reads.Learnt,
   names-input-reads.Asked,
   names-input-reads.Learnt,
   start-among-below t,
@@ -104,8 +94,8 @@ start-among-sub-start-among : (t : ℕ) → start-among-lts.Need-sub-start-among
 start-among-sub-start-among t c = search needs
 
 start-among-start-among-requires : (t : ℕ) → start-among-lts.Need-start-among-requires (
-  u16-at-reads.Asked,
-  u16-at-reads.Learnt,
+  branch-at-reads.Asked,
+  branch-at-reads.Learnt,
   names-input-reads.Asked,
   names-input-reads.Learnt,
   start-among-below t,
@@ -114,8 +104,8 @@ start-among-start-among-requires : (t : ℕ) → start-among-lts.Need-start-amon
 start-among-start-among-requires t c κs = (omega arith, search needs)
 
 start-among-returns-3 : (t : ℕ) → start-among-lts.Need-returns-3 (
-  u16-at-reads.Asked,
-  u16-at-reads.Learnt,
+  branch-at-reads.Asked,
+  branch-at-reads.Learnt,
   names-input-reads.Asked,
   names-input-reads.Learnt,
   start-among-below t,
@@ -125,8 +115,8 @@ start-among-returns-3 t c = search among-laws depth 12
 
 pub +start-among-spec : {M : Type 1} → statement M
 +start-among-spec = close μ-start-among λ t. start-among-lts.spec (
-  u16-at-reads.Asked,
-  u16-at-reads.Learnt,
+  branch-at-reads.Asked,
+  branch-at-reads.Learnt,
   names-input-reads.Asked,
   names-input-reads.Learnt,
   start-among-below t,
@@ -135,8 +125,7 @@ pub +start-among-spec : {M : Type 1} → statement M
     (start-among-at t)
     start-among.Post
     (start-among-returns t)
-    (start-among-add-u16-at t)
-    (start-among-u16-at-requires t)
+    (start-among-branch-at-requires t)
     (start-among-names-input-requires t)
     (start-among-returns-2 t)
     (start-among-add-start-among t)

@@ -1,4 +1,4 @@
-use Rattle.targets.proofs.MeetingLaws.{named-laws}
+use Rattle.targets.proofs.NamedLaws.{named-laws}
 use native.Mathlib.Omega.{arith}
 use borrow.Author.Needs.{needs}
 use Rattle.targets.proofs.named.Statement.{statement}

@@ -1,15 +1,14 @@
 use Rattle.targets.proofs.TargetLaws.{permits-laws}
-use native.Mathlib.Omega.{arith}
 use borrow.Author.Needs.{needs}
 use Rattle.targets.proofs.permits_input.Statement.{statement}
 use Rattle.targets.proofs.permits_input.Tie as tie
 use Rattle.targets.proofs.permits_input.Reads as reads
 use Rattle.targets.proofs.permits_input.Lts as lts
 use Rattle.operations.proofs.permits.Reads as permits-reads
-use Rattle.rows.proofs.behaviour_row.Reads as behaviour-row-reads
+use Rattle.rows.proofs.input_of.Reads as input-of-reads
 
-behaviour-row-requires : tie.Need-behaviour-row-requires
-behaviour-row-requires c κs = search needs
+input-of-requires : tie.Need-input-of-requires
+input-of-requires c κs = search needs
 
 enum-known-o : tie.Need-enum-known-o
 enum-known-o c = search needs
@@ -22,6 +21,9 @@ enum-known-o-2 c = search needs
 
 permits-requires-2 : tie.Need-permits-requires-2
 permits-requires-2 c κs = search needs
+
+enum-told : tie.Need-enum-told
+enum-told c = search needs
 
 returns : tie.Need-returns
 returns c = search permits-laws depth 12
@@ -36,11 +38,12 @@ pub permits-input-spec : {M : Type 1} → statement M
 permits-input-spec =
     tie.close
     (tie.spec
-    behaviour-row-requires
+    input-of-requires
     enum-known-o
     permits-requires
     enum-known-o-2
     permits-requires-2
+    enum-told
     returns
     returns-2
     returns-3)

@@ -1,29 +1,16 @@
 use Rattle.targets.proofs.TargetLaws.{slot-laws}
-use native.Mathlib.Omega.{arith}
 use borrow.Author.Needs.{needs}
 use Rattle.targets.proofs.slot_target.Statement.{statement}
 use Rattle.targets.proofs.slot_target.Tie as tie
 use Rattle.targets.proofs.slot_target.Reads as reads
 use Rattle.targets.proofs.slot_target.Lts as lts
+use Rattle.state.proofs.slot_start.Reads as slot-start-reads
 use Rattle.targets.proofs.free_target.Reads as free-target-reads
 use Rattle.targets.proofs.live_target.Reads as live-target-reads
 use Rattle.wire.proofs.byte_at.Reads as byte-at-reads
-use Rattle.wire.proofs.index.Reads as index-reads
 
-index-requires : tie.Need-index-requires
-index-requires c κs = search needs
-
-mul-at : tie.Need-mul-at
-mul-at c = search needs
-
-index-requires-2 : tie.Need-index-requires-2
-index-requires-2 c κs = search needs
-
-add-at : tie.Need-add-at
-add-at c = search needs
-
-mul-at-2 : tie.Need-mul-at-2
-mul-at-2 c = search needs
+slot-start-requires : tie.Need-slot-start-requires
+slot-start-requires c κs = search needs
 
 byte-at-requires : tie.Need-byte-at-requires
 byte-at-requires c κs = search needs
@@ -44,11 +31,7 @@ pub slot-target-spec : {M : Type 1} → statement M
 slot-target-spec =
     tie.close
     (tie.spec
-    index-requires
-    mul-at
-    index-requires-2
-    add-at
-    mul-at-2
+    slot-start-requires
     byte-at-requires
     free-target-requires
     returns

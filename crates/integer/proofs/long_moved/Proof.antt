@@ -1,0 +1,19 @@
+use mir.Syntax.{w64}
+use Rattle.integer.proofs.Parts.{moved-negative, moved-natural}
+use Rattle.integer.proofs.long_moved.Statement.{statement}
+use Rattle.integer.proofs.long_moved.Tie as tie
+
+sub-result : tie.Need-sub-result
+sub-result c = moved-negative w64 (c .before .args .x) (c .before .fits .x) (c .if1 .taken) .0
+
+add-result : tie.Need-add-result
+add-result c = moved-natural w64 (c .before .args .x) (c .before .fits .x) (c .if1 .left) .0
+
+returns : tie.Need-returns
+returns c = moved-negative w64 (c .before .args .x) (c .before .fits .x) (c .if1 .taken) .1
+
+returns-2 : tie.Need-returns-2
+returns-2 c = moved-natural w64 (c .before .args .x) (c .before .fits .x) (c .if1 .left) .1
+
+pub long-moved-spec : {M : Type 1} → statement M
+long-moved-spec = tie.close (tie.spec sub-result add-result returns returns-2)

@@ -1,0 +1,34 @@
+-- Property 3 at a call of the stepper. 01, Moves: "after it live sessions are well typed, no next move, on the same file and the state so
+-- left, gives 18, no send or reply gives 19, one to an outsider included, and a ready assign, if or while gives 0, or 1 for its out buffer."
+use mathlib.Core.Path.{_≡_}
+use mathlib.Core.List.{List, [], _∷_, _++_}
+use Prim.Native.Nat.{ℕ}
+use lib.Dec.{T, leb}
+use lib.ListN.{length}
+use Rattle.scalar.specs.Value.{pick}
+use Rattle.network.specs.Layout.{behaviourCount}
+use Rattle.network.specs.Decode.{networkOf}
+use Rattle.state.specs.Session.{State}
+use Rattle.state.specs.Shape.{Stands}
+use Rattle.moves.specs.Moves.{local}
+use Rattle.moves.specs.Fresh.{freshBytes}
+use Rattle.soundness.specs.Property3.{Ready, Turn, AllGiven, after, sendsOrReplies, AllWellTyped, AcceptedFile}
+
+-- The file is accepted, and the bytes s are those after the list l of moves from its fresh state.
+pub record FromFresh (file s : List ℕ) (l : List Turn) : Type 0 where
+  pub accepted : AcceptedFile file
+  pub given : AllGiven l
+  pub bytes : s ≡ after file (freshBytes file) l
+
+-- What is promised of a move t on such bytes s, whose number is n and which leaves the bytes `left`.
+pub record KeepsPromise (file s : List ℕ) (l : List Turn) (t : Turn) (n : ℕ) (left : List ℕ) : Type 0 where
+  pub never18 : n ≡ 18 → ⊥
+  pub never19 : T (sendsOrReplies (t .move)) → n ≡ 19 → ⊥
+  pub readyMoves : (G : State) → Stands (networkOf file) (behaviourCount file) s G → (service session row : ℕ) → t .move ≡ local service session row
+      → Ready (networkOf file) G service session row → n ≡ pick (leb 512 (length (t .out))) 0 1
+  pub leaves : left ≡ after file (freshBytes file) (l ++ (t ∷ []))
+  pub wellTyped : (G : State) → Stands (networkOf file) (behaviourCount file) left G → AllWellTyped file G
+
+-- Property 3 at a call: for every list of moves from fresh.
+abbrev pub SoundCall : List ℕ → List ℕ → Turn → ℕ → List ℕ → Type 0
+SoundCall file s t n left = (l : List Turn) → FromFresh file s l → KeepsPromise file s l t n left
