@@ -15,9 +15,9 @@ use row_parts::BinaryOperator;
 use row_parts::Part;
 use row_parts::UnaryOperator;
 use scalar::Computed;
-use scalar::Truth;
 use scalar::Operand;
 use scalar::Scalar;
+use scalar::Truth;
 
 // Where the value of an expression is: a tree at a place of the session's tree, or a value alone. Or a value read is missing, or an operand
 // is of the wrong kind.

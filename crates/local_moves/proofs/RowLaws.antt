@@ -2,9 +2,9 @@
 use mathlib.Core.Path.{_≡_, refl, sym, ap, subst, _∙_}
 use mathlib.Core.Bool.{Bool, true, false, not}
 use mathlib.Core.List.{List, [], _∷_}
-use Prim.Native.Nat.{ℕ, _+_, _*_, _≤_, _<_}
+use Prim.Native.Nat.{ℕ, _+_, _≤_, _<_}
 use native.Mathlib.Omega.{arith}
-use lib.ListN.{length, take}
+use lib.ListN.{length}
 use types.Run.{OneOf, miss}
 use denote.Enum.Declared.{tagOf}
 use Rattle.forest.specs.Forest.{Forest, tree}
@@ -40,7 +40,7 @@ use Rattle.state.specs.PartLaws.{replace-within}
 use Rattle.state.specs.ReadLaws.{slot-parts}
 use Rattle.state.specs.ChangeLaws.{change-rows}
 use Rattle.state.specs.KeepLaws.{reopen-past, made-tree, made-row, made-progress}
-use Rattle.moves.specs.Readiness.{isDone, Reached, reached, reach}
+use Rattle.moves.specs.Readiness.{isDone, Reached, reach}
 use Rattle.moves.specs.Evaluation.{leaf, evaluate}
 use Rattle.moves.specs.Moves.{Result, refused, moved, notAllowed, require, onTree, onBool, rootValue, voidValue, assigned, decided, repeated}
 use Rattle.moves.specs.Moves.{localAt, localReached, localMove}

@@ -4,9 +4,7 @@ use mathlib.Core.Path.{_≡_, refl, sym, _∙_, ap}
 use mathlib.Core.List.{List}
 use mathlib.Core.Bool.{Bool, true, false}
 use native.Mathlib.Omega.{arith}
-use lib.Dec.{eqb, ltb}
 use borrow.Author.Tests.{eq-eqb, ne-eqb, lt-ltb, le-ltb}
-use Rattle.scalar.specs.Value.{pick}
 use Rattle.network.specs.Layout.{behaviourAt}
 use Rattle.network.specs.Rows.{fieldA, fieldB}
 use Rattle.rows.specs.declared.BehaviourRow.{BehaviourRow}

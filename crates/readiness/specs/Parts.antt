@@ -1,6 +1,6 @@
 -- Of a B row and its progress: the rows that decide whether it is done, and the rows through which it is passed when reached. These are
 -- `isDone` and `reach` of moves for one row, on rows; the laws in proofs/ tie them.
-use mathlib.Core.Bool.{Bool, true, false}
+use mathlib.Core.Bool.{true, false}
 use mathlib.Core.List.{List}
 use Prim.Native.Nat.{ℕ, _+_, _-_}
 use lib.Dec.{eqb, ltb}

@@ -24,7 +24,7 @@ use Rattle.rows.specs.RowSyntax.{inputWith}
 use Rattle.row_parts.specs.Behaviours.{InputKeptBy}
 use Rattle.row_parts.specs.KindLaws.{input-is}
 use Rattle.state.specs.Places.{slotStart, entryStart}
-use Rattle.state.specs.Session.{Progress, undone, done, waits, received, taken, Progresses, advance, Queued, Session, withTree, withQueue, withProgress, live, State, setSlot}
+use Rattle.state.specs.Session.{Progress, undone, done, waits, received, taken, advance, Queued, Session, withTree, withQueue, withProgress, live, State, setSlot}
 use Rattle.state.specs.Bytes.{readEntry, readSession, slotBytes}
 use Rattle.state.specs.Shape.{isUndone, WellMade}
 use Rattle.moves.specs.Readiness.{reach}

@@ -1,35 +1,36 @@
 -- Laws of rows set to undone: one for each way out of the functions.
-use Prim.Native.Nat.{ℕ, zero, suc, _+_, _-_, _/_, _<_, _≤_}
+use Prim.Native.Nat.{ℕ, _+_, _-_, _/_, _<_, _≤_}
 use mathlib.Core.Path.{_≡_, refl, sym, _∙_, ap, subst}
 use mathlib.Core.List.{List}
 use mathlib.Core.Bool.{Bool, true, false, _&&_, _||_}
 use mathlib.Core.Logic.{inl, inr}
 use native.Mathlib.Omega.{arith}
 use native.Mathlib.Nat.{add-zero}
+use native.Mathlib.Numerals.{add-one}
 use native.Mathlib.Decide.{decLt}
 use lib.Dec.{eqb, leb, ltb}
 use lib.ListN.{length}
 use borrow.Author.Tests.{eq-eqb, ne-eqb, lt-ltb, le-ltb, le-leb, lt-leb}
-use Rattle.forest.specs.Compare.{Compare, lt, eq, gt, compare}
-use Rattle.wire.specs.Wire.{byteAt, u16At, withPart}
-use Rattle.wire.specs.WireLaws.{Agree, withPart-inside, withPart-outside, length-withPart}
+use Rattle.wire.specs.Wire.{byteAt, withPart}
+use Rattle.wire.specs.WireLaws.{withPart-inside, withPart-outside, length-withPart}
 use Rattle.scalar.specs.Value.{pick}
-use Rattle.syntax.specs.Rows.{hasRow, hasRowIn}
-use Rattle.network.specs.declared.BehaviourKind.{BehaviourKind}
+use Rattle.syntax.specs.Rows.{hasRow}
 use Rattle.network.specs.Layout.{behaviourCount, behaviourAt}
-use Rattle.network.specs.Rows.{fieldA, fieldB, fieldC, fieldD, kindAt}
-use Rattle.network.specs.Decode.{branchesFrom, behaviourFrom, behaviourTo, behaviourOf}
-use Rattle.network.specs.TestLaws.{one-less, or-false}
+use Rattle.network.specs.Rows.{fieldA, fieldB}
+use Rattle.network.specs.Decode.{behaviourTo, behaviourOf}
+use Rattle.network.specs.TestLaws.{or-false}
 use Rattle.rows.specs.declared.BranchRow.{BranchRow}
-use Rattle.rows.specs.Readers.{behaviourRowAs, behaviourRowOf, BranchAt}
+use Rattle.rows.specs.Readers.{BranchAt}
 use Rattle.row_parts.specs.declared.Subs.{Subs}
-use Rattle.row_parts.specs.Parts.{subsIn, subsOf}
+use Rattle.row_parts.specs.Parts.{subsOf}
+use Rattle.row_parts.specs.RowSets.{itselfRow, rowsTo, branchRows, oneBranchRows, subRows}
+use Rattle.row_parts.specs.RowSetLaws.{rows-by, rows-none, branches-none, branches-one, branches-more}
 use Rattle.state.specs.Places.{slotSize, rowSize, rowsPlace, keptPlace, rowStart}
 use Rattle.state.specs.Bytes.{zeros, progressBytes}
 use Rattle.state.specs.PartLaws.{length-zeros, byte-zeros}
 use Rattle.progress.specs.declared.Progress.the-variants.{Undone}
 use Rattle.progress.specs.Meaning.{meaning}
-use Rattle.reopening.specs.Reopening.{inRows, withUndone, isRow, behaviourRows, branchRows, subRows, rowsBelow, Clears, ClearsBranches}
+use Rattle.reopening.specs.Reopening.{inRows, withUndone, rowsBelow, Clears, ClearsBranches}
 use Rattle.reopening.specs.ReopeningLaws.{cleared-are, and-false}
 
 -- ---- one after another
@@ -71,8 +72,8 @@ clears-both {slot} {s} {t} {u} f g h c d e = record {
 
 -- ---- one row
 
-before-row : (r slot k : ℕ) → k < rowStart slot r → inRows (isRow r) slot k ≡ false
-unfolding inRows isRow
+before-row : (r slot k : ℕ) → k < rowStart slot r → inRows (itselfRow r) slot k ≡ false
+unfolding inRows itselfRow
 before-row r slot k l = by (decLt k (slot + rowsPlace))
   where
     by : Dec (k < slot + rowsPlace) → leb (slot + rowsPlace) k && (ltb k (slot + keptPlace) && eqb ((k - (slot + rowsPlace)) / rowSize) r) ≡ false
@@ -81,30 +82,30 @@ before-row r slot k l = by (decLt k (slot + rowsPlace))
         let e : (k - (slot + rowsPlace)) / rowSize ≡ r → ⊥ = λ q. omega arith in
         rw (ne-eqb ((k - (slot + rowsPlace)) / rowSize) r e, and-false (ltb k (slot + keptPlace)), and-false (leb (slot + rowsPlace) k)) refl
 
-after-row : (r slot k : ℕ) → rowStart slot r + rowSize ≤ k → inRows (isRow r) slot k ≡ false
-unfolding inRows isRow
+after-row : (r slot k : ℕ) → rowStart slot r + rowSize ≤ k → inRows (itselfRow r) slot k ≡ false
+unfolding inRows itselfRow
 after-row r slot k l =
     let e : (k - (slot + rowsPlace)) / rowSize ≡ r → ⊥ = λ q. omega arith in
     rw (ne-eqb ((k - (slot + rowsPlace)) / rowSize) r e, and-false (ltb k (slot + keptPlace)), and-false (leb (slot + rowsPlace) k)) refl
 
-inside-row : (r slot k : ℕ) → r < 256 → rowStart slot r ≤ k → k < rowStart slot r + rowSize → inRows (isRow r) slot k ≡ true
-unfolding inRows isRow
+inside-row : (r slot k : ℕ) → r < 256 → rowStart slot r ≤ k → k < rowStart slot r + rowSize → inRows (itselfRow r) slot k ≡ true
+unfolding inRows itselfRow
 inside-row r slot k h l m =
     let e : (k - (slot + rowsPlace)) / rowSize ≡ r = omega arith in
     rw (le-leb (slot + rowsPlace) k (omega arith), lt-ltb k (slot + keptPlace) (omega arith), eq-eqb ((k - (slot + rowsPlace)) / rowSize) r e) refl
 
-past-slot : (r slot k : ℕ) → slot + keptPlace ≤ k → inRows (isRow r) slot k ≡ false
+past-slot : (r slot k : ℕ) → slot + keptPlace ≤ k → inRows (itselfRow r) slot k ≡ false
 unfolding inRows
 past-slot r slot k h = rw (le-ltb k (slot + keptPlace) h, and-false (leb (slot + rowsPlace) k)) refl
 
-past-rows : (r slot k : ℕ) → 256 ≤ r → inRows (isRow r) slot k ≡ false
+past-rows : (r slot k : ℕ) → 256 ≤ r → inRows (itselfRow r) slot k ≡ false
 past-rows r slot k h = by (decLt k (slot + keptPlace))
   where
-    by : Dec (k < slot + keptPlace) → inRows (isRow r) slot k ≡ false
+    by : Dec (k < slot + keptPlace) → inRows (itselfRow r) slot k ≡ false
     by (yes m) = before-row r slot k (omega arith)
     by (no m) = past-slot r slot k (omega arith)
 
-pub clear-past : (slot r : ℕ) (s : List ℕ) → 256 ≤ r → Clears (isRow r) slot s s
+pub clear-past : (slot r : ℕ) (s : List ℕ) → 256 ≤ r → Clears (itselfRow r) slot s s
 clear-past slot r s h = record { long = refl; bytes = λ k. rw (past-rows r slot k h) refl }
 
 six-zeros : progressBytes (meaning Undone) ≡ zeros rowSize
@@ -112,7 +113,7 @@ unfolding progressBytes
 six-zeros = refl
 
 pub clear-put : (slot r : ℕ) (s o : List ℕ) {i : ℕ} → r < 256 → slot + slotSize ≤ length s → i ≡ rowStart slot r
-    → o ≡ withPart s i (progressBytes (meaning Undone)) → Clears (isRow r) slot s o
+    → o ≡ withPart s i (progressBytes (meaning Undone)) → Clears (itselfRow r) slot s o
 clear-put slot r s o {i} h l f e =
     let at = rowStart slot r in
     let z = ap (λ (j : ℕ). withPart s j (progressBytes (meaning Undone))) f ∙ ap (withPart s at) six-zeros in
@@ -124,7 +125,7 @@ clear-put slot r s o {i} h l f e =
     }
   where
     by : (k : ℕ) → Dec (k < rowStart slot r) → Dec (k < rowStart slot r + rowSize)
-        → byteAt (withPart s (rowStart slot r) (zeros rowSize)) k ≡ pick (inRows (isRow r) slot k) 0 (byteAt s k)
+        → byteAt (withPart s (rowStart slot r) (zeros rowSize)) k ≡ pick (inRows (itselfRow r) slot k) 0 (byteAt s k)
     by k (yes a) b =
         let at = rowStart slot r in
         let n = length-zeros rowSize in
@@ -146,73 +147,37 @@ pub ruleset clear-laws = (clear-past, clear-put)
 
 -- ---- behaviours
 
-or-same : (a : Bool) → a ≡ a || (a || a)
-or-same true = refl
-or-same false = refl
-
-or-assoc : (a b c : Bool) → a || (b || c) ≡ (a || b) || c
-or-assoc true b c = refl
-or-assoc false b c = refl
-
-kind-rows : (s : List ℕ) (d r i : ℕ) (k : BehaviourKind) → hasRow i (behaviourFrom s (behaviourTo s d) r (behaviourAt s r) k)
-    ≡ eqb i r || subRows s d (subsIn (behaviourRowAs k (fieldA s (behaviourAt s r)) (fieldB s (behaviourAt s r))
-    (fieldC s (behaviourAt s r)) (fieldD s (behaviourAt s r)))) i
-unfolding behaviourFrom hasRow subRows behaviourRowAs behaviourRows branchRows
-kind-rows s d r i BehaviourKind.Nil = or-false (eqb i r)
-kind-rows s d r i BehaviourKind.OneWay = or-false (eqb i r)
-kind-rows s d r i BehaviourKind.RequestResponse = refl
-kind-rows s d r i BehaviourKind.Notification = or-false (eqb i r)
-kind-rows s d r i BehaviourKind.SolicitResponse = or-false (eqb i r)
-kind-rows s d r i BehaviourKind.If = refl
-kind-rows s d r i BehaviourKind.While = refl
-kind-rows s d r i BehaviourKind.Sequence = refl
-kind-rows s d r i BehaviourKind.Parallel = refl
-kind-rows s d r i BehaviourKind.Assign = or-false (eqb i r)
-kind-rows s d r i BehaviourKind.Choice = refl
-kind-rows s d r i BehaviourKind.Branch = or-false (eqb i r)
-kind-rows s d r i BehaviourKind.Unknown = or-false (eqb i r)
-
-rows-more : (s : List ℕ) (d r i : ℕ) → behaviourRows s (suc d) r i ≡ isRow r i || subRows s d (subsOf s r) i
-unfolding behaviourRows behaviourTo subsOf behaviourRowOf isRow
-rows-more s d r i = kind-rows s d r i (kindAt s r)
-
-rows-none : (s : List ℕ) (r i : ℕ) → isRow r i ≡ behaviourRows s 0 r i
-unfolding behaviourRows behaviourTo isRow hasRow
-rows-none s r i = refl
-
-pub row-alone : (s : List ℕ) (slot x r left : ℕ) (a b : List ℕ) → x ≡ r → Clears (isRow x) slot a b → left ≡ 0 → Clears (behaviourRows s left r) slot a b
+pub row-alone : (s : List ℕ) (slot x r left : ℕ) (a b : List ℕ) → x ≡ r → Clears (itselfRow x) slot a b → left ≡ 0 → Clears (rowsTo s left r) slot a b
 row-alone s slot x r left a b e c z =
-    clears-as (isRow x) (behaviourRows s left r) (λ i. ap (λ (y : ℕ). isRow y i) e ∙ rows-none s r i ∙ ap (λ (y : ℕ). behaviourRows s y r i) (sym z)) c
+    clears-as (itselfRow x) (rowsTo s left r) (λ i. ap (λ (y : ℕ). itselfRow y i) e ∙ rows-none s r i ∙ ap (λ (y : ℕ). rowsTo s y r i) (sym z)) c
 
-module _ (s : List ℕ) (slot x r left : ℕ) (a b : List ℕ) (e : x ≡ r) (c : Clears (isRow x) slot a b) (h : left ≡ 0 → ⊥) {v : Subs} (f : v ≡ subsOf s r) where
-  rows-by : {y : Subs} → v ≡ y → (i : ℕ) → behaviourRows s left r i ≡ isRow x i || subRows s (left - 1) y i
-  rows-by g i =
-      ap (λ (n : ℕ). behaviourRows s n r i) (one-less left h) ∙ rows-more s (left - 1) r i
-      ∙ ap (λ (y : ℕ). isRow y i || subRows s (left - 1) (subsOf s r) i) (sym e) ∙ ap (λ (y : Subs). isRow x i || subRows s (left - 1) y i) (sym f ∙ g)
+module _ (s : List ℕ) (slot x r left : ℕ) (a b : List ℕ) (e : x ≡ r) (c : Clears (itselfRow x) slot a b) (h : left ≡ 0 → ⊥) {v : Subs} (f : v ≡ subsOf s r) where
+  own-rows : {y : Subs} → v ≡ y → (i : ℕ) → rowsTo s left r i ≡ itselfRow x i || subRows s (left - 1) y i
+  own-rows {y} g i = rows-by s left r h f g i ∙ ap (λ (z : ℕ). itselfRow z i || subRows s (left - 1) y i) (sym e)
 
-  pub row-single : v ≡ Subs.Nothing → Clears (behaviourRows s left r) slot a b
+  pub row-single : v ≡ Subs.Nothing → Clears (rowsTo s left r) slot a b
   unfolding subRows
-  row-single g = clears-as (isRow x) (behaviourRows s left r) (λ i. or-false (isRow x i) ∙ sym (rows-by g i)) c
+  row-single g = clears-as (itselfRow x) (rowsTo s left r) (λ i. or-false (itselfRow x i) ∙ sym (own-rows g i)) c
 
-  pub row-one : {j : ℕ} (o : List ℕ) → v ≡ Subs.One j → Clears (behaviourRows s (left - 1) j) slot b o → Clears (behaviourRows s left r) slot a o
+  pub row-one : {j : ℕ} (o : List ℕ) → v ≡ Subs.One j → Clears (rowsTo s (left - 1) j) slot b o → Clears (rowsTo s left r) slot a o
   unfolding subRows
-  row-one {j} o g d = clears-both (isRow x) (behaviourRows s (left - 1) j) (behaviourRows s left r) c d (rows-by g)
+  row-one {j} o g d = clears-both (itselfRow x) (rowsTo s (left - 1) j) (rowsTo s left r) c d (own-rows g)
 
-  pub row-two : {j k : ℕ} (m o : List ℕ) → v ≡ Subs.Two j k → Clears (behaviourRows s (left - 1) j) slot b m → Clears (behaviourRows s (left - 1) k) slot m o
-      → Clears (behaviourRows s left r) slot a o
+  pub row-two : {j k : ℕ} (m o : List ℕ) → v ≡ Subs.Two j k → Clears (rowsTo s (left - 1) j) slot b m → Clears (rowsTo s (left - 1) k) slot m o
+      → Clears (rowsTo s left r) slot a o
   unfolding subRows
   row-two {j} {k} m o g d t =
-      clears-both (isRow x) (λ i. behaviourRows s (left - 1) j i || behaviourRows s (left - 1) k i) (behaviourRows s left r) c
-      (clears-both (behaviourRows s (left - 1) j) (behaviourRows s (left - 1) k)
-      (λ i. behaviourRows s (left - 1) j i || behaviourRows s (left - 1) k i) d t (λ i. refl))
-      (rows-by g)
+      clears-both (itselfRow x) (λ i. rowsTo s (left - 1) j i || rowsTo s (left - 1) k i) (rowsTo s left r) c
+      (clears-both (rowsTo s (left - 1) j) (rowsTo s (left - 1) k)
+      (λ i. rowsTo s (left - 1) j i || rowsTo s (left - 1) k i) d t (λ i. refl))
+      (own-rows g)
 
   pub row-run : {first n : ℕ} (o : List ℕ) {at y : ℕ} → v ≡ Subs.Run first n → at ≡ behaviourAt s first → y ≡ first
-      → ClearsBranches s slot y at n (left - 1) b o → Clears (behaviourRows s left r) slot a o
+      → ClearsBranches s slot y at n (left - 1) b o → Clears (rowsTo s left r) slot a o
   unfolding subRows
   row-run {first} {n} o {at} {y} g p q d =
-      clears-both (isRow x) (branchRows s (left - 1) first n) (behaviourRows s left r) c
-      (subst (λ (z : ℕ). ClearsBranches s slot z at n (left - 1) b o) q d .clears p) (rows-by g)
+      clears-both (itselfRow x) (branchRows s (left - 1) first n) (rowsTo s left r) c
+      (subst (λ (z : ℕ). ClearsBranches s slot z at n (left - 1) b o) q d .clears p) (own-rows g)
 
 pub ruleset row-laws = (row-alone, row-single, row-one, row-two, row-run)
 
@@ -222,37 +187,24 @@ next-at : (s : List ℕ) (r : ℕ) → behaviourAt s r + 10 ≡ behaviourAt s (r
 unfolding behaviourAt
 next-at s r = omega arith
 
-branch-rows : (s : List ℕ) (d r n i : ℕ) → (n ≡ 0 → ⊥) → (n ≡ 1 → ⊥) → branchRows s d r n i
-    ≡ (isRow r i || (behaviourRows s d (fieldA s (behaviourAt s r)) i || behaviourRows s d (fieldB s (behaviourAt s r)) i)) || branchRows s d (r + 1) (n - 1) i
-unfolding branchRows branchesFrom hasRowIn isRow behaviourRows
-branch-rows s d r zero i f g = absurd (f refl)
-branch-rows s d r (suc zero) i f g = absurd (g refl)
-branch-rows s d r (suc (suc n)) i f g =
-    let a : r + 1 ≡ suc r = omega arith in
-    let b : suc (suc n) - 1 ≡ suc n = omega arith in
-    let x = hasRow i (behaviourTo s d (fieldA s (behaviourAt s r))) in
-    let y = hasRow i (behaviourTo s d (fieldB s (behaviourAt s r))) in
-    rw (a, b) (or-assoc (eqb i r) (x || y) (hasRowIn i (branchesFrom s (behaviourTo s d) (suc r) (suc n))))
-
-pub no-branches : (s : List ℕ) (slot r at n left : ℕ) (a b : List ℕ) → Clears (isRow r) slot a b → n ≡ 0 → ClearsBranches s slot r at n left a b
-unfolding branchRows branchesFrom hasRowIn isRow
+pub no-branches : (s : List ℕ) (slot r at n left : ℕ) (a b : List ℕ) → Clears (itselfRow r) slot a b → n ≡ 0 → ClearsBranches s slot r at n left a b
 no-branches s slot r at n left a b c z = record {
-  clears = λ e. clears-as (isRow r) (branchRows s left r n) (λ i. or-same (eqb i r) ∙ ap (λ (m : ℕ). branchRows s left r m i) (sym z)) c;
+  clears = λ e. clears-as (itselfRow r) (branchRows s left r n) (λ i. branches-none s left r i ∙ ap (λ (m : ℕ). branchRows s left r m i) (sym z)) c;
 }
 
-module _ (s : List ℕ) (slot r at n left : ℕ) (a b m o : List ℕ) (c : Clears (isRow r) slot a b) {f : BranchRow} (p : BranchAt s at f)
-    (d : Clears (behaviourRows s left (f .input)) slot b m) (t : Clears (behaviourRows s left (f .follow)) slot m o) where
+module _ (s : List ℕ) (slot r at n left : ℕ) (a b m o : List ℕ) (c : Clears (itselfRow r) slot a b) {f : BranchRow} (p : BranchAt s at f)
+    (d : Clears (rowsTo s left (f .input)) slot b m) (t : Clears (rowsTo s left (f .follow)) slot m o) where
   abbrev both-rows : ℕ → Bool
-  both-rows i = behaviourRows s left (f .input) i || behaviourRows s left (f .follow) i
+  both-rows i = rowsTo s left (f .input) i || rowsTo s left (f .follow) i
 
   -- The rows of the first branch.
   abbrev first-rows : ℕ → Bool
-  first-rows i = isRow r i || both-rows i
+  first-rows i = itselfRow r i || both-rows i
 
   first-clears : Clears first-rows slot a o
   first-clears =
-      clears-both (isRow r) both-rows first-rows c
-      (clears-both (behaviourRows s left (f .input)) (behaviourRows s left (f .follow)) both-rows d t (λ i. refl)) (λ i. refl)
+      clears-both (itselfRow r) both-rows first-rows c
+      (clears-both (rowsTo s left (f .input)) (rowsTo s left (f .follow)) both-rows d t (λ i. refl)) (λ i. refl)
 
   input-is : at ≡ behaviourAt s r → fieldA s (behaviourAt s r) ≡ f .input
   input-is e = sym (p .input ∙ ap (fieldA s) e)
@@ -260,13 +212,14 @@ module _ (s : List ℕ) (slot r at n left : ℕ) (a b m o : List ℕ) (c : Clear
   follow-is : at ≡ behaviourAt s r → fieldB s (behaviourAt s r) ≡ f .follow
   follow-is e = sym (p .follow ∙ ap (fieldB s) e)
 
+  first-is : at ≡ behaviourAt s r → (i : ℕ) → oneBranchRows s left r i ≡ first-rows i
+  first-is e i = rw (input-is e, follow-is e) refl
+
   pub last-branch : n ≡ 1 → ClearsBranches s slot r at n left a o
-  unfolding branchRows branchesFrom hasRowIn isRow behaviourRows
   last-branch z = record {
-    clears = λ e. clears-as first-rows (branchRows s left r n) (λ i.
-        let x = input-is e in
-        let y = follow-is e in
-        rw (z, x, y) refl) first-clears;
+    clears = λ e.
+        clears-as first-rows (branchRows s left r n)
+        (λ i. sym (first-is e i) ∙ (branches-one s left r i ∙ ap (λ (m : ℕ). branchRows s left r m i) (sym z))) first-clears;
   }
 
   pub more-branches : (w : List ℕ) → (n ≡ 0 → ⊥) → (n ≡ 1 → ⊥) → ClearsBranches s slot (r + 1) (at + 10) (n - 1) left o w
@@ -274,18 +227,15 @@ module _ (s : List ℕ) (slot r at n left : ℕ) (a b m o : List ℕ) (c : Clear
   more-branches w y z v = record {
     clears = λ e.
         clears-both first-rows (branchRows s left (r + 1) (n - 1)) (branchRows s left r n) first-clears
-        (v .clears (ap (λ (y : ℕ). y + 10) e ∙ next-at s r)) (λ i. two-or-more e i);
+        (v .clears (ap (λ (y : ℕ). y + 10) e ∙ next-at s r)) (λ i. branches-more s left r n i y z ∙ rw (first-is e i, add-one r) refl);
   }
-    where
-      two-or-more : at ≡ behaviourAt s r → (i : ℕ) → branchRows s left r n i ≡ first-rows i || branchRows s left (r + 1) (n - 1) i
-      two-or-more e i = branch-rows s left r n i y z ∙ rw (input-is e, follow-is e) refl
 
 pub ruleset branches-laws = (no-branches, last-branch, more-branches)
 
 -- ---- the whole
 
-pub reopened : (s : List ℕ) (slot r n : ℕ) (a b : List ℕ) → n ≡ behaviourCount s → Clears (behaviourRows s n r) slot a b → b ≡ withUndone (rowsBelow s r) slot a
-unfolding behaviourRows behaviourOf
-reopened s slot r n a b e c = cleared-are (clears-as (behaviourRows s n r) (rowsBelow s r) (λ i. ap (λ (d : ℕ). hasRow i (behaviourTo s d r)) e) c)
+pub reopened : (s : List ℕ) (slot r n : ℕ) (a b : List ℕ) → n ≡ behaviourCount s → Clears (rowsTo s n r) slot a b → b ≡ withUndone (rowsBelow s r) slot a
+unfolding rowsTo behaviourOf
+reopened s slot r n a b e c = cleared-are (clears-as (rowsTo s n r) (rowsBelow s r) (λ i. ap (λ (d : ℕ). hasRow i (behaviourTo s d r)) e) c)
 
 pub ruleset reopen-laws = (reopened)

@@ -2,16 +2,16 @@
 -- undone (docs/DECISIONS.md, 40). `ReopeningLaws` says what this is of a state: Session's `reopen`.
 use mathlib.Core.Path.{_≡_}
 use mathlib.Core.List.{List, [], _∷_}
-use mathlib.Core.Bool.{Bool, false, _&&_, _||_}
+use mathlib.Core.Bool.{Bool, _&&_}
 use Prim.Native.Nat.{ℕ, suc, _+_, _-_, _/_}
-use lib.Dec.{eqb, leb, ltb}
+use lib.Dec.{leb, ltb}
 use lib.ListN.{length}
 use Rattle.wire.specs.Wire.{byteAt}
 use Rattle.scalar.specs.Value.{pick}
-use Rattle.syntax.specs.Rows.{hasRow, hasRowIn}
+use Rattle.syntax.specs.Rows.{hasRow}
 use Rattle.network.specs.Layout.{behaviourAt}
-use Rattle.network.specs.Decode.{branchesFrom, behaviourTo, behaviourOf}
-use Rattle.row_parts.specs.declared.Subs.{Subs}
+use Rattle.network.specs.Decode.{behaviourOf}
+use Rattle.row_parts.specs.RowSets.{branchRows}
 use Rattle.state.specs.Places.{rowSize, rowsPlace, keptPlace}
 
 -- Does the place k belong to the progress of a row of which f holds, in the slot that starts at `slot`? "2,416 to 3,951: the progress of B rows
@@ -31,22 +31,6 @@ withUndone f slot s = undoneFrom f slot 0 s
 -- The rows of the behaviour of B row r.
 abbrev pub rowsBelow : List ℕ → ℕ → ℕ → Bool
 rowsBelow file r i = hasRow i (behaviourOf file r)
-
--- Those of B row r with d rows left, of the n branches from row r on, and of sub-behaviours.
-unfoldable pub isRow : ℕ → ℕ → Bool
-isRow r i = eqb i r
-
-unfoldable pub behaviourRows : List ℕ → ℕ → ℕ → ℕ → Bool
-behaviourRows s d r i = hasRow i (behaviourTo s d r)
-
-unfoldable pub branchRows : List ℕ → ℕ → ℕ → ℕ → ℕ → Bool
-branchRows s d r n i = hasRowIn i (branchesFrom s (behaviourTo s d) r n)
-
-unfoldable pub subRows : List ℕ → ℕ → Subs → ℕ → Bool
-subRows s d Subs.Nothing i = false
-subRows s d (Subs.One a) i = behaviourRows s d a i
-subRows s d (Subs.Two a b) i = behaviourRows s d a i || behaviourRows s d b i
-subRows s d (Subs.Run first n) i = branchRows s d first n i
 
 -- Byte for byte: the rows of which f holds are undone, and nothing else is changed.
 pub record Clears (f : ℕ → Bool) (slot : ℕ) (before after : List ℕ) : Type 0 where

@@ -4,7 +4,8 @@
 ghost use mathlib.Core.Path.{_≡_};
 ghost use Prim.Native.Nat.{_+_, _*_, _≤_, _<_};
 ghost use lib.ListN.{length};
-ghost use Rattle.reopening.specs.Reopening.{isRow, behaviourRows, rowsBelow, withUndone, Clears, ClearsBranches};
+ghost use Rattle.row_parts.specs.RowSets.{itselfRow, rowsTo};
+ghost use Rattle.reopening.specs.Reopening.{rowsBelow, withUndone, Clears, ClearsBranches};
 ghost use Rattle.state.specs.Places.{slotSize};
 use progress::Progress;
 use row_parts::Subs;
@@ -12,7 +13,7 @@ use row_parts::Subs;
 // Row r alone; rows past 255 have no progress.
 fn clear(state: &mut [u8], slot: usize, r: usize)
     requires { ⌜ slot + slotSize ≤ length (now state) ⌝ }
-    ensures { λ _. ⌜ Clears (isRow r) slot (now (state .entry)) (now (state .exit)) ⌝ }
+    ensures { λ _. ⌜ Clears (itselfRow r) slot (now (state .entry)) (now (state .exit)) ⌝ }
 {
     if 256 <= r {
         return;
@@ -23,7 +24,7 @@ fn clear(state: &mut [u8], slot: usize, r: usize)
 // The rows of the behaviour of B row r; so many rows are left for its sub-behaviours.
 fn clear_row(file: &[u8], state: &mut [u8], slot: usize, r: u16, left: u16)
     requires { ⌜ slot + slotSize ≤ length (now state) ⌝ }
-    ensures { λ _. ⌜ Clears (behaviourRows (now (file .entry)) left r) slot (now (state .entry)) (now (state .exit)) ⌝ }
+    ensures { λ _. ⌜ Clears (rowsTo (now (file .entry)) left r) slot (now (state .entry)) (now (state .exit)) ⌝ }
 {
     clear(state, slot, wire::index(r));
     if left == 0 {

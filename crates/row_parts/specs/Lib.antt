@@ -3,3 +3,5 @@ pub mod PartLaws
 pub mod Behaviours
 pub mod KindLaws
 pub mod PathLaws
+pub mod RowSets
+pub mod RowSetLaws

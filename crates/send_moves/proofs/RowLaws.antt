@@ -7,7 +7,7 @@ use native.Mathlib.Omega.{arith}
 use types.Run.{OneOf, miss}
 use denote.Enum.Declared.{tagOf}
 use Rattle.refusal.specs.declared.Refusal.the-variants.{MoveNotAllowed}
-use Rattle.syntax.specs.Syntax.{none, Network, output, Behaviour}
+use Rattle.syntax.specs.Syntax.{Network, output}
 use Rattle.syntax.specs.Rows.{outputOf}
 use Rattle.typing.specs.Rules.{permits}
 use Rattle.network.specs.Form.{WellFormed}
@@ -15,12 +15,12 @@ use Rattle.network.specs.Layout.{behaviourCount}
 use Rattle.network.specs.RowLaws.{counts-kept}
 use Rattle.network.specs.Decode.{operationOf, behaviourOf}
 use Rattle.network.specs.TestLaws.{not-true, not-false}
-use Rattle.rows.specs.declared.BehaviourRow.{BehaviourRow}
-use Rattle.rows.proofs.BehaviourRow as rows
-use Rattle.rows.specs.Readers.{behaviourRowOf}
+use Rattle.rows.specs.declared.OutputRow.{OutputRow}
+use Rattle.rows.specs.Readers.{outputRowOf}
+use Rattle.rows.specs.RowSyntax.{outputWith}
 use Rattle.operations.specs.Directions.{directionOf}
-use Rattle.row_parts.specs.Behaviours.{behaviourBy, KeptBy}
-use Rattle.row_parts.specs.KindLaws.{row-is}
+use Rattle.row_parts.specs.Behaviours.{OutputKeptBy}
+use Rattle.row_parts.specs.KindLaws.{output-is}
 use Rattle.state.specs.Session.{ReplyTo, Progress, Session, State}
 use Rattle.state.specs.Bytes.{readSession}
 use Rattle.progress.specs.declared.Progress as coded
@@ -34,48 +34,28 @@ use Rattle.send_moves.specs.Sending.{replyBack, sendingAs, RowsExist, re
 
 -- ---- `output_at`
 
--- The kinds that are no output.
-abbrev others : List ℕ
-others = 0 ∷ 1 ∷ 2 ∷ 5 ∷ 6 ∷ 7 ∷ 8 ∷ 9 ∷ 10 ∷ 11 ∷ 12 ∷ []
+module _ (file : List ℕ) (i : ℕ) {x : OutputRow} (e : x ≡ outputRowOf file i) where
+  output-view : {y : OutputRow} → x ≡ y → WellFormed file → i < behaviourCount file → (outputOf (behaviourOf file i) ≡ outputWith file i y) × OutputKeptBy file y
+  output-view f w l = output-is file w i l e f
 
-other-row : (file : List ℕ) (i : ℕ) (x : BehaviourRow) → OneOf others (tagOf rows.the-type x) → outputOf (behaviourBy file i x) ≡ none
-other-row file i BehaviourRow.Nil k = refl
-other-row file i (BehaviourRow.OneWay o x) k = refl
-other-row file i (BehaviourRow.RequestResponse o x c d) k = refl
-other-row file i (BehaviourRow.Notification o e) k = absurd (miss others 3 tt k)
-other-row file i (BehaviourRow.SolicitResponse o e x) k = absurd (miss others 4 tt k)
-other-row file i (BehaviourRow.If e a b) k = refl
-other-row file i (BehaviourRow.While e b) k = refl
-other-row file i (BehaviourRow.Sequence a b) k = refl
-other-row file i (BehaviourRow.Parallel a b) k = refl
-other-row file i (BehaviourRow.Assign x e) k = refl
-other-row file i (BehaviourRow.Choice a j) k = refl
-other-row file i (BehaviourRow.Branch a b) k = refl
-other-row file i BehaviourRow.Unknown k = refl
-
-module _ (file : List ℕ) (i : ℕ) {x : BehaviourRow} (e : x ≡ behaviourRowOf file i) where
-  row-of : {y : BehaviourRow} → x ≡ y → WellFormed file → i < behaviourCount file
-      → (behaviourOf file i ≡ behaviourBy file i y) × KeptBy file (behaviourCount file) y
-  row-of f w l = row-is file w i (behaviourCount file) (record { exists = l; enough = omega arith }) e f
-
-  pub output-notification : {o c : ℕ} → x ≡ BehaviourRow.Notification o c → OutputAt file i (Sending.Row o c false)
+  pub output-notification : {o c : ℕ} → x ≡ OutputRow.Notification o c → OutputAt file i (Sending.Row o c false)
   unfolding sendAt
   output-notification f = record {
-    tells = λ w l N G q n S to. ap (λ (b : Behaviour). sendOutput N G q n S to (outputOf b)) (row-of f w l .0);
-    exists = λ w l. row-of f w l .1;
+    tells = λ w l N G q n S to. ap (sendOutput N G q n S to) (output-view f w l .0);
+    exists = λ w l. output-view f w l .1;
   }
 
-  pub output-solicit : {o c p : ℕ} → x ≡ BehaviourRow.SolicitResponse o c p → OutputAt file i (Sending.Row o c true)
+  pub output-solicit : {o c p : ℕ} → x ≡ OutputRow.SolicitResponse o c p → OutputAt file i (Sending.Row o c true)
   unfolding sendAt
   output-solicit f = record {
-    tells = λ w l N G q n S to. ap (λ (b : Behaviour). sendOutput N G q n S to (outputOf b)) (row-of f w l .0);
-    exists = λ w l. let k = row-of f w l .1 in (k .0, k .1);
+    tells = λ w l N G q n S to. ap (sendOutput N G q n S to) (output-view f w l .0);
+    exists = λ w l. let k = output-view f w l .1 in (k .0, k .1);
   }
 
-  pub output-other : OneOf others (tagOf rows.the-type x) → OutputAt file i Sending.Nothing
+  pub output-other : x ≡ OutputRow.Nothing → OutputAt file i Sending.Nothing
   unfolding sendAt
-  output-other h = record {
-    tells = λ w l N G q n S to. ap (sendOutput N G q n S to) (ap outputOf (row-of refl w l .0) ∙ other-row file i x h);
+  output-other f = record {
+    tells = λ w l N G q n S to. ap (sendOutput N G q n S to) (output-view f w l .0);
     exists = λ w l. tt;
   }
 

@@ -18,7 +18,7 @@ use readiness::Reached;
 use refusal::Outcome;
 use refusal::Refusal;
 use refusal::Verdict;
-use rows::BehaviourRow;
+use rows::OutputRow;
 
 // What a row sends: its operation (O row), its message (E row) and whether it is two-way; or that it sends nothing.
 pub enum Sending {
@@ -30,10 +30,10 @@ pub enum Sending {
 fn output_at(file: &[u8], i: u16) -> Sending
     ensures { λ x. ⌜ OutputAt (now (file .entry)) i x ⌝ }
 {
-    match rows::behaviour_row(file, i) {
-        BehaviourRow::Notification(o, e) => Sending::Row(o, e, false),
-        BehaviourRow::SolicitResponse(o, e, _) => Sending::Row(o, e, true),
-        _ => Sending::Nothing,
+    match rows::output_of(file, i) {
+        OutputRow::Notification(o, e) => Sending::Row(o, e, false),
+        OutputRow::SolicitResponse(o, e, _) => Sending::Row(o, e, true),
+        OutputRow::Nothing => Sending::Nothing,
     }
 }
 

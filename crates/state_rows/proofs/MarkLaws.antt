@@ -1,5 +1,5 @@
 -- Laws of marks on rows: one for each way out of the functions.
-use Prim.Native.Nat.{ℕ, zero, suc, _+_, _-_, _*_, _<_, _≤_}
+use Prim.Native.Nat.{ℕ, suc, _+_, _-_, _*_, _<_, _≤_}
 use mathlib.Core.Path.{_≡_, refl, sym, _∙_, ap, subst}
 use mathlib.Core.List.{List}
 use mathlib.Core.Bool.{Bool, true, false, _||_}
@@ -10,24 +10,21 @@ use lib.Seq.{getD-set-same, getD-set-other}
 use lib.Dec.{eqb}
 use borrow.Author.Tests.{eq-eqb, ne-eqb}
 use Rattle.forest.specs.Compare.{Compare, lt, eq, gt, compare}
-use Rattle.network.specs.declared.BehaviourKind.{BehaviourKind}
 use Rattle.network.specs.Layout.{start, B, behaviourCount, behaviourAt}
-use Rattle.network.specs.Rows.{fieldA, fieldB, fieldC, fieldD, kindAt}
-use Rattle.network.specs.Decode.{branchesFrom, behaviourFrom, behaviourTo, behaviourOf}
-use Rattle.network.specs.TestLaws.{one-less, or-false, or-assoc}
+use Rattle.network.specs.Rows.{fieldA, fieldB}
+use Rattle.network.specs.Decode.{behaviourTo, behaviourOf}
+use Rattle.network.specs.TestLaws.{or-false}
 use Rattle.rows.specs.declared.BranchRow.{BranchRow}
-use Rattle.rows.specs.Readers.{behaviourRowAs, behaviourRowOf, BranchAt}
+use Rattle.rows.specs.Readers.{BranchAt}
 use Rattle.row_parts.specs.declared.Subs.{Subs}
-use Rattle.row_parts.specs.Parts.{subsIn, subsOf}
-use Rattle.syntax.specs.Rows.{hasRow, hasRowIn}
+use Rattle.row_parts.specs.Parts.{subsOf}
+use Rattle.row_parts.specs.RowSets.{itselfRow, rowsTo, branchRows, oneBranchRows, subRows}
+use Rattle.row_parts.specs.RowSetLaws.{rows-by, rows-none, branches-none, branches-one, branches-more}
+use Rattle.syntax.specs.Rows.{hasRow}
 use Rattle.scalar.specs.Value.{pick}
-use Rattle.state_rows.specs.Marks.{markFor, Adds, itselfRow, rowsTo, branchRows, subRows, AddsBranches, RowsOf}
+use Rattle.state_rows.specs.Marks.{markFor, Adds, AddsBranches, RowsOf}
 
 -- ---- tests
-
-or-same : (a : Bool) → a ≡ a || (a || a)
-or-same true = refl
-or-same false = refl
 
 pick-or : (a b : Bool) (v : ℕ) → pick b 1 (pick a 1 v) ≡ pick (a || b) 1 v
 pick-or true true v = refl
@@ -70,63 +67,34 @@ pub ruleset mark-laws = (row-marked, row-past)
 
 -- ---- behaviours
 
-kind-parts : (s : List ℕ) (d r i : ℕ) (k : BehaviourKind) → hasRow i (behaviourFrom s (behaviourTo s d) r (behaviourAt s r) k)
-    ≡ itselfRow r i
-    || subRows s d
-    (subsIn (behaviourRowAs k (fieldA s (behaviourAt s r)) (fieldB s (behaviourAt s r)) (fieldC s (behaviourAt s r)) (fieldD s (behaviourAt s r)))) i
-unfolding behaviourFrom hasRow itselfRow subRows behaviourRowAs rowsTo branchRows
-kind-parts s d r i BehaviourKind.Nil = or-false (eqb i r)
-kind-parts s d r i BehaviourKind.OneWay = or-false (eqb i r)
-kind-parts s d r i BehaviourKind.RequestResponse = refl
-kind-parts s d r i BehaviourKind.Notification = or-false (eqb i r)
-kind-parts s d r i BehaviourKind.SolicitResponse = or-false (eqb i r)
-kind-parts s d r i BehaviourKind.If = refl
-kind-parts s d r i BehaviourKind.While = refl
-kind-parts s d r i BehaviourKind.Sequence = refl
-kind-parts s d r i BehaviourKind.Parallel = refl
-kind-parts s d r i BehaviourKind.Assign = or-false (eqb i r)
-kind-parts s d r i BehaviourKind.Choice = refl
-kind-parts s d r i BehaviourKind.Branch = or-false (eqb i r)
-kind-parts s d r i BehaviourKind.Unknown = or-false (eqb i r)
-
-row-parts : (s : List ℕ) (d r i : ℕ) → rowsTo s (suc d) r i ≡ itselfRow r i || subRows s d (subsOf s r) i
-unfolding rowsTo behaviourTo subsOf behaviourRowOf
-row-parts s d r i = kind-parts s d r i (kindAt s r)
-
-subs-are : (s : List ℕ) (d r : ℕ) {x y : Subs} → (d ≡ 0 → ⊥) → x ≡ subsOf s r → x ≡ y → (i : ℕ) → rowsTo s d r i ≡ itselfRow r i || subRows s (d - 1) y i
-subs-are s d r h e f i =
-    ap (λ (z : ℕ). rowsTo s z r i) (one-less d h)
-    ∙ (row-parts s (d - 1) r i ∙ ap (λ (z : Subs). itselfRow r i || subRows s (d - 1) z i) (sym e ∙ f))
-
 module _ (s l m : List ℕ) (d r v : ℕ) (t : v ≡ r) (y : Adds (itselfRow v) l m) where
   own : Adds (itselfRow r) l m
   own = subst (λ (z : ℕ). Adds (itselfRow z) l m) t y
 
   pub no-rows : d ≡ 0 → Adds (rowsTo s d r) l m
-  unfolding rowsTo behaviourTo hasRow itselfRow
-  no-rows e = subst (λ (z : ℕ). Adds (rowsTo s z r) l m) (sym e) (adds-as (itselfRow r) (rowsTo s 0 r) (λ i. refl) own)
+  no-rows e = subst (λ (z : ℕ). Adds (rowsTo s z r) l m) (sym e) (adds-as (itselfRow r) (rowsTo s 0 r) (rows-none s r) own)
 
   pub no-subs : {x : Subs} → (d ≡ 0 → ⊥) → x ≡ subsOf s r → x ≡ Subs.Nothing → Adds (rowsTo s d r) l m
   unfolding subRows
-  no-subs h e f = adds-as (itselfRow r) (rowsTo s d r) (λ i. or-false (itselfRow r i) ∙ sym (subs-are s d r h e f i)) own
+  no-subs h e f = adds-as (itselfRow r) (rowsTo s d r) (λ i. or-false (itselfRow r i) ∙ sym (rows-by s d r h e f i)) own
 
   pub one-sub : (o : List ℕ) {x : Subs} {a : ℕ} → (d ≡ 0 → ⊥) → x ≡ subsOf s r → x ≡ Subs.One a → Adds (rowsTo s (d - 1) a) m o → Adds (rowsTo s d r) l o
   unfolding subRows
-  one-sub o {x} {a} h e f z = adds-both (itselfRow r) (rowsTo s (d - 1) a) (rowsTo s d r) own z (subs-are s d r h e f)
+  one-sub o {x} {a} h e f z = adds-both (itselfRow r) (rowsTo s (d - 1) a) (rowsTo s d r) own z (rows-by s d r h e f)
 
   pub two-subs : (n o : List ℕ) {x : Subs} {a b : ℕ} → (d ≡ 0 → ⊥) → x ≡ subsOf s r → x ≡ Subs.Two a b → Adds (rowsTo s (d - 1) a) m n
       → Adds (rowsTo s (d - 1) b) n o → Adds (rowsTo s d r) l o
   unfolding subRows
   two-subs n o {x} {a} {b} h e f z w =
       adds-both (itselfRow r) (λ i. rowsTo s (d - 1) a i || rowsTo s (d - 1) b i) (rowsTo s d r) own
-      (adds-both (rowsTo s (d - 1) a) (rowsTo s (d - 1) b) (λ i. rowsTo s (d - 1) a i || rowsTo s (d - 1) b i) z w (λ i. refl)) (subs-are s d r h e f)
+      (adds-both (rowsTo s (d - 1) a) (rowsTo s (d - 1) b) (λ i. rowsTo s (d - 1) a i || rowsTo s (d - 1) b i) z w (λ i. refl)) (rows-by s d r h e f)
 
   pub run-subs : (o : List ℕ) (u : ℕ) {x : Subs} {a n : ℕ} → (d ≡ 0 → ⊥) → x ≡ subsOf s r → x ≡ Subs.Run a n → u ≡ a → AddsBranches s u n (d - 1) m o
       → Adds (rowsTo s d r) l o
   unfolding subRows
   run-subs o u {x} {a} {n} h e f g z =
       adds-both (itselfRow r) (branchRows s (d - 1) a n) (rowsTo s d r) own
-      (subst (λ (q : ℕ). Adds (branchRows s (d - 1) q n) m o) g (z .adds)) (subs-are s d r h e f)
+      (subst (λ (q : ℕ). Adds (branchRows s (d - 1) q n) m o) g (z .adds)) (rows-by s d r h e f)
 
 pub ruleset row-laws = (no-rows, no-subs, one-sub, two-subs, run-subs)
 
@@ -134,45 +102,33 @@ pub ruleset row-laws = (no-rows, no-subs, one-sub, two-subs, run-subs)
 
 module _ (s l m : List ℕ) (r n d : ℕ) (y : Adds (itselfRow r) l m) where
   pub no-branches : n ≡ 0 → AddsBranches s r n d l m
-  unfolding branchRows branchesFrom hasRowIn itselfRow
-  no-branches e = record { adds = subst (λ (z : ℕ). Adds (branchRows s d r z) l m) (sym e) (adds-as (itselfRow r) (branchRows s d r 0) (λ i. or-same (eqb i r)) y) }
+  no-branches e = record { adds = subst (λ (z : ℕ). Adds (branchRows s d r z) l m) (sym e) (adds-as (itselfRow r) (branchRows s d r 0) (branches-none s d r) y) }
 
   module _ (h : n ≡ 0 → ⊥) (v : ℕ) (p : v ≡ start s B) (b : BranchRow) (o q : List ℕ) (e : BranchAt s (v + 10 * r) b)
       (x : Adds (rowsTo s d (b .input)) m o) (z : Adds (rowsTo s d (b .follow)) o q) where
     abbrev both : ℕ → Bool
     both i = rowsTo s d (fieldA s (behaviourAt s r)) i || rowsTo s d (fieldB s (behaviourAt s r)) i
 
-    abbrev first : ℕ → Bool
-    first i = itselfRow r i || both i
-
     place : v + 10 * r ≡ behaviourAt s r
     unfolding behaviourAt
     place = ap (λ (w : ℕ). w + 10 * r) p
 
-    first-adds : Adds first l q
+    first-adds : Adds (oneBranchRows s d r) l q
     first-adds =
         let u = subst (λ (w : ℕ). Adds (rowsTo s d w) m o) (e .input ∙ ap (fieldA s) place) x in
         let w = subst (λ (w : ℕ). Adds (rowsTo s d w) o q) (e .follow ∙ ap (fieldB s) place) z in
-        adds-both (itselfRow r) both first y
+        adds-both (itselfRow r) both (oneBranchRows s d r) y
         (adds-both (rowsTo s d (fieldA s (behaviourAt s r))) (rowsTo s d (fieldB s (behaviourAt s r))) both u w (λ i. refl)) (λ i. refl)
 
     pub last-branch : n ≡ 1 → AddsBranches s r n d l q
-    unfolding branchRows branchesFrom hasRowIn itselfRow rowsTo
-    last-branch g = record { adds = subst (λ (w : ℕ). Adds (branchRows s d r w) l q) (sym g) (adds-as first (branchRows s d r 1) (λ i. refl) first-adds) }
-
-    two-more : (n : ℕ) (i : ℕ) → branchRows s d r (suc (suc n)) i ≡ first i || branchRows s d (suc r) (suc n) i
-    unfolding branchRows branchesFrom hasRowIn itselfRow rowsTo
-    two-more n i = sym (or-assoc (eqb i r) (both i) (branchRows s d (suc r) (suc n) i))
-
-    more : (k : ℕ) → k ≡ n → (k ≡ 0 → ⊥) → (k ≡ 1 → ⊥) → (i : ℕ) → branchRows s d r k i ≡ first i || branchRows s d (suc r) (k - 1) i
-    more zero g h j i = absurd (h refl)
-    more (suc zero) g h j i = absurd (j refl)
-    more (suc (suc k)) g h j i = let e : suc (suc k) - 1 ≡ suc k = omega arith in two-more k i ∙ rw e
+    last-branch g = record {
+      adds = subst (λ (w : ℕ). Adds (branchRows s d r w) l q) (sym g) (adds-as (oneBranchRows s d r) (branchRows s d r 1) (branches-one s d r) first-adds);
+    }
 
     pub more-branches : (t : List ℕ) → (n ≡ 1 → ⊥) → AddsBranches s (r + 1) (n - 1) d q t → AddsBranches s r n d l t
     more-branches t j k = record {
-      adds = adds-both first (branchRows s d (suc r) (n - 1)) (branchRows s d r n) first-adds
-          (subst (λ (w : ℕ). Adds (branchRows s d w (n - 1)) q t) (add-one r) (k .adds)) (λ i. more n refl h j i);
+      adds = adds-both (oneBranchRows s d r) (branchRows s d (suc r) (n - 1)) (branchRows s d r n) first-adds
+          (subst (λ (w : ℕ). Adds (branchRows s d w (n - 1)) q t) (add-one r) (k .adds)) (λ i. branches-more s d r n i h j);
     }
 
 pub ruleset branch-laws = (no-branches, last-branch, more-branches)

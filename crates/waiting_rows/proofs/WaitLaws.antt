@@ -11,8 +11,8 @@ use lib.ListN.{getD}
 use Rattle.forest.specs.Compare.{T-of}
 use Rattle.forest.specs.Path.{Path}
 use Rattle.refusal.specs.declared.Refusal.the-variants.{MoveNotAllowed}
-use Rattle.syntax.specs.Syntax.{Operation, output, Optional, some, Behaviour}
-use Rattle.syntax.specs.Rows.{hasRow, atRow}
+use Rattle.syntax.specs.Syntax.{Operation, output, Optional, Behaviour}
+use Rattle.syntax.specs.Rows.{Output, hasRow, atRow}
 use Rattle.typing.specs.Rules.{permits}
 use Rattle.network.specs.Form.{WellFormed}
 use Rattle.network.specs.Layout.{behaviourCount}
@@ -20,13 +20,13 @@ use Rattle.network.specs.RowLaws.{counts-kept}
 use Rattle.network.specs.OnceLaws.{rows-of}
 use Rattle.network.specs.Decode.{pathOf, operationOf, behaviourOf}
 use Rattle.network.specs.TestLaws.{apart, not-true, not-false}
-use Rattle.rows.specs.declared.BehaviourRow.{BehaviourRow}
-use Rattle.rows.proofs.BehaviourRow as rows
-use Rattle.rows.specs.Readers.{behaviourRowOf}
+use Rattle.rows.specs.declared.OutputRow.{OutputRow}
+use Rattle.rows.proofs.OutputRow as rows
+use Rattle.rows.specs.Readers.{outputRowOf}
+use Rattle.rows.specs.RowSyntax.{outputWith}
 use Rattle.operations.specs.Directions.{directionOf}
 use Rattle.operations.specs.PermitsLaws.{two-way}
-use Rattle.row_parts.specs.Behaviours.{behaviourBy}
-use Rattle.row_parts.specs.KindLaws.{row-is}
+use Rattle.row_parts.specs.KindLaws.{output-is}
 use Rattle.state_rows.specs.Marks.{markFor, RowsOf}
 use Rattle.state_rows.specs.PartLaws.{row-stands}
 use Rattle.state.specs.Session.{Progress, Session}
@@ -35,7 +35,7 @@ use Rattle.state.specs.RowLaws.{row-absent}
 use Rattle.progress.specs.declared.Progress as coded
 use Rattle.progress.specs.Meaning.{meaning}
 use Rattle.progress.proofs.Progress as progress
-use Rattle.moves.specs.Moves.{Result, notAllowed, require, ifWaiting, onWaitingRow}
+use Rattle.moves.specs.Moves.{Result, notAllowed, require, ifWaiting, onWaitingOutput, onWaitingRow}
 use Rattle.waiting_rows.specs.declared.Waiting.{Waiting}
 use Rattle.waiting_rows.specs.Waiting.{HasRow, WaitsAt}
 
@@ -65,17 +65,15 @@ pub ruleset row-laws = (far-row, near-row)
 
 -- ---- what a row asks
 
--- `onWaitingRow` of row r, by the row that a reader gives.
-abbrev asks : List ℕ → ℕ → Session → ℕ → BehaviourRow → (Operation → Path → Result) → Result
-asks file q S r x f = onWaitingRow q S (some (behaviourBy file r x)) f
+-- `onWaitingRow` of row r, by the output's row that a reader gives.
+abbrev asks : List ℕ → ℕ → Session → ℕ → OutputRow → (Operation → Path → Result) → Result
+asks file q S r x f = onWaitingOutput q S (outputWith file r x) f
 
 row-asks : (file : List ℕ) (q : ℕ) (S : Session) (f : Operation → Path → Result) → WellFormed file → (b r : ℕ) → b < behaviourCount file
-    → hasRow r (behaviourOf file b) ≡ true → onWaitingRow q S (atRow r (behaviourOf file b)) f ≡ asks file q S r (behaviourRowOf file r) f
+    → hasRow r (behaviourOf file b) ≡ true → onWaitingRow q S (atRow r (behaviourOf file b)) f ≡ asks file q S r (outputRowOf file r) f
 row-asks file q S f w b r l h =
-    let i = rows-of file w b r l (T-of h) .1 in
     row-stands file w b r l h (λ x. onWaitingRow q S x f) refl
-    ∙ ap (λ (c : Behaviour). onWaitingRow q S (some c) f)
-    (row-is file w r (behaviourCount file) (record { exists = i; enough = omega arith }) {x = behaviourRowOf file r} refl refl .0)
+    ∙ ap (λ (u : Optional Output). onWaitingOutput q S u f) (output-is file w r (rows-of file w b r l (T-of h) .1) {x = outputRowOf file r} refl refl .0)
 
 -- ---- `waiting_at`
 
@@ -94,42 +92,31 @@ module _ (file s : List ℕ) (slot b q r : ℕ) {t : Bool} (h : HasRow file b r 
     small = λ o p e. nowhere e;
   }
 
-  module _ (y : not t ≡ false) {row : BehaviourRow} (e : row ≡ behaviourRowOf file r) where
+  module _ (y : not t ≡ false) {row : OutputRow} (e : row ≡ outputRowOf file r) where
     runs : WellFormed file → b < behaviourCount file → hasRow r (behaviourOf file b) ≡ true
     runs w l = sym (h .tells w l) ∙ not-false t y
 
     not-allowed : ((f : Operation → Path → Result) → asks file q S r row f ≡ notAllowed) → WaitsAt file s slot b q r Waiting.NotAllowed
     not-allowed g = record {
-      tells = λ w l f. sym (row-asks file q S f w b r l (runs w l) ∙ (ap (λ (x : BehaviourRow). asks file q S r x f) (sym e) ∙ g f));
+      tells = λ w l f. sym (row-asks file q S f w b r l (runs w l) ∙ (ap (λ (x : OutputRow). asks file q S r x f) (sym e) ∙ g f));
       exists = λ w l. tt;
       small = λ o p e. nowhere e;
     }
 
-    pub no-solicit : OneOf (0 ∷ 1 ∷ 2 ∷ 3 ∷ 5 ∷ 6 ∷ 7 ∷ 8 ∷ 9 ∷ 10 ∷ 11 ∷ 12 ∷ []) (tagOf rows.the-type row) → WaitsAt file s slot b q r Waiting.NotAllowed
+    pub no-solicit : OneOf (0 ∷ 1 ∷ []) (tagOf rows.the-type row) → WaitsAt file s slot b q r Waiting.NotAllowed
     no-solicit k = not-allowed (λ f. other row f k)
       where
-        other : (x : BehaviourRow) (f : Operation → Path → Result)
-            → OneOf (0 ∷ 1 ∷ 2 ∷ 3 ∷ 5 ∷ 6 ∷ 7 ∷ 8 ∷ 9 ∷ 10 ∷ 11 ∷ 12 ∷ []) (tagOf rows.the-type x) → asks file q S r x f ≡ notAllowed
-        other BehaviourRow.Nil f k = refl
-        other (BehaviourRow.OneWay o x) f k = refl
-        other (BehaviourRow.RequestResponse o x c d) f k = refl
-        other (BehaviourRow.Notification o e) f k = refl
-        other (BehaviourRow.SolicitResponse o e x) f k = absurd (miss (0 ∷ 1 ∷ 2 ∷ 3 ∷ 5 ∷ 6 ∷ 7 ∷ 8 ∷ 9 ∷ 10 ∷ 11 ∷ 12 ∷ []) 4 tt k)
-        other (BehaviourRow.If e a b) f k = refl
-        other (BehaviourRow.While e b) f k = refl
-        other (BehaviourRow.Sequence a b) f k = refl
-        other (BehaviourRow.Parallel a b) f k = refl
-        other (BehaviourRow.Assign x e) f k = refl
-        other (BehaviourRow.Choice a n) f k = refl
-        other (BehaviourRow.Branch a b) f k = refl
-        other BehaviourRow.Unknown f k = refl
+        other : (x : OutputRow) (f : Operation → Path → Result) → OneOf (0 ∷ 1 ∷ []) (tagOf rows.the-type x) → asks file q S r x f ≡ notAllowed
+        other OutputRow.Nothing f k = refl
+        other (OutputRow.Notification o e) f k = refl
+        other (OutputRow.SolicitResponse o e x) f k = absurd (miss (0 ∷ 1 ∷ []) 2 tt k)
 
-    module _ {o d x : ℕ} (g : row ≡ BehaviourRow.SolicitResponse o d x) (p : coded.Progress) (m : meaning p ≡ S .progress r) where
+    module _ {o d x : ℕ} (g : row ≡ OutputRow.SolicitResponse o d x) (p : coded.Progress) (m : meaning p ≡ S .progress r) where
       abbrev Next : (Operation → Path → Result) → Result
       Next f = require (permits q output true (operationOf file o)) MoveNotAllowed (f (operationOf file o) (pathOf file x))
 
       solicits : (f : Operation → Path → Result) → asks file q S r row f ≡ ifWaiting (meaning p) (Next f)
-      solicits f = ap (λ (z : BehaviourRow). asks file q S r z f) g ∙ ap (λ (z : Progress). ifWaiting z (Next f)) (sym m)
+      solicits f = ap (λ (z : OutputRow). asks file q S r z f) g ∙ ap (λ (z : Progress). ifWaiting z (Next f)) (sym m)
 
       pub no-waits : OneOf (0 ∷ 1 ∷ 3 ∷ 4 ∷ 5 ∷ 6 ∷ []) (tagOf progress.the-type p) → WaitsAt file s slot b q r Waiting.NotAllowed
       no-waits k = not-allowed (λ f. solicits f ∙ other p (Next f) k)
@@ -156,11 +143,11 @@ module _ (file s : List ℕ) (slot b q r : ℕ) {t : Bool} (h : HasRow file b r 
         pub row-waits : not v ≡ false → WaitsAt file s slot b q r (Waiting.Row o x)
         row-waits n = record {
           tells = λ w l f.
-              sym (row-asks file q S f w b r l (runs w l) ∙ (ap (λ (c : BehaviourRow). asks file q S r c f) (sym e)
+              sym (row-asks file q S f w b r l (runs w l) ∙ (ap (λ (c : OutputRow). asks file q S r c f) (sym e)
               ∙ (waiting f ∙ ap (λ (c : Bool). require c MoveNotAllowed (f (operationOf file o) (pathOf file x))) (not-false v n))));
           exists = λ w l.
               let i = rows-of file w b r l (T-of (runs w l)) .1 in
-              let kept = row-is file w r (behaviourCount file) (record { exists = i; enough = omega arith }) e g .1 in
+              let kept = output-is file w r i e g .1 in
               (kept .0, kept .2, two-way q output (operationOf file o) (sym z ∙ not-false v n));
           small = λ a c u. h .small (not-false t y);
         }

@@ -7,7 +7,7 @@ ghost use Rattle.state.specs.Places.{slotSize, treeRoom};
 use progress::Progress;
 use refusal::Outcome;
 use refusal::Refusal;
-use rows::BehaviourRow;
+use rows::OutputRow;
 use session_trees::Change;
 
 // The O row and the P row of a row that waits for its reply; or 15.
@@ -36,7 +36,7 @@ pub fn waiting_at(file: &[u8], state: &[u8], slot: usize, b: u16, q: u16, r: u16
     if !has_row(file, b, r) {
         return Waiting::NotAllowed;
     }
-    let BehaviourRow::SolicitResponse(o, _, x) = rows::behaviour_row(file, r) else {
+    let OutputRow::SolicitResponse(o, _, x) = rows::output_of(file, r) else {
         return Waiting::NotAllowed;
     };
     let Progress::Waits = progress::row_progress(state, slot, r) else {

@@ -6,7 +6,7 @@ use Rattle.waiting_rows.proofs.waiting_at.Reads as reads
 use Rattle.waiting_rows.proofs.waiting_at.Lts as lts
 use Rattle.operations.proofs.permits.Reads as permits-reads
 use Rattle.progress.proofs.row_progress.Reads as row-progress-reads
-use Rattle.rows.proofs.behaviour_row.Reads as behaviour-row-reads
+use Rattle.rows.proofs.output_of.Reads as output-of-reads
 use Rattle.waiting_rows.proofs.has_row.Reads as has-row-reads
 
 has-row-requires : tie.Need-has-row-requires
@@ -15,8 +15,8 @@ has-row-requires c κs = search needs
 returns : tie.Need-returns
 returns c = search (wait-laws, needs) depth 12
 
-behaviour-row-requires : tie.Need-behaviour-row-requires
-behaviour-row-requires c κs = search needs
+output-of-requires : tie.Need-output-of-requires
+output-of-requires c κs = search needs
 
 enum-known-o : tie.Need-enum-known-o
 enum-known-o c = search needs
@@ -48,7 +48,7 @@ waiting-at-spec =
     (tie.spec
     has-row-requires
     returns
-    behaviour-row-requires
+    output-of-requires
     enum-known-o
     returns-2
     row-progress-requires
