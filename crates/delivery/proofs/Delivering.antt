@@ -1,6 +1,6 @@
 -- Delivering a message, at each of the ways out of the code.
 use mathlib.Core.Path.{_≡_, refl, sym, ap, subst, _∙_}
-use mathlib.Core.Bool.{Bool, true, false, not, _&&_}
+use mathlib.Core.Bool.{Bool, true, false}
 use mathlib.Core.List.{List, [], _∷_, _++_}
 use mathlib.Core.Logic.{_⊎_, inl, inr}
 use Prim.Native.Nat.{ℕ, _+_, _≤_, _<_}
@@ -8,40 +8,31 @@ use native.Mathlib.Omega.{arith}
 use lib.ListN.{length, replicate}
 use lib.Seq.{take-all}
 use Rattle.forest.specs.Forest.{Forest, end, Tree, tree}
-use Rattle.forest.specs.Path.{Path, replaceAt}
+use Rattle.forest.specs.Path.{replaceAt}
 use Rattle.scalar.specs.Value.{Value}
 use Rattle.wire.specs.Wire.{part, withPart}
 use Rattle.wire.specs.WireLaws.{length-withPart}
+use Rattle.refusal.specs.declared.Refusal.{Refusal}
 use Rattle.refusal.specs.declared.Refusal.the-variants.{MoveNotAllowed, QueueFull, Stuck}
 use Rattle.refusal.specs.declared.Verdict.{Verdict}
 use Rattle.refusal.specs.declared.Verdict.the-variants.{Done, Refused}
-use Rattle.refusal.specs.declared.Outcome.{Outcome}
-use Rattle.refusal.specs.Refusal.{doneWith, refusedBy}
-use Rattle.syntax.specs.Syntax.{Optional, none, some}
+use Rattle.refusal.specs.Refusal.{doneWith}
+use Rattle.syntax.specs.Syntax.{MessageType, Optional, none, some}
 use Rattle.syntax.specs.Rows.{Input, inputOf}
 use Rattle.tree.specs.Encode as trees
-use Rattle.tree.specs.Decode.{isMessage}
-use Rattle.tree.specs.DecodeLaws.{message-sound, message-complete, encode-injective}
-use Rattle.tree.specs.Ids as ids
-use Rattle.subtyping.specs.Own.{fits}
-use Rattle.typing.specs.Environment.{within}
 use Rattle.network.specs.Form.{WellFormed}
-use Rattle.network.specs.Layout.{pathCount, behaviourCount}
-use Rattle.network.specs.Rows.{operationService}
+use Rattle.network.specs.Layout.{pathCount, typeCount, behaviourCount, operationCount}
+use Rattle.network.specs.Rows.{operationService, requestType}
 use Rattle.network.specs.Decode.{typeOf, behaviourOf, operationOf, networkOf}
 use Rattle.network.specs.Decode as network
-use Rattle.network.specs.RowLaws.{counts-kept}
-use Rattle.network.specs.TestLaws.{told}
+use Rattle.network.specs.RowLaws.{counts-kept, operation-kept}
 use Rattle.rows.specs.declared.InputRow.{InputRow}
-use Rattle.rows.specs.Readers.{inputRowOf, pathIds}
+use Rattle.rows.specs.Readers.{inputRowOf}
 use Rattle.rows.specs.RowSyntax.{inputWith}
-use Rattle.types.specs.Tells.{FitsRow}
-use Rattle.types.specs.TellsLaws.{fits-message}
-use Rattle.row_parts.specs.PathLaws.{ids-path, path-is}
 use Rattle.row_parts.specs.Behaviours.{InputKeptBy}
 use Rattle.row_parts.specs.KindLaws.{input-is}
-use Rattle.state.specs.Places.{slotSize, slotStart}
-use Rattle.state.specs.Session.{ReplyTo, Progress, done, received, taken, advance, Queued, Session, withTree, withQueue, withProgress, Slot, free, live, State, setSlot, newSession}
+use Rattle.state.specs.Places.{slotSize, treeRoom, slotStart}
+use Rattle.state.specs.Session.{Destination, Progress, taken, advance, Queued, Session, withTree, withQueue, withProgress, Slot, free, live, State, setSlot, newSession}
 use Rattle.state.specs.Bytes.{zeros, slotBytes, stateBytes}
 use Rattle.state.specs.Shape.{WellMade, MadeSlot}
 use Rattle.state.specs.ShapeLaws.{new-made}
@@ -50,24 +41,27 @@ use Rattle.state.specs.SizeLaws.{message-size, slot-size}
 use Rattle.state.specs.FreshLaws.{replicate-zeros}
 use Rattle.state.specs.KeepLaws.{made-tree, made-row}
 use Rattle.moves.specs.Targets as definition
-use Rattle.moves.specs.Moves.{voidValue, isMessageTree, Result, moved, require, allowed, onLive, startedBy, started, deliver}
-use Rattle.moves.specs.Step.{Step, finish}
-use Rattle.progress.specs.declared.Progress as coded
-use Rattle.progress.specs.Meaning.{meaning}
+use Rattle.moves.specs.Moves.{voidValue, Result, moved, require, receivedBy, allowed, onLive, started, deliver}
+use Rattle.moves.specs.Step.{finish}
 use Rattle.progress.specs.Stored.{rowStored}
 use Rattle.slots.specs.SlotLaws.{row-set, tree-set, begin-set, living-set, set-again}
 use Rattle.slots.specs.Living.{Living}
 use Rattle.slots.specs.Slots.{begun, treeStored}
 use Rattle.session_trees.specs.declared.Change.{Change}
-use Rattle.session_trees.specs.Changing.{KeptTree, ChangedTo, Replaces}
+use Rattle.session_trees.specs.Changing.{ChangedTo, keptBytes, ReplacesAt}
 use Rattle.targets.specs.declared.Target.{Target}
-use Rattle.targets.specs.Answers.{startWith, passesInput, PermitsInput, targetAs, StarterExists}
-use Rattle.queues.specs.declared.ReplyTo as declared
-use Rattle.queues.specs.Queue.{replyOf, pushed}
+use Rattle.targets.specs.Answers.{startWith, passesInput, PermitsInput, targetAs, StarterExists, Targets}
+use Rattle.fitting.specs.Fitting.{Passed, Passes}
+use Rattle.moving.specs.Made.{StateOf}
+use Rattle.moving.specs.MadeLaws.{target-is}
+use Rattle.queues.specs.Queue.{pushed}
 use Rattle.queues.specs.ChangeLaws.{push-state}
-use Rattle.delivery.specs.Delivery.{Holding, Permitted, Allowed, MustFit, StartTree, startedWith, StoresStart, KeptOr, Saved}
-use Rattle.delivery.specs.Delivery.{StartsBy, StartedAs, Starts, PathWithin, InputWithin, startWithin, StartsWithin, Queues, Delivers}
-use Rattle.delivery.specs.DeliveryLaws.{holding-sized, holding-bytes, holding-part, message-tree, tree-message, Known, target-known, target-far}
+use Rattle.delivery.specs.declared.Arrival.{Arrival}
+use Rattle.delivery.specs.declared.Admission.{Admission}
+use Rattle.delivery.specs.Delivery.{onVerdict, Permitted, Allowed, Offered, LetsIn, StartTree, AtSlot, ArrivesAs, Storable, StorableIf, Known}
+use Rattle.delivery.specs.Delivery.{StartsBy, StartedAs, Starts, Queues, PlacedAs, Places, AdmittedAs, Admits, startedWith, StoresStart, Stores}
+use Rattle.delivery.specs.DeliveryLaws.{target-far}
+use Rattle.moving.specs.HoldingLaws.{holding-sized, holding-bytes, holding-part}
 
 -- ---- 15 and 16
 
@@ -107,41 +101,34 @@ module _ {file : List ℕ} {q : ℕ} {t : Target} where
 
 pub ruleset allowed-laws = (allowed-none, allowed-full, allowed-queued, allowed-starts)
 
--- ---- 19
+passing : {file : List ℕ} {q : ℕ} {t : Target} {v : Verdict} → Allowed file q t v → v ≡ Done → StarterExists file t → (x : Result)
+    → allowed q (targetAs file t) x ≡ x
+passing a d h x = sym (a .tells h x) ∙ ap (λ (u : Verdict). onVerdict u x) d
 
-module _ {l file : List ℕ} {r : ℕ} {b : Bool} (e : b ≡ isMessage l) where
-  pub fit-none : not b ≡ true → MustFit l file r false
-  fit-none f = record { tells = λ w k t h. by t h (isMessageTree t) refl }
-    where
-      by : (t : Tree Value) → trees.Encodes trees.treeDeep trees.treeMany l t → (x : Bool) → isMessageTree t ≡ x → false ≡ (x && fits t (typeOf file r))
-      by t h false g = refl
-      by t h true g =
-          let m = message-complete l t (record { bytes = h .bytes; good = tree-message t g (h .good) }) in
-          absurd (let z : _≡_ {A = ℕ} 0 1 = cc in omega arith)
-
-  pub fit-message : {x : Bool} → trees.Octets l → not b ≡ false → FitsRow l file r x → MustFit l file r x
-  fit-message {x} o f h = record {
-    tells = λ w k t d.
-        let m = message-sound l o (told e f) in
-        let i : m .0 ≡ t = encode-injective trees.messageDeep trees.messageMany trees.treeDeep trees.treeMany (m .0) t (m .1 .good) (d .good)
-        (sym (m .1 .bytes) ∙ d .bytes) in
-        let n : trees.Message l t = subst (trees.Message l) i (m .1) in
-        fits-message h t n w k ∙ sym (ap (λ (y : Bool). y && fits t (typeOf file r)) (message-tree t (n .good)));
+module _ {file : List ℕ} {q : ℕ} {t : Target} {l : List ℕ} {r : ℕ} {own : Verdict} {other : Refusal} {v : Verdict} (a : Allowed file q t v) where
+  pub let-not : {why : Refusal} → v ≡ Refused why → LetsIn file q t l r own other v
+  let-not {why} e = record {
+    tells = λ w i h f c. subst (λ (u : Verdict). Passed u l (λ k. allowed q (targetAs file t) (f k))) (sym e) (λ k.
+        sym (a .tells h (f k)) ∙ ap (λ (u : Verdict). onVerdict u (f k)) e);
   }
 
-pub ruleset fit-laws = (fit-none, fit-message)
+  module _ (d : v ≡ Done) where
+    pub let-own : {why : Refusal} → own ≡ Refused why → LetsIn file q t l r own other own
+    let-own {why} e = record {
+      tells = λ w i h f c. subst (λ (u : Verdict). Passed u l (λ k. allowed q (targetAs file t) (f k))) (sym e) (λ k.
+          passing a d h (f k) ∙ subst (λ (u : Verdict). Offered u l other (typeOf file r) f) e c k);
+    }
 
-module _ {to : declared.ReplyTo} where
-  pub received-nobody : to ≡ declared.ReplyTo.Nobody → meaning coded.Progress.FromNobody ≡ received (replyOf to)
-  received-nobody e = ap (λ (x : declared.ReplyTo). received (replyOf x)) (sym e)
+    pub let-come : {u : Verdict} → own ≡ Done → Passes l file r other u → LetsIn file q t l r own other u
+    let-come {u} e p = record {
+      tells = λ w i h f c. by u h f (p .tells w i f (subst (λ (z : Verdict). Offered z l other (typeOf file r) f) e c));
+    }
+      where
+        by : (u : Verdict) → StarterExists file t → (f : (Tree Value → Result) → Result) → Passed u l f → Passed u l (λ k. allowed q (targetAs file t) (f k))
+        by Done h f c = (c .0, c .1, λ k. passing a d h (f k) ∙ c .2 k)
+        by (Refused why) h f c = λ k. passing a d h (f k) ∙ c k
 
-  pub received-outsider : {k : ℕ} → to ≡ declared.ReplyTo.Outsider k → meaning (coded.Progress.FromOutsider k) ≡ received (replyOf to)
-  received-outsider e = ap (λ (x : declared.ReplyTo). received (replyOf x)) (sym e)
-
-  pub received-row : {q n r : ℕ} → to ≡ declared.ReplyTo.WaitingRow q n r → meaning (coded.Progress.FromRow q n r) ≡ received (replyOf to)
-  received-row e = ap (λ (x : declared.ReplyTo). received (replyOf x)) (sym e)
-
-pub ruleset received-laws = (received-nobody, received-outsider, received-row)
+pub ruleset let-laws = (let-not, let-own, let-come)
 
 -- ---- a slot that becomes a new session
 
@@ -164,13 +151,9 @@ scratch-living {n} {s} {s₁} k e f =
     let p : part s 0 slotSize ≡ slotBytes free = take-all slotSize s (omega (arith, l)) ∙ z in
     new-living s 0 (omega (arith, l)) (f ∙ begin-set s 0 (omega (arith, l)) p)
 
-pub start-tree-is : {file : List ℕ} {p n : ℕ} {s s₁ is l o : List ℕ} {x : Change} → n ≡ slotSize → s ≡ replicate n 0
-    → s₁ ≡ begun s 0 → is ≡ pathIds file p → Replaces s₁ 0 is l o x → StartTree file p l o x
-start-tree-is {file} {p} {n} {s} {s₁} {is} {l} {o} {x} k e f d h = record {
-  tells = λ w q m g.
-      subst (λ (y : Path). ChangedTo o x (replaceAt voidValue y m end)) (ap ids.pathOf d ∙ path-is file p)
-      (h .tells newSession m (scratch-living k e f) (ap ids.isPath d ∙ ids-path file w p q) g);
-}
+pub start-tree-is : {file : List ℕ} {p n : ℕ} {s s₁ l o : List ℕ} {x : Change} → n ≡ slotSize → s ≡ replicate n 0 → s₁ ≡ begun s 0
+    → ReplacesAt file p s₁ 0 l o x → StartTree file p l o x
+start-tree-is k e f h = record { tells = λ w q m g. h .tells w q newSession m (scratch-living k e f) g; small = h .small }
 
 made-with : (F : Forest Value) → trees.WellFormed trees.treeDeep trees.treeMany (tree trees.empty F)
     → WellMade (withTree newSession F)
@@ -205,233 +188,248 @@ store-start {s} {s₁} {s₂} {s₃} {s₄} {o} {slot} {n} {c} {k} {a} {after} h
       ∙ replace-again s slot (slotBytes (live newSession)) x (omega (arith, h)) (slot-size (live S₃) m₃ ∙ sym (slot-size (live newSession) new-made)))))));
 }
 
--- ---- a session started by its input's path
+-- ---- a session that starts, by its input's path
 
-kept : {file l t : List ℕ} {p n : ℕ} {x : Change} → StartTree file p l t x → x ≡ Change.Kept n → WellFormed file → p < pathCount file → (m : Tree Value)
-    → trees.Message l m → KeptTree t n (replaceAt voidValue (network.pathOf file p) m end)
-kept {file} {l} {t} {p} h e w lp m g = subst (λ (y : Change). ChangedTo t y (replaceAt voidValue (network.pathOf file p) m end)) e (h .tells w lp m g)
+tree-changed : {file l o : List ℕ} {p : ℕ} {x y : Change} → StartTree file p l o x → x ≡ y → WellFormed file → p < pathCount file → (m : Tree Value)
+    → trees.Message l m → ChangedTo o y (replaceAt voidValue (network.pathOf file p) m end)
+tree-changed {file} {l} {o} {p} h e w lp m g = subst (λ (y : Change). ChangedTo o y (replaceAt voidValue (network.pathOf file p) m end)) e (h .tells w lp m g)
 
-module _ {file s l t : List ℕ} {slot c k a p : ℕ} {after : Progress} {x : Change} (h : StartTree file p l t x) where
-  pub by-large : {o : Outcome} → x ≡ Change.TooLarge → o ≡ refusedBy Stuck → StartsBy file s slot c k a p after l s o
-  by-large {o} e f = record {
-    tells = λ w lc la lp free-slot m g.
-        let F = replaceAt voidValue (network.pathOf file p) m end in
-        let z : within F ≡ false = subst (λ (y : Change). ChangedTo t y F) e (h .tells w lp m g) in
-        subst (λ (b : Bool). KeptOr b s slot (startedBy c k a (network.pathOf file p) after m) s o) (sym z) (f, refl);
-  }
+module _ {file l o : List ℕ} {slot c k a p : ℕ} {x : Change} (h : StartTree file p l o x) where
+  pub by-large : x ≡ Change.TooLarge → StartsBy file slot c k a p l o (Admission.Refused Stuck)
+  by-large e = record { tells = λ w lc la lp m g. inl (refl, tree-changed h e w lp m g); storable = λ _ _. tt }
 
   module _ {n : ℕ} (e : x ≡ Change.Kept n) where
-    pub by-long : {s′ : List ℕ} {o : Outcome} → 1024 < n → StartsBy file s slot c k a p after l s′ o
-    by-long u = record { tells = λ w lc la lp free-slot m g. absurd (omega (arith, u, kept h e w lp m g .small)) }
+    pub by-far-choice : {y : Refusal} → 255 < c → StartsBy file slot c k a p l o (Admission.Refused y)
+    by-far-choice u = record { tells = λ w lc la lp m g. absurd (omega (arith, u, lc, counts-kept file w .behaviours)); storable = λ _ _. tt }
 
-    pub by-far-choice : {s′ : List ℕ} {o : Outcome} → 255 < c → StartsBy file s slot c k a p after l s′ o
-    by-far-choice u = record { tells = λ w lc la lp free-slot m g. absurd (omega (arith, u, lc, counts-kept file w .behaviours)) }
+    pub by-far-input : {y : Refusal} → 255 < a → StartsBy file slot c k a p l o (Admission.Refused y)
+    by-far-input u = record { tells = λ w lc la lp m g. absurd (omega (arith, u, la, counts-kept file w .behaviours)); storable = λ _ _. tt }
 
-    pub by-far-input : {s′ : List ℕ} {o : Outcome} → 255 < a → StartsBy file s slot c k a p after l s′ o
-    by-far-input u = record { tells = λ w lc la lp free-slot m g. absurd (omega (arith, u, la, counts-kept file w .behaviours)) }
-
-    pub by-kept : {s′ : List ℕ} {o : Outcome} → c ≤ 255 → a ≤ 255 → StoresStart s slot t n c k a after s′ → o ≡ doneWith 0
-        → StartsBy file s slot c k a p after l s′ o
-    by-kept {s′} {o} lc la d f = record {
-      tells = λ w _ _ lp free-slot m g.
-          let F = replaceAt voidValue (network.pathOf file p) m end in
-          let y = kept h e w lp m g in
-          subst (λ (b : Bool). KeptOr b s slot (startedBy c k a (network.pathOf file p) after m) s′ o) (sym (y .fits))
-          (f, d .tells F (y .bytes) (y .size) (y .made) free-slot, started-made F c k a after (y .made) (omega (arith, lc)) (omega (arith, la)));
+    pub by-kept : c ≤ 255 → a ≤ 255 → StartsBy file slot c k a p l o (Admission.Admitted (Arrival.Starts slot c k a n))
+    by-kept lc la = record {
+      tells = λ w _ _ lp m g. inr (n, refl, tree-changed h e w lp m g);
+      storable = λ u i. (u, omega (arith, lc), omega (arith, la), subst (λ (y : Change). keptBytes y ≤ treeRoom) e (h .small));
     }
 
-pub ruleset by-laws = (by-large, by-long, by-far-choice, by-far-input, by-kept)
+pub ruleset by-laws = (by-large, by-far-choice, by-far-input, by-kept)
 
--- ---- a session started by its input
+-- ---- by its input
 
-module _ (file s l s′ : List ℕ) (slot c k a : ℕ) (to : ReplyTo) {x : InputRow} {o : Outcome} (h : x ≡ inputRowOf file a) where
-  started-as : (y : InputRow) → x ≡ y
-      → (WellFormed file → c < behaviourCount file → a < behaviourCount file → InputKeptBy file (behaviourCount file) y → (m : Tree Value) → trees.Message l m
-      → StartedAs (inputWith file (behaviourOf file) a y) s slot c k to m s′ o) → Starts file s slot c k a to l s′ o
-  started-as y e f = record {
+module _ (file l o : List ℕ) (slot c k a : ℕ) {x : InputRow} {y : Admission} (h : x ≡ inputRowOf file a) where
+  started-as : (z : InputRow) → x ≡ z → (slot + slotSize ≤ 65536 → (i : ℕ) → StorableIf i l y)
+      → (WellFormed file → c < behaviourCount file → a < behaviourCount file → InputKeptBy file (behaviourCount file) z → (m : Tree Value) → trees.Message l m
+      → StartedAs (inputWith file (behaviourOf file) a z) slot c k a m o y) → Starts file slot c k a l o y
+  started-as z e u f = record {
     tells = λ w lc la m g.
         let i = input-is file w a (behaviourCount file) (record { exists = la; enough = omega arith }) h e in
-        subst (λ (z : Optional Input). StartedAs z s slot c k to m s′ o) (sym (i .0)) (f w lc la (i .1) m g);
+        subst (λ (z : Optional Input). StartedAs z slot c k a m o y) (sym (i .0)) (f w lc la (i .1) m g);
+    storable = u;
   }
 
-  pub start-one-way : {p q : ℕ} → x ≡ InputRow.OneWay p q → StartsBy file s slot c k a q done l s′ o → Starts file s slot c k a to l s′ o
-  start-one-way {p} {q} e d = started-as (InputRow.OneWay p q) e (λ w lc la i m g free-slot. d .tells w lc la (i .1) free-slot m g)
+  pub start-one-way : {p q : ℕ} → x ≡ InputRow.OneWay p q → StartsBy file slot c k a q l o y → Starts file slot c k a l o y
+  start-one-way {p} {q} e d = started-as (InputRow.OneWay p q) e (d .storable) (λ w lc la i m g. (refl, d .tells w lc la (i .1) m g))
 
-  pub start-request : {p q u v : ℕ} {after : Progress} → x ≡ InputRow.RequestResponse p q u v → after ≡ received to
-      → StartsBy file s slot c k a q after l s′ o → Starts file s slot c k a to l s′ o
-  start-request {p} {q} {u} {v} e f d = started-as (InputRow.RequestResponse p q u v) e (λ w lc la i m g free-slot.
-      subst (λ (z : Progress). Saved s slot (startedBy c k a (network.pathOf file q) z m) s′ o) f (d .tells w lc la (i .1) free-slot m g))
+  pub start-request : {p q u v : ℕ} → x ≡ InputRow.RequestResponse p q u v → StartsBy file slot c k a q l o y → Starts file slot c k a l o y
+  start-request {p} {q} {u} {v} e d =
+      started-as (InputRow.RequestResponse p q u v) e (d .storable) (λ w lc la i m g. (refl, d .tells w lc la (i .1) m g))
 
-  pub start-none : x ≡ InputRow.Nothing → o ≡ refusedBy MoveNotAllowed → s′ ≡ s → Starts file s slot c k a to l s′ o
-  start-none e f z = started-as InputRow.Nothing e (λ w lc la i m g. (f, z))
+pub start-none : {file l o : List ℕ} {slot c k a : ℕ} {x : InputRow} → x ≡ inputRowOf file a → x ≡ InputRow.Nothing
+    → Starts file slot c k a l o (Admission.Refused MoveNotAllowed)
+start-none {file} {l} {o} {slot} {c} {k} {a} h e = started-as file l o slot c k a h InputRow.Nothing e (λ _ _. tt) (λ w lc la i m g. refl)
 
 pub ruleset start-laws = (start-one-way, start-request, start-none)
 
--- ---- whether a started session keeps to its limits
-
-module _ {file l t : List ℕ} {p : ℕ} {x : Change} (h : StartTree file p l t x) where
-  pub path-kept : {n : ℕ} → x ≡ Change.Kept n → PathWithin file p l true
-  path-kept e = record { tells = λ w lp m g. sym (kept h e w lp m g .fits) }
-
-  pub path-large : x ≡ Change.TooLarge → PathWithin file p l false
-  path-large e = record {
-    tells = λ w lp m g. sym (subst (λ (y : Change). ChangedTo t y (replaceAt voidValue (network.pathOf file p) m end)) e (h .tells w lp m g));
-  }
-
-pub ruleset path-laws = (path-kept, path-large)
-
-module _ (file l : List ℕ) (a : ℕ) {x : InputRow} (h : x ≡ inputRowOf file a) where
-  within-as : (y : InputRow) {b : Bool} → x ≡ y
-      → (WellFormed file → InputKeptBy file (behaviourCount file) y → (c k : ℕ) (to : ReplyTo) (m : Tree Value) → trees.Message l m
-      → b ≡ startWithin (startWith c k (inputWith file (behaviourOf file) a y)) to m) → InputWithin file a l b
-  within-as y {b} e f = record {
-    tells = λ w la c k to m g.
-        let i = input-is file w a (behaviourCount file) (record { exists = la; enough = omega arith }) h e in
-        subst (λ (z : Optional Input). b ≡ startWithin (startWith c k z) to m) (sym (i .0)) (f w (i .1) c k to m g);
-  }
-
-  pub within-one-way : {p q : ℕ} {b : Bool} → x ≡ InputRow.OneWay p q → PathWithin file q l b → InputWithin file a l b
-  within-one-way {p} {q} e d = within-as (InputRow.OneWay p q) e (λ w i c k to m g. d .tells w (i .1) m g)
-
-  pub within-request : {p q u v : ℕ} {b : Bool} → x ≡ InputRow.RequestResponse p q u v → PathWithin file q l b → InputWithin file a l b
-  within-request {p} {q} {u} {v} e d = within-as (InputRow.RequestResponse p q u v) e (λ w i c k to m g. d .tells w (i .1) m g)
-
-  pub within-none : x ≡ InputRow.Nothing → InputWithin file a l true
-  within-none e = within-as InputRow.Nothing e (λ w i c k to m g. refl)
-
-pub ruleset input-within-laws = (within-one-way, within-request, within-none)
-
-module _ {file l : List ℕ} {t : Target} where
-  pub within-no-target : t ≡ Target.NoTarget → StartsWithin file t l true
-  unfolding targetAs
-  within-no-target e = record { tells = λ w se to m g. ap (λ (y : Target). startWithin (targetAs file y) to m) (sym e) }
-
-  pub within-full : t ≡ Target.QueueFull → StartsWithin file t l true
-  unfolding targetAs
-  within-full e = record { tells = λ w se to m g. ap (λ (y : Target). startWithin (targetAs file y) to m) (sym e) }
-
-  pub within-queued : t ≡ Target.Queued → StartsWithin file t l true
-  unfolding targetAs
-  within-queued e = record { tells = λ w se to m g. ap (λ (y : Target). startWithin (targetAs file y) to m) (sym e) }
-
-  pub within-starts : {c k a : ℕ} {b : Bool} → t ≡ Target.Starts c k a → InputWithin file a l b → StartsWithin file t l b
-  unfolding targetAs
-  within-starts {c} {k} {a} {b} e h = record {
-    tells = λ w se to m g.
-        h .tells w (subst (StarterExists file) e se .1) c k to m g ∙ ap (λ (y : Target). startWithin (targetAs file y) to m) (sym e);
-  }
-
-pub ruleset within-laws = (within-no-target, within-full, within-queued, within-starts)
-
 -- ---- a queue
 
-module _ {s l s′ : List ℕ} {slot i : ℕ} {to : ReplyTo} {o : Outcome} where
-  pub queue-far : 254 < i → Queues s slot i to l s′ o
-  queue-far u = record { tells = λ h m g. absurd (omega (arith, u, h)) }
+module _ {l : List ℕ} {slot i : ℕ} where
+  pub queue-far : {y : Refusal} → 254 < i → Queues slot i l (Admission.Refused y)
+  queue-far u = record { tells = λ h m g. absurd (omega (arith, u, h)); storable = λ _. tt }
 
-  pub queue-long : 336 < length l → Queues s slot i to l s′ o
-  queue-long u = record { tells = λ h m g. absurd (omega (arith, u, ap length (g .bytes), message-size m (g .good))) }
+  pub queue-long : {y : Refusal} → 336 < length l → Queues slot i l (Admission.Refused y)
+  queue-long u = record { tells = λ h m g. absurd (omega (arith, u, ap length (g .bytes), message-size m (g .good))); storable = λ _. tt }
 
-  pub queue-pushed : s′ ≡ pushed s slot i to (part l 0 (length l)) → o ≡ doneWith 0 → Queues s slot i to l s′ o
-  queue-pushed e f = record { tells = λ h m g. (f, e ∙ ap (pushed s slot i to) (take-all (length l) l (omega arith))) }
+  pub queue-room : i ≤ 254 → length l ≤ 336 → Queues slot i l (Admission.Admitted (Arrival.Queued slot))
+  queue-room u v = record { tells = λ h m g. refl; storable = λ w. (w, omega (arith, u), v) }
 
-pub ruleset queue-laws = (queue-far, queue-long, queue-pushed)
+pub ruleset queue-laws = (queue-far, queue-long, queue-room)
 
--- ---- delivering
+-- ---- placing
 
--- The slot of a session that keeps to its limits, or 18.
-saved-step : {s s′ : List ℕ} {G : State} {q n slot : ℕ} (S : Session) {o : Outcome} → Holding s G → q < 4 → n < 4 → slot ≡ slotStart q n → (b : Bool)
-    → KeptOr b s slot S s′ o → (out : List ℕ)
-    → _≡_ {A = Step} (record { outcome = o; state = s′; out = out }) (finish s out (require b Stuck (moved (setSlot G q n (live S)) [])))
-saved-step {s} {s′} {G} {q} {n} {slot} S {o} h i j e true d out =
-    let t : s′ ≡ stateBytes (setSlot G q n (live S)) =
-    d .1 ∙ (ap (λ (k : ℕ). withPart s k (slotBytes (live S))) e ∙ holding-bytes h q n (live S) i j (d .2)) in
-    ap (λ (y : Outcome). record { outcome = y; state = s′; out = out }) (d .0) ∙ ap (λ (y : List ℕ). record { outcome = doneWith 0; state = y; out = out }) t
-saved-step {s} {s′} {G} {q} {n} {slot} S {o} h i j e false d out =
-    ap (λ (y : Outcome). record { outcome = y; state = s′; out = out }) (d .0)
-    ∙ ap (λ (y : List ℕ). record { outcome = refusedBy Stuck; state = y; out = out }) (d .1)
-
-is-service : (file : List ℕ) (i : ℕ) {b q : ℕ} → b ≡ operationService file i → q ≡ b → operationOf file i .service ≡ q
+is-service : (file : List ℕ) (i : ℕ) {q : ℕ} → q ≡ operationService file i → operationOf file i .service ≡ q
 unfolding operationOf
-is-service file i x y = sym (y ∙ x)
+is-service file i x = sym x
 
-nowhere : {file l s : List ℕ} {i n : ℕ} {t : Target} {to : ReplyTo} {o : Outcome} → (4 ≤ operationOf file i .service) ⊎ (4 ≤ n)
-    → o ≡ refusedBy MoveNotAllowed → Delivers file i n t to l s s o
-nowhere {file} {l} {s} {i} {n} {t} {to} {o} h e = record {
-  tells = λ w li G g se te m k out.
-      let z : targetAs file t ≡ definition.noTarget = te ∙ target-far file G (operationOf file i) n w h in
-      ap (λ (u : Outcome). record { outcome = u; state = s; out = out }) e
-      ∙ ap (λ (u : definition.Target). finish s out (deliver G (operationOf file i) n u to m)) (sym z);
-}
+at-slot : (file : List ℕ) (i n q slot : ℕ) → q ≡ operationService file i → q ≤ 3 → n ≤ 3 → slot ≡ slotStart q n → AtSlot (operationOf file i) n slot
+at-slot file i n q slot x lq ln c =
+    (c ∙ ap (λ (j : ℕ). slotStart j n) (sym (is-service file i x)), omega (arith, lq, is-service file i x), omega (arith, ln))
 
-module _ {file l s : List ℕ} {i n b q : ℕ} {t : Target} {to : ReplyTo} (x : b ≡ operationService file i) (y : q ≡ b) where
-  pub far-service : {o : Outcome} → 3 < q → o ≡ refusedBy MoveNotAllowed → Delivers file i n t to l s s o
-  far-service u e = nowhere (inl (omega (arith, u, is-service file i x y))) e
+inside : (q n slot : ℕ) → q ≤ 3 → n ≤ 3 → slot ≡ slotStart q n → slot + slotSize ≤ 65536
+inside q n slot lq ln c = omega (arith, c, lq, ln)
 
-  pub far-session : {o : Outcome} → 3 < n → o ≡ refusedBy MoveNotAllowed → Delivers file i n t to l s s o
-  far-session u e = nowhere (inr (omega (arith, u))) e
-
-  pub to-none : {o : Outcome} → t ≡ Target.NoTarget → o ≡ refusedBy MoveNotAllowed → Delivers file i n t to l s s o
-  unfolding targetAs
-  to-none {o} f e = record {
-    tells = λ w li G g se te m k out.
-        ap (λ (u : Outcome). record { outcome = u; state = s; out = out }) e
-        ∙ ap (λ (u : Target). finish s out (deliver G (operationOf file i) n (targetAs file u) to m)) (sym f);
+module _ {file l o : List ℕ} {i n q : ℕ} {t : Target} (x : q ≡ operationService file i) where
+  nowhere : (4 ≤ operationOf file i .service) ⊎ (4 ≤ n) → Places file i n t l o (Admission.Refused MoveNotAllowed)
+  nowhere h = record {
+    tells = λ w li se G te m g gone to.
+        ap (λ (u : definition.Target). deliver gone (operationOf file i) n u to m) (te ∙ target-far file G (operationOf file i) n w h);
+    storable = tt;
   }
 
-  pub to-full : {o : Outcome} → t ≡ Target.QueueFull → o ≡ refusedBy QueueFull → Delivers file i n t to l s s o
+  pub far-service : 3 < q → Places file i n t l o (Admission.Refused MoveNotAllowed)
+  far-service u = nowhere (inl (omega (arith, u, is-service file i x)))
+
+  pub far-session : 3 < n → Places file i n t l o (Admission.Refused MoveNotAllowed)
+  far-session u = nowhere (inr (omega (arith, u)))
+
+  pub to-none : t ≡ Target.NoTarget → Places file i n t l o (Admission.Refused MoveNotAllowed)
   unfolding targetAs
-  to-full {o} f e = record {
-    tells = λ w li G g se te m k out.
-        ap (λ (u : Outcome). record { outcome = u; state = s; out = out }) e
-        ∙ ap (λ (u : Target). finish s out (deliver G (operationOf file i) n (targetAs file u) to m)) (sym f);
+  to-none f = record {
+    tells = λ w li se G te m g gone to. ap (λ (u : Target). deliver gone (operationOf file i) n (targetAs file u) to m) f;
+    storable = tt;
   }
 
-  module _ {s′ : List ℕ} {slot : ℕ} {o : Outcome} (lq : q ≤ 3) (ln : n ≤ 3) (c : slot ≡ slotStart q n) where
-    pub to-queue : t ≡ Target.Queued → Queues s slot i to l s′ o → Delivers file i n t to l s s′ o
-    unfolding targetAs operationOf
-    to-queue f h = record {
-      tells = λ wf li G g se te m k out.
-          let op = operationOf file i in
-          let at : slot ≡ slotStart (op .service) n = c ∙ ap (λ (j : ℕ). slotStart j n) (sym (is-service file i x y)) in
-          let below : op .service < 4 = omega (arith, lq, is-service file i x y) in
-          let z = subst (Known G op n) (sym te ∙ ap (targetAs file) f) (target-known (networkOf file) G op n) in
-          let S = z .0 in
-          let r = h .tells (omega (arith, li, counts-kept file wf .operations)) m k in
-          let made : WellMade S = subst (λ (u : Slot). MadeSlot u) (z .1) (g .made (op .service) n below (omega (arith, ln))) in
-          let new : Queued = record { operation = i; message = m; replyTo = to } in
-          let bytes : s′ ≡ stateBytes (setSlot G (op .service) n (live (withQueue S (S .queue ++ (new ∷ []))))) =
-          r .1 ∙ (ap (λ (j : ℕ). pushed s j i to l) at ∙ (ap (λ (u : List ℕ). pushed u (slotStart (op .service) n) i to l) (g .bytes)
-          ∙ push-state (holding-sized g) (op .service) n below (omega (arith, ln)) (z .1) made i to m l (z .2) (k .bytes) (k .good))) in
-          ap (λ (u : Outcome). record { outcome = u; state = s′; out = out }) (r .0)
-          ∙ (ap (λ (u : List ℕ). record { outcome = doneWith 0; state = u; out = out }) bytes
-          ∙ (ap (λ (u : Slot). finish s out (onLive u (λ S. moved (setSlot G (op .service) n (live (withQueue S (S .queue ++ (new ∷ []))))) []))) (sym (z .1))
-          ∙ ap (λ (u : Target). finish s out (deliver G op n (targetAs file u) to m)) (sym f)));
+  pub to-full : t ≡ Target.QueueFull → Places file i n t l o (Admission.Refused QueueFull)
+  unfolding targetAs
+  to-full f = record {
+    tells = λ w li se G te m g gone to. ap (λ (u : Target). deliver gone (operationOf file i) n (targetAs file u) to m) f;
+    storable = tt;
+  }
+
+  module _ {slot : ℕ} (lq : q ≤ 3) (ln : n ≤ 3) (c : slot ≡ slotStart q n) where
+    pub to-queue : {y : Admission} → t ≡ Target.Queued → Queues slot i l y → Places file i n t l o y
+    unfolding targetAs
+    to-queue {y} f h = record {
+      tells = λ w li se G te m g.
+          subst (PlacedAs file (operationOf file i) n (targetAs file t) m o) (sym (h .tells (omega (arith, li, counts-kept file w .operations)) m g))
+          (at-slot file i n q slot x lq ln c, ap (targetAs file) f);
+      storable = h .storable (inside q n slot lq ln c);
     }
 
-    pub to-start : {e k a : ℕ} → t ≡ Target.Starts e k a → Starts file s slot e k a to l s′ o → Delivers file i n t to l s s′ o
+    pub to-start : {e k a : ℕ} {y : Admission} → t ≡ Target.Starts e k a → Starts file slot e k a l o y → Places file i n t l o y
     unfolding targetAs
-    to-start {e} {k} {a} f h = record {
-      tells = λ wf li G g se te m u out.
+    to-start {e} {k} {a} {y} f h = record {
+      tells = λ w li se G te m g.
           let rows = subst (StarterExists file) f se in
-          by G g m out te (inputOf (behaviourOf file a)) refl (h .tells wf (rows .0) (rows .1) m u)
-          ∙ ap (λ (y : Target). finish s out (deliver G (operationOf file i) n (targetAs file y) to m)) (sym f);
+          subst (λ (z : Target). PlacedAs file (operationOf file i) n (targetAs file z) m o y) (sym f)
+          (by w (rows .1) m (inputOf (behaviourOf file a)) refl (h .tells w (rows .0) (rows .1) m g));
+      storable = h .storable (inside q n slot lq ln c) i;
     }
       where
-        by : (G : State) → Holding s G → (m : Tree Value) (out : List ℕ) → targetAs file t ≡ definition.target (networkOf file) G (operationOf file i) n
-            → (z : Optional Input) → inputOf (behaviourOf file a) ≡ z → StartedAs z s slot e k to m s′ o
-            → _≡_ {A = Step} (record { outcome = o; state = s′; out = out }) (finish s out (deliver G (operationOf file i) n (startWith e k z) to m))
-        by G g m out te none j r =
-            ap (λ (z : Outcome). record { outcome = z; state = s′; out = out }) (r .0)
-            ∙ ap (λ (z : List ℕ). record { outcome = refusedBy MoveNotAllowed; state = z; out = out }) (r .1)
-        by G g m out te (some z) j r =
-            let op = operationOf file i in
-            let at : slot ≡ slotStart (op .service) n = c ∙ ap (λ (j : ℕ). slotStart j n) (sym (is-service file i x y)) in
-            let below : op .service < 4 = omega (arith, lq, is-service file i x y) in
-            let known = subst (Known G op n) (sym te ∙ (ap (targetAs file) f ∙ ap (startWith e k) j)) (target-known (networkOf file) G op n) in
-            let empty : part s slot slotSize ≡ slotBytes free =
-            ap (λ (q : ℕ). part s q slotSize) at ∙ (holding-part g (op .service) n below (omega (arith, ln)) ∙ ap slotBytes known) in
-            let S = started e k z to m in
-            saved-step S g below (omega (arith, ln)) at (within (S .tree)) (r empty) out
+        by : WellFormed file → a < behaviourCount file → (m : Tree Value) (z : Optional Input) → inputOf (behaviourOf file a) ≡ z
+            → StartedAs z slot e k a m o y → PlacedAs file (operationOf file i) n (startWith e k z) m o y
+        by w la m none j r = subst (PlacedAs file (operationOf file i) n definition.noTarget m o) (sym r) (λ gone to. refl)
+        by w la m (some z) j (ir, inl (r, u)) =
+            subst (PlacedAs file (operationOf file i) n (definition.starts e k z) m o) (sym r) (λ gone to.
+            ap (λ (b : Bool). require b Stuck (moved (setSlot gone (operationOf file i .service) n (live (started e k z to m))) [])) u)
+        by w la m (some z) j (ir, inr (len, r, u)) =
+            subst (PlacedAs file (operationOf file i) n (definition.starts e k z) m o) (sym r) (at-slot file i n q slot x lq ln c, (z, refl, j, ir, la, u))
 
-pub ruleset deliver-laws = (far-service, far-session, to-none, to-full, to-queue, to-start)
+pub ruleset place-laws = (far-service, far-session, to-none, to-full, to-queue, to-start)
+
+-- ---- admitting
+
+request-below : (file : List ℕ) (i : ℕ) {r : ℕ} → r ≡ requestType file i → WellFormed file → i < operationCount file → r < typeCount file
+request-below file i e w l = subst (λ (j : ℕ). j < typeCount file) (sym e) (operation-kept file w i l .request .exists)
+
+request-is : (file : List ℕ) (i : ℕ) {r : ℕ} → r ≡ requestType file i → typeOf file r ≡ operationOf file i .request
+unfolding operationOf
+request-is file i e = ap (typeOf file) e
+
+module _ {file s l : List ℕ} {i n : ℕ} {own : Verdict} {other : Refusal} {t : Target} {q b r : ℕ} {v : Verdict} (tg : Targets file s i n t)
+    (sb : b ≡ operationService file i) (sq : q ≡ b) (rt : r ≡ requestType file i) (lt : LetsIn file q t l r own other v) where
+  let-in : WellFormed file → i < operationCount file → (G : State) → StateOf file s G → (f : (Tree Value → Result) → Result)
+      → Offered own l other (operationOf file i .request) f
+      → Passed v l (λ k. allowed (operationOf file i .service) (definition.target (networkOf file) G (operationOf file i) n) (f k))
+  let-in w li G st f c =
+      let o = operationOf file i in
+      subst (λ (z : definition.Target). Passed v l (λ k. allowed (o .service) z (f k))) (target-is tg w st)
+      (subst (λ (z : ℕ). Passed v l (λ k. allowed z (targetAs file t) (f k))) (sym (is-service file i (sq ∙ sb)))
+      (lt .tells w (request-below file i rt w li) (tg .exists w) f (subst (λ (z : MessageType). Offered own l other z f) (sym (request-is file i rt)) c)))
+
+  pub admit-not : {why : Refusal} {o : List ℕ} → v ≡ Refused why → Admits file s i n l own other o (Admission.Refused why)
+  admit-not {why} e = record {
+    tells = λ w li G st f c gone to.
+        subst (λ (u : Verdict). Passed u l (λ k. allowed (operationOf file i .service) (definition.target (networkOf file) G (operationOf file i) n) (f k))) e
+        (let-in w li G st f c) (deliver gone (operationOf file i) n (definition.target (networkOf file) G (operationOf file i) n) to);
+    storable = tt;
+  }
+
+  pub admit-in : {o : List ℕ} {x : Admission} → v ≡ Done → Places file i n t l o x → Admits file s i n l own other o x
+  admit-in {o} {x} e p = record {
+    tells = λ w li G st f c.
+        let op = operationOf file i in
+        let T = definition.target (networkOf file) G op n in
+        let d = subst (λ (u : Verdict). Passed u l (λ k. allowed (op .service) T (f k))) e (let-in w li G st f c) in
+        by G f (d .0) (d .1) (d .2) x
+        (subst (λ (z : definition.Target). PlacedAs file op n z (d .0) o x) (target-is tg w st) (p .tells w li (tg .exists w) G (target-is tg w st) (d .0) (d .1)));
+    storable = p .storable;
+  }
+    where
+      by : (G : State) (f : (Tree Value → Result) → Result) (m : Tree Value) → trees.Message l m
+          → ((k : Tree Value → Result) → allowed (operationOf file i .service) (definition.target (networkOf file) G (operationOf file i) n) (f k) ≡ k m)
+          → (x : Admission) → PlacedAs file (operationOf file i) n (definition.target (networkOf file) G (operationOf file i) n) m o x
+          → AdmittedAs file G i n l o f x
+      by G f m g d (Admission.Refused why) p = λ gone to.
+          d (deliver gone (operationOf file i) n (definition.target (networkOf file) G (operationOf file i) n) to) ∙ p gone to
+      by G f m g d (Admission.Admitted y) p = (
+        m,
+        g,
+        p,
+        λ gone to.
+            d (deliver gone (operationOf file i) n (definition.target (networkOf file) G (operationOf file i) n) to),
+      )
+
+pub ruleset admit-laws = (admit-not, admit-in)
+
+-- ---- storing
+
+module _ {file l o s : List ℕ} {i : ℕ} {to : Optional Destination} {y : Arrival} where
+  pub store-queued : {s′ : List ℕ} {slot : ℕ} → y ≡ Arrival.Queued slot → s′ ≡ pushed s slot i to (part l 0 (length l)) → Stores file i to l o y s s′
+  unfolding operationOf
+  store-queued {s′} {slot} e p = record {
+    tells = λ w li G g n t kn m k ar s₀ out.
+        let op = operationOf file i in
+        let at = subst (ArrivesAs file op n t m o) e ar in
+        let z = subst (Known G op n) (at .1) kn in
+        let S = z .0 in
+        let made : WellMade S = subst (λ (u : Slot). MadeSlot u) (z .1) (g .made (op .service) n (at .0 .1) (at .0 .2)) in
+        let new : Queued = record { operation = i; message = m; replyTo = to } in
+        let bytes : s′ ≡ stateBytes (setSlot G (op .service) n (live (withQueue S (S .queue ++ (new ∷ []))))) =
+        p ∙ (ap (pushed s slot i to) (take-all (length l) l (omega arith)) ∙ (ap (λ (j : ℕ). pushed s j i to l) (at .0 .0)
+        ∙ (ap (λ (u : List ℕ). pushed u (slotStart (op .service) n) i to l) (g .bytes)
+        ∙ push-state (holding-sized g) (op .service) n (at .0 .1) (at .0 .2) (z .1) made i to m l (z .2) (k .bytes) (k .good)))) in
+        ap (λ (u : List ℕ). record { outcome = doneWith 0; state = u; out = out }) bytes
+        ∙ (ap (λ (u : Slot). finish s₀ out (onLive u (λ S. moved (setSlot G (op .service) n (live (withQueue S (S .queue ++ (new ∷ []))))) []))) (sym (z .1))
+        ∙ ap (λ (u : definition.Target). finish s₀ out (deliver G op n u to m)) (sym (at .1)));
+  }
+
+  pub store-starts : {s′ : List ℕ} {slot c k a len : ℕ} {after : Progress} → y ≡ Arrival.Starts slot c k a len → Storable i l y → after ≡ receivedBy to
+      → StoresStart s slot o len c k a after s′ → Stores file i to l o y s s′
+  store-starts {s′} {slot} {c} {k} {a} {len} {after} e u f d = record {
+    tells = λ w li G g n t kn m _ ar s₀ out.
+        let op = operationOf file i in
+        let at = subst (ArrivesAs file op n t m o) e ar in
+        let room = subst (Storable i l) e u in
+        let z = at .1 .0 in
+        let F = replaceAt voidValue (z .into) m end in
+        let tree-kept = at .1 .5 in
+        let isFree : G (op .service) n ≡ free = subst (Known G op n) (at .1 .1) kn in
+        let empty : part s slot slotSize ≡ slotBytes free =
+        ap (λ (j : ℕ). part s j slotSize) (at .0 .0) ∙ (holding-part g (op .service) n (at .0 .1) (at .0 .2) ∙ ap slotBytes isFree) in
+        let S = started c k z to m in
+        let same : startedWith F c k a after ≡ S =
+        ap (λ (p : Progress). startedWith F c k a p) f ∙ ap (λ (r : ℕ). startedWith F c k r (receivedBy to)) (sym (at .1 .3)) in
+        let made : WellMade S = subst WellMade same (started-made F c k a after (tree-kept .made) (room .1) (room .2)) in
+        let bytes : s′ ≡ stateBytes (setSlot G (op .service) n (live S)) =
+        d .tells F (tree-kept .bytes) (tree-kept .size) (tree-kept .made) empty
+        ∙ (ap (λ (x : Session). withPart s slot (slotBytes (live x))) same ∙ (ap (λ (j : ℕ). withPart s j (slotBytes (live S))) (at .0 .0)
+        ∙ holding-bytes g (op .service) n (live S) (at .0 .1) (at .0 .2) made)) in
+        ap (λ (x : List ℕ). record { outcome = doneWith 0; state = x; out = out }) bytes
+        ∙ (ap (λ (b : Bool). finish s₀ out (require b Stuck (moved (setSlot G (op .service) n (live S)) []))) (sym (tree-kept .fits))
+        ∙ ap (λ (x : definition.Target). finish s₀ out (deliver G op n x to m)) (sym (at .1 .1)));
+  }
+
+-- What the stores ask for.
+pub room : (i : ℕ) (l : List ℕ) {y z : Arrival} → Storable i l y → y ≡ z → Storable i l z
+room i l u e = subst (Storable i l) e u
+
+pub ruleset store-laws = (store-queued, store-starts)

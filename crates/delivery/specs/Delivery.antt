@@ -1,47 +1,42 @@
 -- What the functions say of a message that is delivered. 01, Moves: "queued at a live one, or starting a free 1 to 3, whose first starter
 -- branch of that operation receives it"; 18: "a message that passes 19 would take a tree past 48 nodes or 6 levels".
 use mathlib.Core.Path.{_≡_}
-use mathlib.Core.Bool.{Bool, true, false, _&&_}
+use mathlib.Core.Bool.{false}
 use mathlib.Core.List.{List}
 use mathlib.Core.Logic.{_⊎_}
-use Prim.Native.Nat.{ℕ, _<_, _≤_}
+use Prim.Native.Nat.{ℕ, _+_, _<_, _≤_}
 use lib.ListN.{length, take}
 use Rattle.forest.specs.Forest.{Forest, end, Tree, tree}
 use Rattle.forest.specs.Path.{replaceAt}
 use Rattle.scalar.specs.Value.{Value}
 use Rattle.wire.specs.Wire.{part, withPart}
+use Rattle.refusal.specs.declared.Refusal.{Refusal}
 use Rattle.refusal.specs.declared.Refusal.the-variants.{MoveNotAllowed, Stuck}
 use Rattle.refusal.specs.declared.Verdict.{Verdict}
 use Rattle.refusal.specs.declared.Verdict.the-variants.{Done, Refused}
-use Rattle.refusal.specs.declared.Outcome.{Outcome}
-use Rattle.refusal.specs.Refusal.{doneWith, refusedBy}
-use Rattle.syntax.specs.Syntax.{Optional, none, some}
+use Rattle.refusal.specs.Refusal.{doneWith}
+use Rattle.syntax.specs.Syntax.{MessageType, Operation, Optional, none, some}
 use Rattle.syntax.specs.Rows.{Input, inputOf}
 use Rattle.tree.specs.Encode as trees
-use Rattle.subtyping.specs.Own.{fits}
 use Rattle.typing.specs.Environment.{within}
 use Rattle.network.specs.Form.{WellFormed}
 use Rattle.network.specs.Layout.{pathCount, typeCount, behaviourCount, operationCount}
 use Rattle.network.specs.Decode.{pathOf, typeOf, behaviourOf, operationOf, networkOf}
-use Rattle.state.specs.Places.{slotSize}
-use Rattle.state.specs.Session.{ReplyTo, Progress, taken, advance, Session, withTree, withProgress, free, live, State, newSession}
-use Rattle.state.specs.Bytes.{treeBytes, slotBytes, stateBytes}
-use Rattle.state.specs.Shape.{WellMade, MadeSlot}
+use Rattle.state.specs.Places.{slotSize, treeRoom, messageRoom, slotStart}
+use Rattle.state.specs.Session.{Destination, Progress, taken, advance, Session, withTree, withProgress, free, live, State, newSession}
+use Rattle.state.specs.Bytes.{treeBytes, slotBytes}
 use Rattle.moves.specs.Targets as definition
-use Rattle.moves.specs.Moves.{Result, refused, require, allowed, voidValue, isMessageTree, startedBy, started, deliver}
+use Rattle.moves.specs.Moves.{Result, refused, require, allowed, voidValue, deliver}
 use Rattle.moves.specs.Step.{Step, finish}
 use Rattle.session_trees.specs.declared.Change.{Change}
-use Rattle.session_trees.specs.Changing.{ChangedTo}
+use Rattle.session_trees.specs.Changing.{KeptTree, ChangedTo, keptBytes}
 use Rattle.targets.specs.declared.Target.{Target}
-use Rattle.targets.specs.Answers.{startWith, passesInput, targetAs, StarterExists}
-use Rattle.queues.specs.Queue.{pushed}
-
--- The bytes s are those of the state G, whose slots are those of sessions. Every state of a file's shape is such a state, and so is one in which
--- the sender of a message has gone on.
-pub record Holding (s : List ℕ) (G : State) : Type 0 where
-  pub bytes : s ≡ stateBytes G
-  pub made : (q n : ℕ) → q < 4 → n < 4 → MadeSlot (G q n)
-  pub elsewhere : (q n : ℕ) → (4 ≤ q) ⊎ (4 ≤ n) → G q n ≡ free
+use Rattle.targets.specs.Answers.{passesInput, targetAs, StarterExists}
+use Rattle.fitting.specs.Fitting.{Comes, Passed}
+use Rattle.moving.specs.Made.{StateOf}
+use Rattle.moving.specs.Holding.{Holding}
+use Rattle.delivery.specs.declared.Arrival.{Arrival}
+use Rattle.delivery.specs.declared.Admission.{Admission}
 
 -- A verdict before the rest of a move.
 abbrev pub onVerdict : Verdict → Result → Result
@@ -56,14 +51,103 @@ pub record Permitted (file : List ℕ) (q a : ℕ) (v : Verdict) : Type 0 where
 pub record Allowed (file : List ℕ) (q : ℕ) (t : Target) (v : Verdict) : Type 0 where
   pub tells : StarterExists file t → (r : Result) → onVerdict v r ≡ allowed q (targetAs file t) r
 
--- 19: "A message doesn't fit its input's request type ..". The bytes are those of any tree that a session can hold.
-pub record MustFit (l file : List ℕ) (r : ℕ) (x : Bool) : Type 0 where
-  pub tells : WellFormed file → r < typeCount file → (t : Tree Value) → trees.Encodes trees.treeDeep trees.treeMany l t
-      → x ≡ (isMessageTree t && fits t (typeOf file r))
+-- What the message itself answers, before its type is tried: a refusal, or bytes that come to the type t.
+abbrev pub Offered : Verdict → List ℕ → Refusal → MessageType → ((Tree Value → Result) → Result) → Type 0
+Offered Done l other t f = Comes l other t f
+Offered (Refused why) l other t f = (k : Tree Value → Result) → f k ≡ refused why
+
+-- 15, 16, the message's own answer, 17 and 19, in this order.
+pub record LetsIn (file : List ℕ) (q : ℕ) (t : Target) (l : List ℕ) (r : ℕ) (own : Verdict) (other : Refusal) (v : Verdict) : Type 0 where
+  pub tells : WellFormed file → r < typeCount file → StarterExists file t → (f : (Tree Value → Result) → Result) → Offered own l other (typeOf file r) f
+      → Passed v l (λ k. allowed q (targetAs file t) (f k))
 
 -- The tree of a session that starts with a message into the path of P row p.
 pub record StartTree (file : List ℕ) (p : ℕ) (l o : List ℕ) (x : Change) : Type 0 where
   pub tells : WellFormed file → p < pathCount file → (m : Tree Value) → trees.Message l m → ChangedTo o x (replaceAt voidValue (pathOf file p) m end)
+  pub small : keptBytes x ≤ treeRoom
+
+-- Where the message m goes from its target, in session n of the service of o: the slot, and of a session that starts its tree, in o′.
+abbrev pub AtSlot : Operation → ℕ → ℕ → Type 0
+AtSlot o n slot = (slot ≡ slotStart (o .service) n) × (o .service < 4) × (n < 4)
+
+abbrev pub ArrivesAs : List ℕ → Operation → ℕ → definition.Target → Tree Value → List ℕ → Arrival → Type 0
+ArrivesAs file o n t m o′ (Arrival.Queued slot) = AtSlot o n slot × (t ≡ definition.queued)
+ArrivesAs file o n t m o′ (Arrival.Starts slot c k a len) =
+    AtSlot o n slot × ((i : Input) × (t ≡ definition.starts c k i) × (inputOf (behaviourOf file a) ≡ some i) × (i .row ≡ a)
+    × (a < behaviourCount file) × KeptTree o′ len (replaceAt voidValue (i .into) m end))
+
+-- There is room for it: in the queue's entry of O row i, in the slot's tree and rows.
+abbrev pub Storable : ℕ → List ℕ → Arrival → Type 0
+Storable i l (Arrival.Queued slot) = (slot + slotSize ≤ 65536) × (i < 255) × (length l ≤ messageRoom)
+Storable i l (Arrival.Starts slot c k a len) = (slot + slotSize ≤ 65536) × (c < 256) × (a < 256) × (len ≤ treeRoom)
+
+abbrev pub StorableIf : ℕ → List ℕ → Admission → Type 0
+StorableIf i l (Admission.Refused why) = Unit {0}
+StorableIf i l (Admission.Admitted y) = Storable i l y
+
+-- A message is queued at a live session with room, and starts a free one.
+abbrev pub Known : State → Operation → ℕ → definition.Target → Type 0
+Known G o n definition.noTarget = Unit {0}
+Known G o n definition.queueFull = Unit {0}
+Known G o n definition.queued = (S : Session) × (G (o .service) n ≡ live S) × (length (S .queue) < 4)
+Known G o n (definition.starts c k i) = G (o .service) n ≡ free
+
+-- A session that starts with the tree F, which stands in o; or 18 past its limits.
+abbrev pub StartsOr18 : Forest Value → ℕ → ℕ → ℕ → ℕ → List ℕ → Admission → Type 0
+StartsOr18 F slot c k a o x =
+    ((x ≡ Admission.Refused Stuck) × (within F ≡ false)) ⊎ ((len : ℕ) × (x ≡ Admission.Admitted (Arrival.Starts slot c k a len)) × KeptTree o len F)
+
+-- By its input's path; by its input, 15 without one.
+pub record StartsBy (file : List ℕ) (slot c k a p : ℕ) (l o : List ℕ) (x : Admission) : Type 0 where
+  pub tells : WellFormed file → c < behaviourCount file → a < behaviourCount file → p < pathCount file → (m : Tree Value) → trees.Message l m
+      → StartsOr18 (replaceAt voidValue (pathOf file p) m end) slot c k a o x
+  pub storable : slot + slotSize ≤ 65536 → (i : ℕ) → StorableIf i l x
+
+abbrev pub StartedAs : Optional Input → ℕ → ℕ → ℕ → ℕ → Tree Value → List ℕ → Admission → Type 0
+StartedAs none slot c k a m o x = x ≡ Admission.Refused MoveNotAllowed
+StartedAs (some i) slot c k a m o x = (i .row ≡ a) × StartsOr18 (replaceAt voidValue (i .into) m end) slot c k a o x
+
+pub record Starts (file : List ℕ) (slot c k a : ℕ) (l o : List ℕ) (x : Admission) : Type 0 where
+  pub tells : WellFormed file → c < behaviourCount file → a < behaviourCount file → (m : Tree Value) → trees.Message l m
+      → StartedAs (inputOf (behaviourOf file a)) slot c k a m o x
+  pub storable : slot + slotSize ≤ 65536 → (i : ℕ) → StorableIf i l x
+
+-- One more message of O row i in the queue of the slot's session.
+pub record Queues (slot i : ℕ) (l : List ℕ) (x : Admission) : Type 0 where
+  pub tells : i < 255 → (m : Tree Value) → trees.Message l m → x ≡ Admission.Admitted (Arrival.Queued slot)
+  pub storable : slot + slotSize ≤ 65536 → StorableIf i l x
+
+-- A message of the input of O row i that was let in, by its target t at session n: where it goes, or what moves' `deliver` refuses in any state.
+abbrev pub PlacedAs : List ℕ → Operation → ℕ → definition.Target → Tree Value → List ℕ → Admission → Type 0
+PlacedAs file o n t m o′ (Admission.Refused why) = (gone : State) (to : Optional Destination) → deliver gone o n t to m ≡ refused why
+PlacedAs file o n t m o′ (Admission.Admitted y) = ArrivesAs file o n t m o′ y
+
+pub record Places (file : List ℕ) (i n : ℕ) (t : Target) (l o : List ℕ) (x : Admission) : Type 0 where
+  pub tells : WellFormed file → i < operationCount file → StarterExists file t → (G : State)
+      → targetAs file t ≡ definition.target (networkOf file) G (operationOf file i) n → (m : Tree Value) → trees.Message l m
+      → PlacedAs file (operationOf file i) n (targetAs file t) m o x
+  pub storable : StorableIf i l x
+
+-- moves' `admit`, where f is what the message answers and then its test by 19.
+abbrev pub admitting : List ℕ → State → ℕ → ℕ → ((Tree Value → Result) → Result) → State → Optional Destination → Result
+admitting file G i n f gone to =
+    let o = operationOf file i in
+    let t = definition.target (networkOf file) G o n in
+    allowed (o .service) t (f (deliver gone o n t to))
+
+-- It is refused in any state in which the sender has gone on; or it delivers the message m of l in any.
+abbrev pub AdmittedAs : List ℕ → State → ℕ → ℕ → List ℕ → List ℕ → ((Tree Value → Result) → Result) → Admission → Type 0
+AdmittedAs file G i n l o f (Admission.Refused why) = (gone : State) (to : Optional Destination) → admitting file G i n f gone to ≡ refused why
+AdmittedAs file G i n l o f (Admission.Admitted y) =
+    (m : Tree Value) × trees.Message l m
+    × ArrivesAs file (operationOf file i) n (definition.target (networkOf file) G (operationOf file i) n) m o y
+    × ((gone : State) (to : Optional Destination) → admitting file G i n f gone to
+    ≡ deliver gone (operationOf file i) n (definition.target (networkOf file) G (operationOf file i) n) to m)
+
+pub record Admits (file s : List ℕ) (i n : ℕ) (l : List ℕ) (own : Verdict) (other : Refusal) (o : List ℕ) (x : Admission) : Type 0 where
+  pub tells : WellFormed file → i < operationCount file → (G : State) → StateOf file s G → (f : (Tree Value → Result) → Result)
+      → Offered own l other (operationOf file i .request) f → AdmittedAs file G i n l o f x
+  pub storable : StorableIf i l x
 
 -- The session with the tree F, the branch k of the choice c taken and the row a at `after`.
 abbrev pub startedWith : Forest Value → ℕ → ℕ → ℕ → Progress → Session
@@ -73,52 +157,8 @@ pub record StoresStart (s : List ℕ) (slot : ℕ) (o : List ℕ) (n c k a : ℕ
   pub tells : (F : Forest Value) → take n o ≡ treeBytes F → n ≡ length (treeBytes F) → trees.WellFormed trees.treeDeep trees.treeMany (tree trees.empty F)
       → part s slot slotSize ≡ slotBytes free → s′ ≡ withPart s slot (slotBytes (live (startedWith F c k a after)))
 
--- The slot holds the session S if that keeps to its limits; otherwise 18, and all bytes stay.
-abbrev pub KeptOr : Bool → List ℕ → ℕ → Session → List ℕ → Outcome → Type 0
-KeptOr true s slot S s′ o = (o ≡ doneWith 0) × (s′ ≡ withPart s slot (slotBytes (live S))) × WellMade S
-KeptOr false s slot S s′ o = (o ≡ refusedBy Stuck) × (s′ ≡ s)
-
-abbrev pub Saved : List ℕ → ℕ → Session → List ℕ → Outcome → Type 0
-Saved s slot S s′ o = KeptOr (within (S .tree)) s slot S s′ o
-
--- A free slot's session started by the branch k of the choice c: by its input's path, and by its input.
-pub record StartsBy (file s : List ℕ) (slot c k a p : ℕ) (after : Progress) (l s′ : List ℕ) (o : Outcome) : Type 0 where
-  pub tells : WellFormed file → c < behaviourCount file → a < behaviourCount file → p < pathCount file → part s slot slotSize ≡ slotBytes free
-      → (m : Tree Value) → trees.Message l m → Saved s slot (startedBy c k a (pathOf file p) after m) s′ o
-
--- 15 without an input.
-abbrev pub StartedAs : Optional Input → List ℕ → ℕ → ℕ → ℕ → ReplyTo → Tree Value → List ℕ → Outcome → Type 0
-StartedAs none s slot c k to m s′ o = (o ≡ refusedBy MoveNotAllowed) × (s′ ≡ s)
-StartedAs (some i) s slot c k to m s′ o = part s slot slotSize ≡ slotBytes free → Saved s slot (started c k i to m) s′ o
-
-pub record Starts (file s : List ℕ) (slot c k a : ℕ) (to : ReplyTo) (l s′ : List ℕ) (o : Outcome) : Type 0 where
-  pub tells : WellFormed file → c < behaviourCount file → a < behaviourCount file → (m : Tree Value) → trees.Message l m
-      → StartedAs (inputOf (behaviourOf file a)) s slot c k to m s′ o
-
--- Does a session that starts so keep to its limits: by its input's path, by its input, and by the message's target? A queued message takes no tree.
-pub record PathWithin (file : List ℕ) (p : ℕ) (l : List ℕ) (x : Bool) : Type 0 where
-  pub tells : WellFormed file → p < pathCount file → (m : Tree Value) → trees.Message l m → x ≡ within (replaceAt voidValue (pathOf file p) m end)
-
-abbrev pub startWithin : definition.Target → ReplyTo → Tree Value → Bool
-startWithin definition.noTarget to m = true
-startWithin definition.queueFull to m = true
-startWithin definition.queued to m = true
-startWithin (definition.starts c k i) to m = within (started c k i to m .tree)
-
-pub record InputWithin (file : List ℕ) (a : ℕ) (l : List ℕ) (x : Bool) : Type 0 where
-  pub tells : WellFormed file → a < behaviourCount file → (c k : ℕ) (to : ReplyTo) (m : Tree Value) → trees.Message l m
-      → x ≡ startWithin (startWith c k (inputOf (behaviourOf file a))) to m
-
-pub record StartsWithin (file : List ℕ) (t : Target) (l : List ℕ) (x : Bool) : Type 0 where
-  pub tells : WellFormed file → StarterExists file t → (to : ReplyTo) (m : Tree Value) → trees.Message l m → x ≡ startWithin (targetAs file t) to m
-
--- One more message of O row i in the queue of the slot's session.
-pub record Queues (s : List ℕ) (slot i : ℕ) (to : ReplyTo) (l s′ : List ℕ) (o : Outcome) : Type 0 where
-  pub tells : i < 255 → (m : Tree Value) → trees.Message l m → (o ≡ doneWith 0) × (s′ ≡ pushed s slot i to l)
-
--- A message of the input of O row i at session n of its service. The outcome and the bytes are those of moves' `deliver`, in any state G that
--- the bytes hold and in which t is the message's target.
-pub record Delivers (file : List ℕ) (i n : ℕ) (t : Target) (to : ReplyTo) (l s s′ : List ℕ) (o : Outcome) : Type 0 where
-  pub tells : WellFormed file → i < operationCount file → (G : State) → Holding s G → StarterExists file t
-      → targetAs file t ≡ definition.target (networkOf file) G (operationOf file i) n → (m : Tree Value) → trees.Message l m → (out : List ℕ)
-      → _≡_ {A = Step} (record { outcome = o; state = s′; out = out }) (finish s out (deliver G (operationOf file i) n (targetAs file t) to m))
+-- What moves' `deliver` does in the state that the bytes hold, with a message of O row i that arrives at its target t.
+pub record Stores (file : List ℕ) (i : ℕ) (to : Optional Destination) (l o : List ℕ) (y : Arrival) (s s′ : List ℕ) : Type 0 where
+  pub tells : WellFormed file → i < operationCount file → (gone : State) → Holding s gone → (n : ℕ) (t : definition.Target)
+      → Known gone (operationOf file i) n t → (m : Tree Value) → trees.Message l m → ArrivesAs file (operationOf file i) n t m o y → (s₀ out : List ℕ)
+      → _≡_ {A = Step} (record { outcome = doneWith 0; state = s′; out = out }) (finish s₀ out (deliver gone (operationOf file i) n t to m))

@@ -1,22 +1,33 @@
-// Delivering a message to its target session. 01, Moves: "queued at a live one, or starting a free 1 to 3, whose first starter branch of
-// that operation receives it". All is decided before the first store: a refusal leaves the state as it was.
+// A message at its target session. 01, Moves: "queued at a live one, or starting a free 1 to 3, whose first starter branch of that operation
+// receives it". `admit` decides all of it and stores nothing; `store` cannot fail, so a refusal leaves the state as it was.
 ghost use mathlib.Core.Path.{_≡_};
 ghost use Prim.Native.Nat.{_+_, _≤_, _<_};
 ghost use lib.ListN.{length};
+ghost use Rattle.network.specs.Rows.{operationService};
 ghost use Rattle.state.specs.Places.{slotSize, treeRoom};
-ghost use Rattle.state.specs.Session.{received};
 ghost use Rattle.progress.specs.Meaning.{meaning};
-ghost use Rattle.queues.specs.Queue.{replyOf};
-ghost use Rattle.delivery.specs.Delivery.{Permitted, Allowed, MustFit, StartTree, StoresStart, StartsBy, Starts};
-ghost use Rattle.delivery.specs.Delivery.{PathWithin, InputWithin, StartsWithin, Queues, Delivers};
+ghost use Rattle.destinations.specs.Meaning.{replyOf};
+ghost use Rattle.delivery.specs.Delivery.{Permitted, Allowed, LetsIn, StartTree, StartsBy, Starts, Queues, Places, Admits};
+ghost use Rattle.delivery.specs.Delivery.{StoresStart, Storable, Stores};
+use destinations::ReplyTo;
 use progress::Progress;
-use queues::ReplyTo;
-use refusal::Outcome;
 use refusal::Refusal;
 use refusal::Verdict;
 use rows::InputRow;
 use session_trees::Change;
 use targets::Target;
+
+// Where an admitted message goes: into the queue of the live session of the slot; or it starts the session of the free slot, by branch k of
+// the choice c, with input row a and a tree of n bytes.
+pub enum Arrival {
+    Queued(usize),
+    Starts(usize, u16, u8, u16, u16),
+}
+
+pub enum Admission {
+    Refused(Refusal),
+    Admitted(Arrival),
+}
 
 // 15: does 6 pass the starter's input, B row a, in service q?
 fn permitted(file: &[u8], q: u16, a: u16) -> Verdict
@@ -29,7 +40,7 @@ fn permitted(file: &[u8], q: u16, a: u16) -> Verdict
 }
 
 // 15 and 16: may a message go to its target in service q?
-pub fn allowed(file: &[u8], q: u16, target: Target) -> Verdict
+fn allowed(file: &[u8], q: u16, target: Target) -> Verdict
     ensures { λ v. ⌜ Allowed (now (file .entry)) q target v ⌝ }
 {
     match target {
@@ -40,26 +51,26 @@ pub fn allowed(file: &[u8], q: u16, target: Target) -> Verdict
     }
 }
 
-// 19: does the tree, written alone, fit the type of T row r? A tree that is no message fits none.
-pub fn must_fit(message: &[u8], file: &[u8], r: u16) -> bool
-    ensures { λ x. ⌜ MustFit (now (message .entry)) (now (file .entry)) r x ⌝ }
+// May the message in: 15 and 16 by its target in service q, its own verdict, then 17 or 19 at the type of T row r?
+fn lets_in(
+    file: &[u8],
+    q: u16,
+    target: Target,
+    message: &[u8],
+    r: u16,
+    own: Verdict,
+    other: Refusal,
+) -> Verdict
+    ensures { λ v. ⌜ LetsIn (now (file .entry)) q target (now (message .entry)) r own other v ⌝ }
 {
-    tree::octets(message);
-    if !tree::is_message(message) {
-        return false;
-    }
-    types::fits(message, file, r)
-}
-
-// The progress of a request-response that was received.
-fn received(to: ReplyTo) -> Progress
-    ensures { λ x. ⌜ meaning x ≡ received (replyOf to) ⌝ }
-{
-    match to {
-        ReplyTo::Nobody => Progress::FromNobody,
-        ReplyTo::Outsider(number) => Progress::FromOutsider(number),
-        ReplyTo::WaitingRow(q, n, r) => Progress::FromRow(q, n, r),
-    }
+    let v = allowed(file, q, target);
+    let Verdict::Done = v else {
+        return v;
+    };
+    let Verdict::Done = own else {
+        return own;
+    };
+    fitting::passes(message, file, r, other)
 }
 
 // Writes the tree of a new session that receives the message into the path of P row p to the start of out.
@@ -69,7 +80,126 @@ fn start_tree(out: &mut [u8], file: &[u8], p: u16, message: &[u8]) -> Change
 {
     let mut slot = [0u8; state::SLOT];
     slots::begin(&mut slot, 0);
-    session_trees::replace(out, &slot, 0, rows::path_row(file, p), message)
+    session_trees::replace_at(out, file, p, &slot, 0, message)
+}
+
+// 18 of a message that starts the session of the free slot: input row a receives it into the path of P row p.
+fn start_by(
+    out: &mut [u8],
+    file: &[u8],
+    slot: usize,
+    c: u16,
+    k: u8,
+    a: u16,
+    p: u16,
+    message: &[u8],
+) -> Admission
+    requires { ⌜ 2304 ≤ length (now out) ⌝ }
+    ensures { λ x. ⌜ StartsBy (now (file .entry)) slot c k a p (now (message .entry)) (now (out .exit)) x ⌝ }
+{
+    let Change::Kept(n) = start_tree(out, file, p, message) else {
+        return Admission::Refused(Refusal::Stuck);
+    };
+    if 255 < c {
+        return Admission::Refused(Refusal::MoveNotAllowed);
+    }
+    if 255 < a {
+        return Admission::Refused(Refusal::MoveNotAllowed);
+    }
+    Admission::Admitted(Arrival::Starts(slot, c, k, a, n))
+}
+
+// The same by the input of B row a.
+fn start(
+    out: &mut [u8],
+    file: &[u8],
+    slot: usize,
+    c: u16,
+    k: u8,
+    a: u16,
+    message: &[u8],
+) -> Admission
+    requires { ⌜ 2304 ≤ length (now out) ⌝ }
+    ensures { λ x. ⌜ Starts (now (file .entry)) slot c k a (now (message .entry)) (now (out .exit)) x ⌝ }
+{
+    match rows::input_of(file, a) {
+        InputRow::OneWay(_, p) => start_by(out, file, slot, c, k, a, p, message),
+        InputRow::RequestResponse(_, p, _, _) => start_by(out, file, slot, c, k, a, p, message),
+        InputRow::Nothing => Admission::Refused(Refusal::MoveNotAllowed),
+    }
+}
+
+// Queues the message of O row i at the live session of the slot. A message has 336 bytes at most and a file 64 operations, so the tests only
+// keep the store inside the entry.
+fn queue(slot: usize, i: u16, message: &[u8]) -> Admission
+    ensures { λ x. ⌜ Queues slot i (now (message .entry)) x ⌝ }
+{
+    if 254 < i {
+        return Admission::Refused(Refusal::MoveNotAllowed);
+    }
+    if state::MESSAGE_ROOM < message.len() {
+        return Admission::Refused(Refusal::MoveNotAllowed);
+    }
+    Admission::Admitted(Arrival::Queued(slot))
+}
+
+// Where a message of the input of O row i of service q, which was let in, goes to session n by its target; 18 past a tree's limits.
+fn place(
+    out: &mut [u8],
+    file: &[u8],
+    q: u16,
+    i: u16,
+    n: u16,
+    target: Target,
+    message: &[u8],
+) -> Admission
+    requires { ⌜ (2304 ≤ length (now out)) × (q ≡ operationService (now file) i) ⌝ }
+    ensures { λ x. ⌜ Places (now (file .entry)) i n target (now (message .entry)) (now (out .exit)) x ⌝ }
+{
+    if 3 < q {
+        return Admission::Refused(Refusal::MoveNotAllowed);
+    }
+    if 3 < n {
+        return Admission::Refused(Refusal::MoveNotAllowed);
+    }
+    let slot = state::slot_start(q, n);
+    match target {
+        Target::NoTarget => Admission::Refused(Refusal::MoveNotAllowed),
+        Target::QueueFull => Admission::Refused(Refusal::QueueFull),
+        Target::Queued => queue(slot, i, message),
+        Target::Starts(c, k, a) => start(out, file, slot, c, k, a, message),
+    }
+}
+
+// A message for the input of O row i, to session n of its service. `own` is what the message itself answers (18 of a value), `other` the refusal
+// of bytes that are no message. The tree of a session that starts is written to the start of out.
+pub fn admit(
+    out: &mut [u8],
+    file: &[u8],
+    state: &[u8],
+    i: u16,
+    n: u16,
+    message: &[u8],
+    own: Verdict,
+    other: Refusal,
+) -> Admission
+    requires { ⌜ 2304 ≤ length (now out) ⌝ }
+    ensures { λ x. ⌜ Admits (now (file .entry)) (now (state .entry)) i n (now (message .entry)) own other (now (out .exit)) x ⌝ }
+{
+    let target = targets::target_of(file, state, i, n);
+    let q = wire::byte_to_u16(rows::operation_service(file, i));
+    match lets_in(
+        file,
+        q,
+        target,
+        message,
+        rows::request_type(file, i),
+        own,
+        other,
+    ) {
+        Verdict::Refused(why) => Admission::Refused(why),
+        Verdict::Done => place(out, file, q, i, n, target, message),
+    }
 }
 
 // Makes a new session of the free slot, with the first n bytes of `tree` as its tree, branch k of the choice c taken and the input a received.
@@ -92,137 +222,25 @@ fn store_start(
     progress::put_row(state, slot, a, after);
 }
 
-// Starts the free session of the slot, whose input a receives the message into the path of P row p.
-fn start_by(
-    file: &[u8],
-    state: &mut [u8],
-    slot: usize,
-    c: u16,
-    k: u8,
-    a: u16,
-    p: u16,
-    after: Progress,
-    message: &[u8],
-) -> Outcome
-    requires { ⌜ slot + slotSize ≤ length (now state) ⌝ }
-    ensures { λ o. ⌜ StartsBy (now (file .entry)) (now (state .entry)) slot c k a p (meaning after) (now (message .entry)) (now (state .exit)) o ⌝ }
-{
-    let mut tree = [0u8; 2304];
-    let x = start_tree(&mut tree, file, p, message);
-    let Change::Kept(n) = x else {
-        return refusal::refused(Refusal::Stuck);
-    };
-    if 1024 < n {
-        return refusal::refused(Refusal::Stuck);
-    }
-    if 255 < c {
-        return refusal::refused(Refusal::MoveNotAllowed);
-    }
-    if 255 < a {
-        return refusal::refused(Refusal::MoveNotAllowed);
-    }
-    store_start(state, slot, &tree, n, c, k, a, after);
-    refusal::done(0)
-}
-
-// Starts the free session of the slot by branch k of the choice c, whose input is B row a.
-fn start(
-    file: &[u8],
-    state: &mut [u8],
-    slot: usize,
-    c: u16,
-    k: u8,
-    a: u16,
-    to: ReplyTo,
-    message: &[u8],
-) -> Outcome
-    requires { ⌜ slot + slotSize ≤ length (now state) ⌝ }
-    ensures { λ o. ⌜ Starts (now (file .entry)) (now (state .entry)) slot c k a (replyOf to) (now (message .entry)) (now (state .exit)) o ⌝ }
-{
-    match rows::input_of(file, a) {
-        InputRow::OneWay(_, p) => start_by(file, state, slot, c, k, a, p, Progress::Done, message),
-        InputRow::RequestResponse(_, p, _, _) => {
-            start_by(file, state, slot, c, k, a, p, received(to), message)
-        }
-        InputRow::Nothing => refusal::refused(Refusal::MoveNotAllowed),
-    }
-}
-
-// Does the tree of a new session that receives the message into the path of P row p keep to its limits?
-fn path_within(file: &[u8], p: u16, message: &[u8]) -> bool
-    ensures { λ x. ⌜ PathWithin (now (file .entry)) p (now (message .entry)) x ⌝ }
-{
-    let mut tree = [0u8; 2304];
-    match start_tree(&mut tree, file, p, message) {
-        Change::Kept(_) => true,
-        Change::TooLarge => false,
-    }
-}
-
-// The same for the input of B row a.
-fn input_within(file: &[u8], a: u16, message: &[u8]) -> bool
-    ensures { λ x. ⌜ InputWithin (now (file .entry)) a (now (message .entry)) x ⌝ }
-{
-    match rows::input_of(file, a) {
-        InputRow::OneWay(_, p) => path_within(file, p, message),
-        InputRow::RequestResponse(_, p, _, _) => path_within(file, p, message),
-        InputRow::Nothing => true,
-    }
-}
-
-// 18 at a target, before a sender goes on: does the session that the message starts keep to its limits?
-pub fn starts_within(file: &[u8], target: Target, message: &[u8]) -> bool
-    ensures { λ x. ⌜ StartsWithin (now (file .entry)) target (now (message .entry)) x ⌝ }
-{
-    match target {
-        Target::NoTarget => true,
-        Target::QueueFull => true,
-        Target::Queued => true,
-        Target::Starts(_, _, a) => input_within(file, a, message),
-    }
-}
-
-// Queues the message of O row i at the live session of the slot.
-fn queue(state: &mut [u8], slot: usize, i: u16, to: ReplyTo, message: &[u8]) -> Outcome
-    requires { ⌜ slot + slotSize ≤ length (now state) ⌝ }
-    ensures { λ o. ⌜ Queues (now (state .entry)) slot i (replyOf to) (now (message .entry)) (now (state .exit)) o ⌝ }
-{
-    if 254 < i {
-        return refusal::refused(Refusal::MoveNotAllowed);
-    }
-    let n = message.len();
-    if 336 < n {
-        return refusal::refused(Refusal::MoveNotAllowed);
-    }
-    queues::push(state, slot, i, to, message, 0, n);
-    refusal::done(0)
-}
-
-// Delivers a message of the input of O row i to session n of its service, by the target that it has.
-pub fn deliver(
+// Stores an admitted message of O row i where it arrives; its reply goes to `to`, and `tree` is what `admit` wrote.
+pub fn store(
     file: &[u8],
     state: &mut [u8],
     i: u16,
-    n: u16,
-    target: Target,
     to: ReplyTo,
     message: &[u8],
-) -> Outcome
-    requires { ⌜ length (now state) ≡ 65536 ⌝ }
-    ensures { λ o. ⌜ Delivers (now (file .entry)) i n target (replyOf to) (now (message .entry)) (now (state .entry)) (now (state .exit)) o ⌝ }
+    y: Arrival,
+    tree: &[u8],
+)
+    requires { ⌜ (length (now state) ≡ 65536) × Storable i (now message) y × (2304 ≤ length (now tree)) ⌝ }
+    ensures { λ _. ⌜ Stores (now (file .entry)) i (replyOf to) (now (message .entry)) (now (tree .entry)) y (now (state .entry)) (now (state .exit)) ⌝ }
 {
-    let q = wire::byte_to_u16(rows::operation_service(file, i));
-    if 3 < q {
-        return refusal::refused(Refusal::MoveNotAllowed);
-    }
-    if 3 < n {
-        return refusal::refused(Refusal::MoveNotAllowed);
-    }
-    let slot = state::slot_start(q, n);
-    match target {
-        Target::NoTarget => refusal::refused(Refusal::MoveNotAllowed),
-        Target::QueueFull => refusal::refused(Refusal::QueueFull),
-        Target::Queued => queue(state, slot, i, to, message),
-        Target::Starts(c, k, a) => start(file, state, slot, c, k, a, to, message),
+    match y {
+        Arrival::Queued(slot) => {
+            queues::push(state, slot, i, to, message, 0, message.len());
+        }
+        Arrival::Starts(slot, c, k, a, n) => {
+            store_start(state, slot, tree, n, c, k, a, progress::received_by(to));
+        }
     }
 }

@@ -4,11 +4,11 @@ use mathlib.Core.Bool.{Bool, true, false}
 use Prim.Native.Nat.{ℕ}
 use Rattle.refusal.specs.declared.Refusal.the-variants.{MoveNotAllowed}
 use Rattle.state.specs.Session.{Progress, undone, done, waits, received, taken}
-use Rattle.state.specs.Shape.{isUndone}
+use Rattle.destinations.specs.declared.Destination.{Destination}
 use Rattle.progress.specs.declared.Progress as coded
-use Rattle.progress.specs.declared.Progress.the-variants.{Undone, Done, Waits, Taken, FromOutsider, FromRow, FromNobody}
+use Rattle.progress.specs.declared.Progress.the-variants.{Undone, Done, Waits, Taken, Received}
 use Rattle.progress.specs.Meaning.{meaning}
-use Rattle.moves.specs.Moves.{Result, require, ifUndone, ifReadyWhile}
+use Rattle.moves.specs.Moves.{Result, require, ifReadyWhile}
 use Rattle.local_moves.specs.Local.{readyWhile}
 
 module _ (y : coded.Progress) (q : Progress) (e : meaning y ≡ q) (d : Bool) where
@@ -24,25 +24,12 @@ module _ (y : coded.Progress) (q : Progress) (e : meaning y ≡ q) (d : Bool) wh
   pub ready-taken : {k : ℕ} {x : Bool} → y ≡ Taken k → x ≡ d → x ≡ readyWhile q d
   ready-taken h g = rw (sym e ∙ ap meaning h) g
 
-  pub ready-outsider : {v : ℕ} → y ≡ FromOutsider v → false ≡ readyWhile q d
-  ready-outsider h = rw (sym e ∙ ap meaning h) refl
+  pub ready-received : {to : Destination} → y ≡ Received to → false ≡ readyWhile q d
+  ready-received h = rw (sym e ∙ ap meaning h) refl
 
-  pub ready-row : {a b c : ℕ} → y ≡ FromRow a b c → false ≡ readyWhile q d
-  ready-row h = rw (sym e ∙ ap meaning h) refl
+pub ruleset ready-laws = (ready-undone, ready-done, ready-waits, ready-taken, ready-received)
 
-  pub ready-nobody : y ≡ FromNobody → false ≡ readyWhile q d
-  ready-nobody h = rw (sym e ∙ ap meaning h) refl
-
-pub ruleset ready-laws = (ready-undone, ready-done, ready-waits, ready-taken, ready-outsider, ready-row, ready-nobody)
-
--- The definition's tests, as tests.
-pub if-undone : (p : Progress) (x : Result) → ifUndone p x ≡ require (isUndone p) MoveNotAllowed x
-if-undone undone x = refl
-if-undone done x = refl
-if-undone waits x = refl
-if-undone (received to) x = refl
-if-undone (taken k) x = refl
-
+-- The definition's test, as a test.
 pub if-ready-while : (p : Progress) (d : Bool) (x : Result) → ifReadyWhile p d x ≡ require (readyWhile p d) MoveNotAllowed x
 if-ready-while undone d x = refl
 if-ready-while done d x = refl

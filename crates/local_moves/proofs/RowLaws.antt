@@ -65,7 +65,8 @@ use Rattle.moving.specs.declared.Running.{Running}
 use Rattle.moving.specs.Made.{StateOf, Made, InSession, Runs, RunsAt}
 use Rattle.moving.specs.MadeLaws.{in-session, refused-step}
 use Rattle.local_moves.specs.Local.{readyWhile, Decides, SetsRoot, AssignsValue, MadeBy, RowMade}
-use Rattle.local_moves.proofs.MarkLaws.{if-undone, if-ready-while}
+use Rattle.progress.specs.UndoneLaws.{if-undone}
+use Rattle.local_moves.proofs.MarkLaws.{if-ready-while}
 use Rattle.progress.specs.Stored.{rowStored}
 
 -- ---- a condition

@@ -10,7 +10,6 @@ ghost use Rattle.rows.specs.declared.BehaviourRow.{BehaviourRow};
 ghost use Rattle.state.specs.Places.{slotSize, treeRoom};
 ghost use Rattle.state.specs.Session.{done, taken};
 ghost use Rattle.state.specs.Bytes.{readSession};
-ghost use Rattle.state.specs.Shape.{isUndone};
 ghost use Rattle.progress.specs.Meaning.{meaning};
 ghost use Rattle.progress.specs.Stored.{rowStored};
 ghost use Rattle.reopening.specs.Reopening.{rowsBelow, withUndone};
@@ -37,22 +36,6 @@ fn not_allowed() -> Outcome
     refusal::refused(Refusal::MoveNotAllowed)
 }
 
-// An assign or if is ready when it is undone.
-fn is_undone(state: &[u8], slot: usize, r: u16) -> bool
-    requires { ⌜ slot < 65536 ⌝ }
-    ensures { λ x. ⌜ x ≡ isUndone (readSession (now (state .entry)) slot .progress r) ⌝ }
-{
-    match progress::row_progress(state, slot, r) {
-        Progress::Undone => true,
-        Progress::Done => false,
-        Progress::Waits => false,
-        Progress::Taken(_) => false,
-        Progress::FromOutsider(_) => false,
-        Progress::FromRow(_, _, _) => false,
-        Progress::FromNobody => false,
-    }
-}
-
 // "a while whose body is done is again"
 fn is_ready_while(file: &[u8], state: &[u8], slot: usize, r: u16, b: u16) -> bool
     requires { ⌜ slot < 65536 ⌝ }
@@ -64,9 +47,7 @@ fn is_ready_while(file: &[u8], state: &[u8], slot: usize, r: u16, b: u16) -> boo
         Progress::Done => false,
         Progress::Waits => false,
         Progress::Taken(_) => readiness::is_done(file, state, slot, b),
-        Progress::FromOutsider(_) => false,
-        Progress::FromRow(_, _, _) => false,
-        Progress::FromNobody => false,
+        Progress::Received(_) => false,
     }
 }
 
@@ -92,7 +73,7 @@ fn decide(file: &[u8], state: &mut [u8], slot: usize, r: u16, e: u16, a: u16, b:
     requires { ⌜ (slot + slotSize ≤ length (now state)) × (slot < 65536) × (r < 256) ⌝ }
     ensures { λ o. ⌜ MadeBy (BehaviourRow.If e a b) (now (file .entry)) (now (state .entry)) (now (state .exit)) slot r o ⌝ }
 {
-    if !is_undone(state, slot, r) {
+    if !progress::is_undone(state, slot, r) {
         return not_allowed();
     }
     match condition_at(file, state, slot, e) {
@@ -170,7 +151,7 @@ fn assign(file: &[u8], state: &mut [u8], slot: usize, r: u16, p: u16, e: u16) ->
     requires { ⌜ (slot + slotSize ≤ length (now state)) × (slot < 65536) × (r < 256) ⌝ }
     ensures { λ o. ⌜ MadeBy (BehaviourRow.Assign p e) (now (file .entry)) (now (state .entry)) (now (state .exit)) slot r o ⌝ }
 {
-    if !is_undone(state, slot, r) {
+    if !progress::is_undone(state, slot, r) {
         return not_allowed();
     }
     let x = evaluation::evaluate(file, slots::tree_of(state, slot), e);

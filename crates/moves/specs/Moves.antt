@@ -11,7 +11,7 @@ use Rattle.scalar.specs.Value.{Value, value, basicOf, bytesOf, number, pick}
 use Rattle.syntax.specs.Syntax.{MessageType, Expression, Optional, none, some, Service, Network, Operation, Direction, input, output, Behaviour}
 use Rattle.syntax.specs.Rows.{atRow, Response, Input, Output, Local, assigns, decides, repeats, twoWayInput, twoWayOutput, inputOf, outputOf, localOf}
 use Rattle.syntax.specs.Rows.{isInputOperation}
-use Rattle.state.specs.Session.{ReplyTo, nobody, outsider, waitingRow, Progress, undone, done, waits, received, taken, Progresses, advance, reopen, Queued, Session, withTree, withQueue, withProgress, Slot, free, live, State, setSlot, newSession}
+use Rattle.state.specs.Session.{Destination, outsider, waitingRow, Progress, undone, done, waits, received, taken, Progresses, advance, reopen, Queued, Session, withTree, withQueue, withProgress, Slot, free, live, State, setSlot, newSession}
 use Rattle.refusal.specs.declared.Refusal.{Refusal}
 use Rattle.refusal.specs.declared.Refusal.the-variants.{MoveNotAllowed, QueueFull, NoMessage, Stuck, MessageMisfit}
 use Rattle.subtyping.specs.Own.{fits}
@@ -87,7 +87,7 @@ ifWaiting waits r = r
 ifWaiting (received to) r = notAllowed
 ifWaiting (taken k) r = notAllowed
 
-abbrev pub onReceived : Progress → (ReplyTo → Result) → Result
+abbrev pub onReceived : Progress → (Destination → Result) → Result
 onReceived undone f = notAllowed
 onReceived done f = notAllowed
 onReceived waits f = notAllowed
@@ -148,10 +148,11 @@ permitsInput q i = permits q input (twoWayInput i) (i .operation)
 abbrev pub permitsOutput : ℕ → Output → Bool
 permitsOutput q u = permits q output (twoWayOutput u) (u .operation)
 
--- An input's progress once received: a one-way is done, a request-response holds where its reply goes.
-abbrev pub receivedBy : Bool → ReplyTo → Progress
-receivedBy true to = received to
-receivedBy false to = done
+-- An input's progress once received: a one-way message has no destination, and its input is done; a request-response holds where its
+-- reply goes.
+abbrev pub receivedBy : Optional Destination → Progress
+receivedBy none = done
+receivedBy (some d) = received d
 
 -- The oldest message of the O row w, and the queue without it; "the others keep their order".
 pub data Taken : Type 0 where
@@ -168,18 +169,18 @@ oldest w (m ∷ l) = pick (eqb (m .operation) w) (message m l) (keeping m (oldes
 
 module _ (G : State) (q n : ℕ) (S : Session) where
   -- "receive: a ready input .. takes the oldest queued message of its operation and replaces the subtree." `settled` is the
-  -- progress with the branch settled, in a choice; `after` the input's progress once received.
-  abbrev pub takes : Path → Progresses → ℕ → (ReplyTo → Progress) → Taken → Result
-  takes x settled r after nothing = notAllowed
-  takes x settled r after (message m l) =
-      saveWithin G q n (withQueue (withProgress (withTree S (replaceAt voidValue x (m .message) (S .tree))) (advance settled r (after (m .replyTo)))) l) []
+  -- progress with the branch settled, in a choice.
+  abbrev pub takes : Path → Progresses → ℕ → Taken → Result
+  takes x settled r nothing = notAllowed
+  takes x settled r (message m l) =
+      saveWithin G q n (withQueue (withProgress (withTree S (replaceAt voidValue x (m .message) (S .tree))) (advance settled r (receivedBy (m .replyTo)))) l) []
 
   abbrev pub receiveBy : Progresses → Optional Input → Result
   receiveBy settled none = notAllowed
   receiveBy settled (some i) =
       ifUndone (S .progress (i .row))
       (require (permitsInput q i) MoveNotAllowed
-      (takes (i .into) settled (i .row) (receivedBy (twoWayInput i)) (oldest (i .operation .row) (S .queue))))
+      (takes (i .into) settled (i .row) (oldest (i .operation .row) (S .queue))))
 
   unfoldable pub receiveAt : Progresses → Behaviour → Result
   receiveAt settled b = receiveBy settled (inputOf b)
@@ -204,11 +205,11 @@ abbrev pub startedBy : ℕ → ℕ → ℕ → Path → Progress → Tree Value 
 startedBy c k r x after m =
     withProgress (withTree newSession (replaceAt voidValue x m end)) (advance (advance (newSession .progress) c (taken k)) r after)
 
-abbrev pub started : ℕ → ℕ → Input → ReplyTo → Tree Value → Session
-started c k i to m = startedBy c k (i .row) (i .into) (receivedBy (twoWayInput i) to) m
+abbrev pub started : ℕ → ℕ → Input → Optional Destination → Tree Value → Session
+started c k i to m = startedBy c k (i .row) (i .into) (receivedBy to) m
 
 -- The message at its target, in a state in which the sender has gone on: "queued at a live one, or starting a free 1 to 3".
-abbrev pub deliver : State → Operation → ℕ → Target → ReplyTo → Tree Value → Result
+abbrev pub deliver : State → Operation → ℕ → Target → Optional Destination → Tree Value → Result
 deliver G o n noTarget to m = notAllowed
 deliver G o n queueFull to m = refused QueueFull
 deliver G o n queued to m =
@@ -225,23 +226,27 @@ isMessageTree (tree v k) = leb (levels k) messageDeep && leb (nodes k) messageMa
 abbrev pub mustFit : Tree Value → MessageType → Result → Result
 mustFit m t r = require (isMessageTree m && fits m t) MessageMisfit r
 
-module _ (N : Network) (G : State) (q n : ℕ) (S : Session) (to : ℕ) where
-  -- The sender with its row r gone on.
-  abbrev pub goneOn : ℕ → Progress → State
-  goneOn r after = setSlot G q n (live (withProgress S (advance (S .progress) r after)))
+-- The session S of that slot with its row r gone on.
+abbrev pub goneOn : State → ℕ → ℕ → Session → ℕ → Progress → State
+goneOn G q n S r after = setSlot G q n (live (withProgress S (advance (S .progress) r after)))
 
+-- A message for the input i, to session n of its service: 15 and 16 by its target, then what the message itself answers (18 of a value, 17 of
+-- bytes from outside), 19, and the delivery, in the state in which its sender has gone on.
+abbrev pub admit : Network → State → Operation → ℕ → ((Tree Value → Result) → Result) → State → Optional Destination → Result
+admit N G i n answer gone to =
+    allowed (i .service) (target N G i n) (answer (λ m. mustFit m (i .request) (deliver gone i n (target N G i n) to m)))
+
+module _ (N : Network) (G : State) (q n : ℕ) (S : Session) (to : ℕ) where
   -- Inside: to the input it meets.
-  abbrev pub sendInside : ℕ → Expression → Progress → ReplyTo → Operation → Result
-  sendInside r e after back i =
-      allowed (i .service) (target N G i to)
-      (onTree (evaluate (S .tree) e) (λ m. mustFit m (i .request) (deliver (goneOn r after) i to (target N G i to) back m)))
+  abbrev pub sendInside : ℕ → Expression → Progress → Optional Destination → Operation → Result
+  sendInside r e after back i = admit N G i to (onTree (evaluate (S .tree) e)) (goneOn G q n S r after) back
 
   -- "To a location outside (target 0) the message alone goes to the start of the out buffer."
   abbrev pub sendOutside : ℕ → Operation → Expression → Progress → Result
   sendOutside r o e after =
-      require (eqb to 0) MoveNotAllowed (onTree (evaluate (S .tree) e) (λ m. mustFit m (o .request) (moved (goneOn r after) (messageBytes m))))
+      require (eqb to 0) MoveNotAllowed (onTree (evaluate (S .tree) e) (λ m. mustFit m (o .request) (moved (goneOn G q n S r after) (messageBytes m))))
 
-  abbrev pub sendBy : ℕ → Operation → Expression → Progress → ReplyTo → Result
+  abbrev pub sendBy : ℕ → Operation → Expression → Progress → Optional Destination → Result
   sendBy r o e after back =
       pick (inFile N (o .location)) (onOperation (metInput N o) (sendInside r e after back)) (sendOutside r o e after)
 
@@ -250,9 +255,9 @@ module _ (N : Network) (G : State) (q n : ℕ) (S : Session) (to : ℕ) where
   sentBy true = waits
   sentBy false = done
 
-  abbrev pub repliesTo : Bool → ℕ → ReplyTo
-  repliesTo true r = waitingRow q n r
-  repliesTo false r = nobody
+  abbrev pub repliesTo : Bool → ℕ → Optional Destination
+  repliesTo true r = some (waitingRow q n r)
+  repliesTo false r = none
 
   abbrev pub sendOutput : Optional Output → Result
   sendOutput none = notAllowed
@@ -292,19 +297,15 @@ takeReply G q n r x m =
     onLive (G q n) (λ S. saveWithin G q n (withProgress (withTree S (replaceAt voidValue x m (S .tree))) (advance (S .progress) r done)) [])
 
 module _ (N : Network) (G : State) (q n : ℕ) (S : Session) where
-  abbrev pub answered : ℕ → State
-  answered r = setSlot G q n (live (withProgress S (advance (S .progress) r done)))
-
   -- "reply: a request-response whose body is done answers its waiting row; for an outsider, the u32 reply number and then the
   -- message go to the start of the out buffer."
-  abbrev pub replyTo : ℕ → Operation → Path → ReplyTo → Result
-  replyTo r o c nobody = notAllowed
+  abbrev pub replyTo : ℕ → Operation → Path → Destination → Result
   replyTo r o c (outsider k) =
-      onFound (read c (S .tree)) (λ m. mustFit m (o .reply) (moved (answered r) (u32Bytes k ++ messageBytes m)))
+      onFound (read c (S .tree)) (λ m. mustFit m (o .reply) (moved (goneOn G q n S r done) (u32Bytes k ++ messageBytes m)))
   replyTo r o c (waitingRow q2 n2 r2) =
       inSession N G q2 n2
       (λ B2 S2. onWaitingRow q2 S2 (atRow r2 B2)
-      (λ o2 x2. onFound (read c (S .tree)) (λ m. mustFit m (o2 .reply) (takeReply (answered r) q2 n2 r2 x2 m))))
+      (λ o2 x2. onFound (read c (S .tree)) (λ m. mustFit m (o2 .reply) (takeReply (goneOn G q n S r done) q2 n2 r2 x2 m))))
 
   abbrev pub onResponse : Optional Response → (Response → Result) → Result
   onResponse none f = notAllowed
@@ -340,10 +341,7 @@ inputNamed N q id = firstOf (isInputNamed q id) (N .operations)
 -- "outer message (service, operation id, target session, u32 reply number, ignored if one-way, bytes), sent likewise"
 abbrev pub outerMessage : Network → State → ℕ → ℕ → ℕ → ℕ → List ℕ → Result
 outerMessage N G q id n number bytes =
-    onOperation (inputNamed N q id)
-    (λ i. allowed q (target N G i n)
-    (onMessage (decodeMessage bytes)
-    (λ m. mustFit m (i .request) (deliver G i n (target N G i n) (pick (i .twoWay) (outsider number) nobody) m))))
+    onOperation (inputNamed N q id) (λ i. admit N G i n (onMessage (decodeMessage bytes)) G (pick (i .twoWay) (some (outsider number)) none))
 
 -- "outer reply (bytes for a row waiting on an outside location)"
 abbrev pub outerReply : Network → State → ℕ → ℕ → ℕ → List ℕ → Result

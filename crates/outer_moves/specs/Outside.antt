@@ -5,24 +5,20 @@ use mathlib.Core.List.{List}
 use Prim.Native.Nat.{ℕ, _<_}
 use Rattle.scalar.specs.Value.{pick}
 use Rattle.refusal.specs.declared.Outcome.{Outcome}
-use Rattle.syntax.specs.Syntax.{Network, Operation}
+use Rattle.syntax.specs.Syntax.{none, some, Network, Operation}
 use Rattle.network.specs.Form.{WellFormed}
 use Rattle.network.specs.Layout.{operationCount}
 use Rattle.network.specs.Decode.{operationOf, networkOf}
 use Rattle.tree.specs.Decode.{decodeMessage}
-use Rattle.state.specs.Session.{nobody, outsider, State}
-use Rattle.moves.specs.Targets.{target}
-use Rattle.moves.specs.Moves.{Result, allowed, onMessage, mustFit, deliver}
+use Rattle.state.specs.Session.{outsider, State}
+use Rattle.moves.specs.Moves.{Result, onMessage, admit}
 use Rattle.moves.specs.Step.{Step, finish}
 use Rattle.moving.specs.Made.{StateOf}
 
 -- What moves' `outerMessage` does once the input i is found.
-abbrev pub arriving : Network → State → ℕ → ℕ → ℕ → List ℕ → Operation → Result
-arriving N G q n number bytes i =
-    allowed q (target N G i n)
-    (onMessage (decodeMessage bytes)
-    (λ m. mustFit m (i .request) (deliver G i n (target N G i n) (pick (i .twoWay) (outsider number) nobody) m)))
+abbrev pub arriving : Network → State → ℕ → ℕ → List ℕ → Operation → Result
+arriving N G n number bytes i = admit N G i n (onMessage (decodeMessage bytes)) G (pick (i .twoWay) (some (outsider number)) none)
 
-pub record Arrives (file : List ℕ) (q i n number : ℕ) (bytes s s′ : List ℕ) (o : Outcome) : Type 0 where
+pub record Arrives (file : List ℕ) (i n number : ℕ) (bytes s s′ : List ℕ) (o : Outcome) : Type 0 where
   pub tells : WellFormed file → i < operationCount file → (G : State) → StateOf file s G → (out : List ℕ)
-      → _≡_ {A = Step} (record { outcome = o; state = s′; out = out }) (finish s out (arriving (networkOf file) G q n number bytes (operationOf file i)))
+      → _≡_ {A = Step} (record { outcome = o; state = s′; out = out }) (finish s out (arriving (networkOf file) G n number bytes (operationOf file i)))

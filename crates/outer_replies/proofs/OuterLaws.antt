@@ -1,15 +1,16 @@
 -- An outer reply, at each of the ways out of the code.
-use mathlib.Core.Path.{_≡_, sym, ap, subst, _∙_}
-use mathlib.Core.Bool.{Bool, true, false, not}
+use mathlib.Core.Path.{_≡_, refl, sym, ap, subst, _∙_}
+use mathlib.Core.Bool.{Bool, true, false}
 use mathlib.Core.List.{List}
 use Prim.Native.Nat.{ℕ, _<_}
-use Rattle.forest.specs.Forest.{Tree, Lookup, present}
+use Rattle.forest.specs.Forest.{Tree}
 use Rattle.forest.specs.Path.{Path}
 use Rattle.scalar.specs.Value.{Value, pick}
-use Rattle.tree.specs.Encode.{Octets, Message, messageDeep, messageMany}
-use Rattle.tree.specs.Decode.{decodeMessage, isMessage}
-use Rattle.tree.specs.DecodeLaws.{present-is, absent-is, decode-sound}
-use Rattle.refusal.specs.declared.Refusal.the-variants.{MoveNotAllowed, NoMessage, MessageMisfit}
+use Rattle.tree.specs.Decode.{decodeMessage}
+use Rattle.refusal.specs.declared.Refusal.{Refusal}
+use Rattle.refusal.specs.declared.Refusal.the-variants.{MoveNotAllowed, NoMessage}
+use Rattle.refusal.specs.declared.Verdict.{Verdict}
+use Rattle.refusal.specs.declared.Verdict.the-variants.{Done, Refused}
 use Rattle.refusal.specs.declared.Outcome.{Outcome}
 use Rattle.refusal.specs.Refusal.{refusedBy}
 use Rattle.syntax.specs.Syntax.{Network, Operation}
@@ -18,17 +19,18 @@ use Rattle.network.specs.Form.{WellFormed}
 use Rattle.network.specs.Rows.{operationLocation, replyType}
 use Rattle.network.specs.Decode.{pathOf, operationOf, networkOf}
 use Rattle.syntax.specs.Meets.{inFile}
-use Rattle.network.specs.TestLaws.{not-true, not-false}
-use Rattle.types.specs.Tells.{FitsRow}
 use Rattle.state.specs.Session.{State}
-use Rattle.moves.specs.Moves.{Result, notAllowed, require, mustFit, onWaitingRow, takeReply, onMessage, outerReply}
+use Rattle.moves.specs.Moves.{Result, notAllowed, mustFit, onWaitingRow, takeReply, onMessage, outerReply}
 use Rattle.moves.specs.Step.{finish}
 use Rattle.moving.specs.declared.Running.{Running}
 use Rattle.moving.specs.Made.{StateOf, Made, Runs, RunsAt}
 use Rattle.moving.specs.MadeLaws.{made-refused, in-session, running}
+use Rattle.fitting.specs.Fitting.{Passed, Passes}
+use Rattle.fitting.specs.FittingLaws.{bytes-come}
 use Rattle.waiting_rows.specs.declared.Waiting.{Waiting}
+use Rattle.waiting_rows.specs.declared.Sender.{Sender}
 use Rattle.waiting_rows.specs.Waiting.{waitingAs, RowsExist, WaitsAt, TakesReply}
-use Rattle.waiting_rows.specs.WaitingLaws.{waits-in, reply-fits}
+use Rattle.waiting_rows.specs.WaitingLaws.{waits-in, reply-passes}
 
 module _ (file s : List ℕ) (q n r : ℕ) (bytes : List ℕ) where
   abbrev outer : Network → State → Result
@@ -69,40 +71,29 @@ module _ (file s : List ℕ) (q n r : ℕ) (bytes : List ℕ) where
         pub outer-inside : {z : Outcome} → t ≡ true → z ≡ refusedBy MoveNotAllowed → Made file outer s s z
         outer-inside j f = made-refused file outer f (outer-row true j)
 
-        module _ (j : t ≡ false) {u : Bool} (d : u ≡ isMessage bytes) (octets : Octets bytes) where
-          pub outer-no-message : {z : Outcome} → not u ≡ true → z ≡ refusedBy NoMessage → Made file outer s s z
-          outer-no-message m f =
-              made-refused file outer f (λ w G st. outer-row false j w G st
-              ∙ ap (λ (l : Lookup Value). onMessage l (fitted G (operationOf file o) (pathOf file p))) (absent-is (decodeMessage bytes) (sym d ∙ not-true u m)))
+        module _ (j : t ≡ false) {ty : ℕ} {d : Verdict} (i : ty ≡ replyType file o) (l : Passes bytes file ty NoMessage d) where
+          rows-exist : WellFormed file → (G : State) → StateOf file s G → RowsExist file (Waiting.Row o p)
+          rows-exist w G st = subst (RowsExist file) g (k .exists w (running h e w G st .row))
 
-          module _ (m : not u ≡ false) {ty : ℕ} {fit : Bool} (i : ty ≡ replyType file o) (l : FitsRow bytes file ty fit) where
-            found : (tr : Tree Value) × (decodeMessage bytes ≡ present tr)
-            found = present-is (decodeMessage bytes) (sym d ∙ not-false u m)
+          passed : {u : Verdict} → d ≡ u → WellFormed file → (G : State) → StateOf file s G
+              → Passed u bytes (λ k. onMessage (decodeMessage bytes) (λ m. mustFit m (operationOf file o .reply) (k m)))
+          passed f w G st =
+              let ex = rows-exist w G st in
+              subst (λ (u : Verdict). Passed u bytes (λ k. onMessage (decodeMessage bytes) (λ m. mustFit m (operationOf file o .reply) (k m)))) f
+              (reply-passes o l i w (ex .0) (ex .2) _ (bytes-come bytes (operationOf file o .reply)))
 
-            is-message : Message bytes (found .0)
-            is-message = decode-sound messageDeep messageMany bytes (found .0) octets (found .1)
+          pub outer-not : {why : Refusal} {z : Outcome} → d ≡ Refused why → z ≡ record { bytes = 0; verdict = d } → Made file outer s s z
+          outer-not f c =
+              made-refused file outer (c ∙ ap (λ (u : Verdict). record { bytes = 0; verdict = u }) f)
+              (λ w G st. outer-row false j w G st ∙ passed f w G st (takeReply G q n r (pathOf file p)))
 
-            rows-exist : WellFormed file → (G : State) → StateOf file s G → RowsExist file (Waiting.Row o p)
-            rows-exist w G st = subst (RowsExist file) g (k .exists w (running h e w G st .row))
-
-            outer-fits : (f : Bool) → fit ≡ f → WellFormed file → (G : State) → StateOf file s G
-                → outer (networkOf file) G ≡ require f MessageMisfit (takeReply G q n r (pathOf file p) (found .0))
-            outer-fits f z w G st =
-                let ex = rows-exist w G st in
-                outer-row false j w G st
-                ∙ (ap (λ (y : Lookup Value). onMessage y (fitted G (operationOf file o) (pathOf file p))) (found .1)
-                ∙ ap (λ (y : Bool). require y MessageMisfit (takeReply G q n r (pathOf file p) (found .0)))
-                (reply-fits o l i w (ex .0) (ex .2) (found .0) is-message ∙ z))
-
-            pub outer-misfit : {z : Outcome} → not fit ≡ true → z ≡ refusedBy MessageMisfit → Made file outer s s z
-            outer-misfit y f = made-refused file outer f (outer-fits false (not-true fit y))
-
-            pub outer-taken : {s′ : List ℕ} {z : Outcome} → not fit ≡ false → TakesReply file s slot r p bytes s′ z → Made file outer s s′ z
-            outer-taken y f = record {
-              tells = λ w G st out.
-                  f .tells w (rows-exist w G st .1) G st q n b (running h e w G st) (found .0) is-message out
-                  ∙ ap (finish s out) (sym (outer-fits true (not-false fit y) w G st));
-            }
+          pub outer-taken : {s′ : List ℕ} {z : Outcome} → d ≡ Done → TakesReply file s Sender.Outsider slot r p bytes s′ z → Made file outer s s′ z
+          outer-taken f c = record {
+            tells = λ w G st out.
+                let m = passed f w G st in
+                c .tells w (rows-exist w G st .1) G st G refl q n b (running h e w G st) (m .0) (m .1) out
+                ∙ ap (finish s out) (sym (outer-row false j w G st ∙ m .2 (takeReply G q n r (pathOf file p))));
+          }
 
 -- ---- what the calls ask for
 

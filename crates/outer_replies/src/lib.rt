@@ -6,6 +6,8 @@ ghost use Rattle.moving.specs.Made.{Made};
 use moving::Running;
 use refusal::Outcome;
 use refusal::Refusal;
+use refusal::Verdict;
+use waiting_rows::Sender;
 use waiting_rows::Waiting;
 
 // The bytes reply to row r of session n of service q: 15 unless it waits on a location outside, 17, 19, and 18 where the session's tree would
@@ -14,7 +16,6 @@ pub fn outer_reply(file: &[u8], state: &mut [u8], q: u16, n: u16, r: u16, bytes:
     requires { ⌜ length (now state) ≡ 65536 ⌝ }
     ensures { λ o. ⌜ Made (now (file .entry)) (λ N G. outerReply N G q n r (now (bytes .entry))) (now (state .entry)) (now (state .exit)) o ⌝ }
 {
-    tree::octets(bytes);
     let Running::Session(slot, b) = moving::session_at(file, state, q, n) else {
         return refusal::refused(Refusal::MoveNotAllowed);
     };
@@ -24,11 +25,12 @@ pub fn outer_reply(file: &[u8], state: &mut [u8], q: u16, n: u16, r: u16, bytes:
     if operations::in_file(file, rows::operation_location(file, o)) {
         return refusal::refused(Refusal::MoveNotAllowed);
     }
-    if !tree::is_message(bytes) {
-        return refusal::refused(Refusal::NoMessage);
-    }
-    if !types::fits(bytes, file, rows::reply_type(file, o)) {
-        return refusal::refused(Refusal::MessageMisfit);
-    }
-    waiting_rows::take_reply(file, state, slot, r, path, bytes)
+    let v = fitting::passes(bytes, file, rows::reply_type(file, o), Refusal::NoMessage);
+    let Verdict::Done = v else {
+        return Outcome {
+            bytes: 0,
+            verdict: v,
+        };
+    };
+    waiting_rows::take_reply(file, state, Sender::Outsider, slot, r, path, bytes)
 }

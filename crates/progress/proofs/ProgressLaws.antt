@@ -1,17 +1,25 @@
 -- Laws of a row's progress: one for each way out of the functions.
-use Prim.Native.Nat.{ℕ, suc, _+_, _/_, _%_, _<_, _≤_}
-use mathlib.Core.Path.{_≡_, refl, sym, _∙_}
+use Prim.Native.Nat.{ℕ, suc, _+_, _<_, _≤_}
+use mathlib.Core.Path.{_≡_, refl, sym, ap, _∙_}
 use mathlib.Core.List.{List, [], _∷_, append-assoc}
+use mathlib.Core.Bool.{true, false}
 use native.Mathlib.Omega.{arith}
 use lib.ListN.{set, length, take, drop}
 use lib.Seq.{sets-eq}
 use borrow.Author.Tests.{ne-eqb, lt-ltb, le-ltb}
-use Rattle.wire.specs.Wire.{byteAt, u16At, u32At, withPart}
+use Rattle.wire.specs.Wire.{byteAt, withPart}
 use Rattle.state.specs.Places.{rowStart}
 use Rattle.state.specs.Session.{Progress}
-use Rattle.state.specs.Bytes.{zeros, readReply, readProgress, readSession, progressBytes}
+use Rattle.state.specs.Bytes.{zeros, replyBytes, destinationKind, readDestination, readProgress, readSession, progressBytes}
+use Rattle.state.specs.Shape.{isUndone}
+use Rattle.state.specs.PartLaws.{replace-more}
+use Rattle.moves.specs.Moves.{receivedBy}
+use Rattle.destinations.specs.declared.Destination.{Destination}
+use Rattle.destinations.specs.declared.ReplyTo.{ReplyTo}
+use Rattle.destinations.specs.declared.ReplyTo.the-variants.{Nobody, To}
+use Rattle.destinations.specs.Meaning.{destinationOf, replyOf}
 use Rattle.progress.specs.declared.Progress as coded
-use Rattle.progress.specs.declared.Progress.the-variants.{Undone, Done, Waits, Taken, FromOutsider, FromRow, FromNobody}
+use Rattle.progress.specs.declared.Progress.the-variants.{Undone, Done, Waits, Taken, Received}
 use Rattle.progress.specs.Meaning.{meaning}
 use Rattle.progress.specs.Stored.{rowStored}
 
@@ -30,26 +38,19 @@ module _ (s : List ℕ) (at k : ℕ) (e : k ≡ byteAt s at) where
   unfolding readProgress
   read-3 h f = rw (sym e ∙ h, f) refl
 
-  pub read-4 : {a : ℕ} → k ≡ 4 → a ≡ u32At s (at + 2) → meaning (FromOutsider a) ≡ readProgress s at
-  unfolding readProgress readReply
-  read-4 h f = rw (sym e ∙ h, f) refl
-
-  pub read-5 : {a b c : ℕ} → k ≡ 5 → a ≡ byteAt s (at + 2) → b ≡ byteAt s (at + 3) → c ≡ u16At s (at + 4) → meaning (FromRow a b c) ≡ readProgress s at
-  unfolding readProgress readReply
-  read-5 h f g i =
-      let d : at + 2 + 1 ≡ at + 3 = omega arith in
-      let j : at + 2 + 2 ≡ at + 4 = omega arith in
-      rw (sym e ∙ h, f, g, i, d, j) refl
-
-  pub read-6 : k ≡ 6 → meaning FromNobody ≡ readProgress s at
+  pub read-4 : (d : Destination) → k ≡ 4 → destinationOf d ≡ readDestination s 1 (at + 2) → meaning (Received d) ≡ readProgress s at
   unfolding readProgress
-  read-6 h = rw (sym e ∙ h) refl
+  read-4 d h f = rw (sym e ∙ h, f) refl
 
-  pub read-other : (k ≡ 1 → ⊥) → (k ≡ 2 → ⊥) → (k ≡ 3 → ⊥) → (k ≡ 4 → ⊥) → (k ≡ 5 → ⊥) → (k ≡ 6 → ⊥) → meaning Undone ≡ readProgress s at
+  pub read-5 : (d : Destination) → k ≡ 5 → destinationOf d ≡ readDestination s 2 (at + 2) → meaning (Received d) ≡ readProgress s at
   unfolding readProgress
-  read-other a b c d f g = rw (← e) (simp (ne-eqb k 1 a, ne-eqb k 2 b, ne-eqb k 3 c, ne-eqb k 4 d, ne-eqb k 5 f, ne-eqb k 6 g))
+  read-5 d h f = rw (sym e ∙ h, f) refl
 
-pub ruleset read-laws = (read-1, read-2, read-3, read-4, read-5, read-6, read-other)
+  pub read-other : (k ≡ 1 → ⊥) → (k ≡ 2 → ⊥) → (k ≡ 3 → ⊥) → (k ≡ 4 → ⊥) → (k ≡ 5 → ⊥) → meaning Undone ≡ readProgress s at
+  unfolding readProgress
+  read-other a b c d f = rw (← e) (simp (ne-eqb k 1 a, ne-eqb k 2 b, ne-eqb k 3 c, ne-eqb k 4 d, ne-eqb k 5 f))
+
+pub ruleset read-laws = (read-1, read-2, read-3, read-4, read-5, read-other)
 
 pub row-below : (s : List ℕ) (slot r i at : ℕ) (x : coded.Progress) → r < 256 → i ≡ r → at ≡ rowStart slot i → meaning x ≡ readProgress s at
     → meaning x ≡ readSession s slot .progress r
@@ -62,52 +63,78 @@ row-past s slot r l = rw (le-ltb r 256 l) refl
 
 pub ruleset row-laws = (row-below, row-past)
 
+-- ---- tests
+
+module _ (y : coded.Progress) (q : Progress) (e : meaning y ≡ q) where
+  pub undone-undone : y ≡ Undone → true ≡ isUndone q
+  undone-undone h = rw (sym e ∙ ap meaning h) refl
+
+  pub undone-done : y ≡ Done → false ≡ isUndone q
+  undone-done h = rw (sym e ∙ ap meaning h) refl
+
+  pub undone-waits : y ≡ Waits → false ≡ isUndone q
+  undone-waits h = rw (sym e ∙ ap meaning h) refl
+
+  pub undone-taken : {k : ℕ} → y ≡ Taken k → false ≡ isUndone q
+  undone-taken h = rw (sym e ∙ ap meaning h) refl
+
+  pub undone-received : {d : Destination} → y ≡ Received d → false ≡ isUndone q
+  undone-received h = rw (sym e ∙ ap meaning h) refl
+
+pub ruleset undone-laws = (undone-undone, undone-done, undone-waits, undone-taken, undone-received)
+
+-- ---- once received
+
+module _ (to : ReplyTo) where
+  pub by-nobody : to ≡ Nobody → meaning Done ≡ receivedBy (replyOf to)
+  by-nobody e = rw e refl
+
+  pub by-destination : {d : Destination} → to ≡ To d → meaning (Received d) ≡ receivedBy (replyOf to)
+  by-destination e = rw e refl
+
+pub ruleset by-laws = (by-nobody, by-destination)
+
 -- ---- writing
 
-pub six : (s : List ℕ) (at a b c d e f : ℕ) → at + 6 ≤ length s
-    → set (set (set (set (set (set s at a) (at + 1) b) (at + 2) c) (at + 3) d) (at + 4) e) (at + 5) f ≡ withPart s at (a ∷ b ∷ c ∷ d ∷ e ∷ f ∷ [])
-six s at a b c d e f h =
+pub two : (s : List ℕ) (at a b : ℕ) → at + 2 ≤ length s → set (set s at a) (at + 1) b ≡ withPart s at (a ∷ b ∷ [])
+two s at a b h =
     let e1 : at + 1 ≡ suc at = omega arith in
-    let e2 : at + 2 ≡ suc (suc at) = omega arith in
-    let e3 : at + 3 ≡ suc (suc (suc at)) = omega arith in
-    let e4 : at + 4 ≡ suc (suc (suc (suc at))) = omega arith in
-    let e5 : at + 5 ≡ suc (suc (suc (suc (suc at)))) = omega arith in
-    rw (e1, e2, e3, e4, e5) (
-    sets-eq (a ∷ b ∷ c ∷ d ∷ e ∷ f ∷ []) s at h ∙ append-assoc (take at s) (a ∷ b ∷ c ∷ d ∷ e ∷ f ∷ []) (drop (at + 6) s))
+    rw e1 (sets-eq (a ∷ b ∷ []) s at h ∙ append-assoc (take at s) (a ∷ b ∷ []) (drop (at + 2) s))
 
-pub ruleset six-laws = (six)
+pub ruleset two-laws = (two)
+
+pub parts : (s t o : List ℕ) (at a b : ℕ) (l : List ℕ) → at + 6 ≤ length s → t ≡ withPart s at (a ∷ b ∷ []) → o ≡ withPart t (at + 2) l
+    → o ≡ withPart s at (a ∷ b ∷ l)
+parts s t o at a b l h e f = f ∙ (ap (λ (z : List ℕ). withPart z (at + 2) l) e ∙ replace-more s at (a ∷ b ∷ []) l 2 (omega arith) refl)
+
+pub ruleset parts-laws = (parts)
 
 module _ (s o : List ℕ) (at : ℕ) (p : coded.Progress) where
-  pub put-undone : p ≡ Undone → o ≡ withPart s at (0 ∷ 0 ∷ 0 ∷ 0 ∷ 0 ∷ 0 ∷ []) → o ≡ withPart s at (progressBytes (meaning p))
+  abbrev Put : ℕ → ℕ → ReplyTo → Type 0
+  Put code part to = o ≡ withPart s at (code ∷ part ∷ replyBytes (replyOf to))
+
+  pub put-undone : p ≡ Undone → Put 0 0 Nobody → o ≡ withPart s at (progressBytes (meaning p))
   unfolding progressBytes zeros
   put-undone e h = rw e h
 
-  pub put-done : p ≡ Done → o ≡ withPart s at (1 ∷ 0 ∷ 0 ∷ 0 ∷ 0 ∷ 0 ∷ []) → o ≡ withPart s at (progressBytes (meaning p))
+  pub put-done : p ≡ Done → Put 1 0 Nobody → o ≡ withPart s at (progressBytes (meaning p))
   unfolding progressBytes zeros
   put-done e h = rw e h
 
-  pub put-waits : p ≡ Waits → o ≡ withPart s at (2 ∷ 0 ∷ 0 ∷ 0 ∷ 0 ∷ 0 ∷ []) → o ≡ withPart s at (progressBytes (meaning p))
+  pub put-waits : p ≡ Waits → Put 2 0 Nobody → o ≡ withPart s at (progressBytes (meaning p))
   unfolding progressBytes zeros
   put-waits e h = rw e h
 
-  pub put-taken : {k : ℕ} → p ≡ Taken k → o ≡ withPart s at (3 ∷ k ∷ 0 ∷ 0 ∷ 0 ∷ 0 ∷ []) → o ≡ withPart s at (progressBytes (meaning p))
+  pub put-taken : {k : ℕ} → p ≡ Taken k → Put 3 k Nobody → o ≡ withPart s at (progressBytes (meaning p))
   unfolding progressBytes zeros
   put-taken e h = rw e h
 
-  pub put-outsider : {v : ℕ} → p ≡ FromOutsider v → o ≡ withPart s at (4 ∷ 0 ∷ v % 256 ∷ v / 256 % 256 ∷ v / 65536 % 256 ∷ v / 16777216 ∷ [])
+  pub put-received : {d : Destination} {k : ℕ} → p ≡ Received d → k ≡ destinationKind (destinationOf d) → Put (3 + k) 0 (To d)
       → o ≡ withPart s at (progressBytes (meaning p))
   unfolding progressBytes
-  put-outsider e h = rw e h
+  put-received e f h = rw e (rw f at h)
 
-  pub put-from : {q n r : ℕ} → p ≡ FromRow q n r → o ≡ withPart s at (5 ∷ 0 ∷ q ∷ n ∷ r % 256 ∷ r / 256 ∷ []) → o ≡ withPart s at (progressBytes (meaning p))
-  unfolding progressBytes
-  put-from e h = rw e h
-
-  pub put-nobody : p ≡ FromNobody → o ≡ withPart s at (6 ∷ 0 ∷ 0 ∷ 0 ∷ 0 ∷ 0 ∷ []) → o ≡ withPart s at (progressBytes (meaning p))
-  unfolding progressBytes zeros
-  put-nobody e h = rw e h
-
-pub ruleset put-laws = (put-undone, put-done, put-waits, put-taken, put-outsider, put-from, put-nobody)
+pub ruleset put-laws = (put-undone, put-done, put-waits, put-taken, put-received)
 
 pub row-put : (s o : List ℕ) (slot r i at : ℕ) (x : Progress) → i ≡ r → at ≡ rowStart slot i → o ≡ withPart s at (progressBytes x) → o ≡ rowStored s slot r x
 unfolding rowStored

@@ -1,33 +1,13 @@
--- An undone row, by its progress in code: one law for each way out of a match.
-use mathlib.Core.Path.{_≡_, refl, sym, ap, _∙_}
-use mathlib.Core.Bool.{true, false}
-use Prim.Native.Nat.{ℕ}
-use Rattle.state.specs.Session.{Progress}
+-- moves' test for an undone row, as a test: what `is_undone` tells.
+use mathlib.Core.Path.{_≡_, refl}
+use Rattle.refusal.specs.declared.Refusal.the-variants.{MoveNotAllowed}
+use Rattle.state.specs.Session.{Progress, undone, done, waits, received, taken}
 use Rattle.state.specs.Shape.{isUndone}
-use Rattle.progress.specs.declared.Progress as coded
-use Rattle.progress.specs.declared.Progress.the-variants.{Undone, Done, Waits, Taken, FromOutsider, FromRow, FromNobody}
-use Rattle.progress.specs.Meaning.{meaning}
+use Rattle.moves.specs.Moves.{Result, require, ifUndone}
 
-module _ (y : coded.Progress) (q : Progress) (e : meaning y ≡ q) where
-  pub undone-undone : y ≡ Undone → true ≡ isUndone q
-  undone-undone h = rw (sym e ∙ ap meaning h) refl
-
-  pub undone-done : y ≡ Done → false ≡ isUndone q
-  undone-done h = rw (sym e ∙ ap meaning h) refl
-
-  pub undone-waits : y ≡ Waits → false ≡ isUndone q
-  undone-waits h = rw (sym e ∙ ap meaning h) refl
-
-  pub undone-taken : {k : ℕ} → y ≡ Taken k → false ≡ isUndone q
-  undone-taken h = rw (sym e ∙ ap meaning h) refl
-
-  pub undone-outsider : {v : ℕ} → y ≡ FromOutsider v → false ≡ isUndone q
-  undone-outsider h = rw (sym e ∙ ap meaning h) refl
-
-  pub undone-row : {a b c : ℕ} → y ≡ FromRow a b c → false ≡ isUndone q
-  undone-row h = rw (sym e ∙ ap meaning h) refl
-
-  pub undone-nobody : y ≡ FromNobody → false ≡ isUndone q
-  undone-nobody h = rw (sym e ∙ ap meaning h) refl
-
-pub ruleset undone-laws = (undone-undone, undone-done, undone-waits, undone-taken, undone-outsider, undone-row, undone-nobody)
+pub if-undone : (p : Progress) (x : Result) → ifUndone p x ≡ require (isUndone p) MoveNotAllowed x
+if-undone undone x = refl
+if-undone done x = refl
+if-undone waits x = refl
+if-undone (received d) x = refl
+if-undone (taken k) x = refl

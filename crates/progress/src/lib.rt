@@ -5,25 +5,27 @@ ghost use Prim.Native.Nat.{_+_, _≤_, _<_};
 ghost use lib.ListN.{length};
 ghost use Rattle.wire.specs.Wire.{withPart};
 ghost use Rattle.state.specs.Places.{slotSize, rowSize};
-ghost use Rattle.state.specs.Bytes.{readProgress, readSession, progressBytes};
+ghost use Rattle.state.specs.Bytes.{readProgress, readSession, replyBytes, progressBytes};
+ghost use Rattle.state.specs.Shape.{isUndone};
+ghost use Rattle.destinations.specs.Meaning.{replyOf};
+ghost use Rattle.moves.specs.Moves.{receivedBy};
 ghost use Rattle.progress.specs.Meaning.{meaning};
 ghost use Rattle.progress.specs.Stored.{rowStored};
+use destinations::Destination;
+use destinations::ReplyTo;
 
-// Undone, done or waiting; the part that is taken; or received, with where the reply goes: to an outsider by its reply number, to a
-// waiting row by its service, session and B row, or to nobody (which no state of a file's shape has).
+// Undone, done or waiting; the part that is taken; or received, with where the reply goes.
 pub enum Progress {
     Undone,
     Done,
     Waits,
     Taken(u8),
-    FromOutsider(u32),
-    FromRow(u8, u8, u16),
-    FromNobody,
+    Received(Destination),
 }
 
 // The progress in the six bytes from `at` on.
 pub fn progress_at(state: &[u8], at: usize) -> Progress
-    requires { ⌜ at < 1000000 ⌝ }
+    requires { ⌜ at + rowSize ≤ 0x100000000 ⌝ }
     ensures { λ x. ⌜ meaning x ≡ readProgress (now (state .entry)) at ⌝ }
 {
     let kind = wire::byte_at(state, at);
@@ -31,13 +33,8 @@ pub fn progress_at(state: &[u8], at: usize) -> Progress
         1 => Progress::Done,
         2 => Progress::Waits,
         3 => Progress::Taken(wire::byte_at(state, at + 1)),
-        4 => Progress::FromOutsider(wire::u32_at(state, at + 2)),
-        5 => Progress::FromRow(
-            wire::byte_at(state, at + 2),
-            wire::byte_at(state, at + 3),
-            wire::u16_at(state, at + 4),
-        ),
-        6 => Progress::FromNobody,
+        4 => Progress::Received(destinations::read(state, 1, at + 2)),
+        5 => Progress::Received(destinations::read(state, 2, at + 2)),
         _ => Progress::Undone,
     }
 }
@@ -53,17 +50,46 @@ pub fn row_progress(state: &[u8], slot: usize, r: u16) -> Progress
     Progress::Undone
 }
 
-// Stores six bytes.
-fn put_six(state: &mut [u8], at: usize, a: u8, b: u8, c: u8, d: u8, e: u8, f: u8)
-    requires { ⌜ at + rowSize ≤ length (now state) ⌝ }
-    ensures { λ _. ⌜ now (state .exit) ≡ withPart (now (state .entry)) at (a ∷ b ∷ c ∷ d ∷ e ∷ f ∷ []) ⌝ }
+// Is the row undone?
+pub fn is_undone(state: &[u8], slot: usize, r: u16) -> bool
+    requires { ⌜ slot < 65536 ⌝ }
+    ensures { λ x. ⌜ x ≡ isUndone (readSession (now (state .entry)) slot .progress r) ⌝ }
+{
+    match row_progress(state, slot, r) {
+        Progress::Undone => true,
+        Progress::Done => false,
+        Progress::Waits => false,
+        Progress::Taken(_) => false,
+        Progress::Received(_) => false,
+    }
+}
+
+// An input's progress once it has a message: done, or received where the message has a destination.
+pub fn received_by(to: ReplyTo) -> Progress
+    ensures { λ p. ⌜ meaning p ≡ receivedBy (replyOf to) ⌝ }
+{
+    match to {
+        ReplyTo::Nobody => Progress::Done,
+        ReplyTo::To(d) => Progress::Received(d),
+    }
+}
+
+// Stores two bytes.
+fn put_two(state: &mut [u8], at: usize, a: u8, b: u8)
+    requires { ⌜ at + 2 ≤ length (now state) ⌝ }
+    ensures { λ _. ⌜ now (state .exit) ≡ withPart (now (state .entry)) at (a ∷ b ∷ []) ⌝ }
 {
     state[at] = a;
     state[at + 1] = b;
-    state[at + 2] = c;
-    state[at + 3] = d;
-    state[at + 4] = e;
-    state[at + 5] = f;
+}
+
+// Stores a progress by its parts: what it is, the taken part, where the reply goes.
+fn put_parts(state: &mut [u8], at: usize, code: u8, part: u8, to: ReplyTo)
+    requires { ⌜ at + rowSize ≤ length (now state) ⌝ }
+    ensures { λ _. ⌜ now (state .exit) ≡ withPart (now (state .entry)) at (code ∷ part ∷ replyBytes (replyOf to)) ⌝ }
+{
+    put_two(state, at, code, part);
+    destinations::write_reply(state, at + 2, to);
 }
 
 // Writes a progress to the six bytes from `at` on.
@@ -73,35 +99,23 @@ pub fn put_progress(state: &mut [u8], at: usize, p: Progress)
 {
     match p {
         Progress::Undone => {
-            put_six(state, at, 0, 0, 0, 0, 0, 0);
+            put_parts(state, at, 0, 0, ReplyTo::Nobody);
             return;
         }
         Progress::Done => {
-            put_six(state, at, 1, 0, 0, 0, 0, 0);
+            put_parts(state, at, 1, 0, ReplyTo::Nobody);
             return;
         }
         Progress::Waits => {
-            put_six(state, at, 2, 0, 0, 0, 0, 0);
+            put_parts(state, at, 2, 0, ReplyTo::Nobody);
             return;
         }
         Progress::Taken(k) => {
-            put_six(state, at, 3, k, 0, 0, 0, 0);
+            put_parts(state, at, 3, k, ReplyTo::Nobody);
             return;
         }
-        Progress::FromOutsider(v) => {
-            let c = (v % 256) as u8;
-            let d = (v / 256 % 256) as u8;
-            let e = (v / 65536 % 256) as u8;
-            let f = (v / 16777216) as u8;
-            put_six(state, at, 4, 0, c, d, e, f);
-            return;
-        }
-        Progress::FromRow(q, n, r) => {
-            put_six(state, at, 5, 0, q, n, (r % 256) as u8, (r / 256) as u8);
-            return;
-        }
-        Progress::FromNobody => {
-            put_six(state, at, 6, 0, 0, 0, 0, 0);
+        Progress::Received(d) => {
+            put_parts(state, at, 3 + destinations::kind_of(d), 0, ReplyTo::To(d));
             return;
         }
     }

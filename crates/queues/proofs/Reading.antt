@@ -8,37 +8,19 @@ use native.Mathlib.Omega.{arith}
 use lib.ListN.{length}
 use borrow.Author.Tests.{eq-eqb, ne-eqb}
 use Rattle.scalar.specs.Value.{pick}
-use Rattle.wire.specs.Wire.{byteAt, u16At, u32At}
+use Rattle.wire.specs.Wire.{byteAt, u16At}
 use Rattle.state.specs.Places.{entrySize, queuePlace, entryStart}
-use Rattle.state.specs.Session.{ReplyTo, nobody, outsider, waitingRow}
 use Rattle.state.specs.Bytes.{readReply, readEntry, readQueue, readSession}
 use Rattle.network.specs.TestLaws.{one-less}
-use Rattle.queues.specs.declared.ReplyTo as declared
+use Rattle.destinations.specs.declared.ReplyTo.{ReplyTo}
+use Rattle.destinations.specs.Meaning.{replyOf}
 use Rattle.queues.specs.declared.OldestEntry.{OldestEntry}
 use Rattle.queues.specs.declared.OldestEntry.the-variants.{Nothing, Entry}
-use Rattle.queues.specs.Queue.{replyOf, messageSpan, Counted, oldestFrom, oldestIn}
-
--- ---- where a reply goes
-
-module _ (s : List ℕ) (kind at : ℕ) where
-  pub reply-outsider : {v : ℕ} → kind ≡ 1 → v ≡ u32At s at → outsider v ≡ readReply s kind at
-  unfolding readReply
-  reply-outsider k e = rw (eq-eqb kind 1 k, e)
-
-  pub reply-waiting : {q n r : ℕ} → (kind ≡ 1 → ⊥) → kind ≡ 2 → q ≡ byteAt s at → n ≡ byteAt s (at + 1) → r ≡ u16At s (at + 2)
-      → waitingRow q n r ≡ readReply s kind at
-  unfolding readReply
-  reply-waiting d k a b c = rw (ne-eqb kind 1 d, eq-eqb kind 2 k, a, b, c)
-
-  pub reply-nobody : (kind ≡ 1 → ⊥) → (kind ≡ 2 → ⊥) → nobody ≡ readReply s kind at
-  unfolding readReply
-  reply-nobody d e = rw (ne-eqb kind 1 d, ne-eqb kind 2 e)
-
-pub ruleset reply-laws = (reply-outsider, reply-waiting, reply-nobody)
+use Rattle.queues.specs.Queue.{messageSpan, Counted, oldestFrom, oldestIn}
 
 -- ---- an entry
 
-pub entry-reply-goes : (s : List ℕ) (slot k : ℕ) {at kind : ℕ} (r : declared.ReplyTo) → at ≡ entryStart slot k → kind ≡ byteAt s (at + 1)
+pub entry-reply-goes : (s : List ℕ) (slot k : ℕ) {at kind : ℕ} (r : ReplyTo) → at ≡ entryStart slot k → kind ≡ byteAt s (at + 1)
     → replyOf r ≡ readReply s kind (at + 4) → replyOf r ≡ readEntry s (entryStart slot k) .replyTo
 unfolding readEntry
 entry-reply-goes s slot k {at} r f e h = h ∙ (ap (λ (i : ℕ). readReply s i (at + 4)) e ∙ ap (λ (i : ℕ). readReply s (byteAt s (i + 1)) (i + 4)) f)

@@ -1,26 +1,27 @@
 -- Bytes that are written one after another, at each of the ways out of the code.
 use mathlib.Core.Path.{_≡_, refl, sym, ap, _∙_}
-use mathlib.Core.List.{List, [], _∷_, _++_, append-assoc}
+use mathlib.Core.List.{List, [], _∷_, _++_}
 use mathlib.Core.Bool.{Bool}
 use mathlib.Core.Logic.{inr}
 use Prim.Native.Nat.{ℕ, _+_, _-_, _*_, _/_, _%_, _≤_, _<_}
 use native.Mathlib.Numerals.{add-one}
-use native.Mathlib.Nat.{add-zero, zero-add, div-div-eq-div-mul}
+use native.Mathlib.Nat.{add-zero}
 use native.Mathlib.Omega.{arith}
-use lib.ListN.{getD, set, length, take, drop, take-append-drop, length-append, length-set}
-use lib.Seq.{set-split, drop-drop, take-suc, take-all, getD-take, getD-drop, length-take-le}
+use lib.ListN.{getD, set, length, take, drop, take-append-drop, length-set}
+use lib.Seq.{set-split, take-suc, take-all, getD-take, getD-drop, length-take-le}
 use borrow.Author.Tests.{lt-ltb, le-ltb}
 use Rattle.scalar.specs.Value.{pick}
 use Rattle.wire.specs.Wire.{byteAt, part, withPart}
 use Rattle.wire.specs.WireLaws.{length-part, length-withPart, agree-byte, withPart-outside}
 use Rattle.state.specs.Places.{slotSize, messageRoom, entrySize, entryStart}
-use Rattle.state.specs.Session.{ReplyTo}
-use Rattle.state.specs.Bytes.{zeros, padded, u16Bytes, u32Bytes, replyKind, replyBytes, readSession}
-use Rattle.state.specs.PartLaws.{length-zeros, byte-zeros, replace-rest}
+use Rattle.syntax.specs.Syntax.{Optional}
+use Rattle.state.specs.Session.{Destination}
+use Rattle.state.specs.Bytes.{zeros, padded, u16Bytes, replyKind, replyBytes, readSession}
+use Rattle.state.specs.PartLaws.{length-zeros, byte-zeros, replace-more}
 use Rattle.state.specs.SizeLaws.{reply-size}
-use Rattle.queues.specs.declared.ReplyTo as declared
-use Rattle.queues.specs.declared.ReplyTo.the-variants.{Nobody, Outsider, WaitingRow}
-use Rattle.queues.specs.Queue.{replyOf, removed, entryHead, entryOf, pushed}
+use Rattle.destinations.specs.declared.ReplyTo.{ReplyTo}
+use Rattle.destinations.specs.Meaning.{replyOf}
+use Rattle.queues.specs.Queue.{removed, entryHead, entryOf, pushed}
 use Rattle.queues.specs.Written.{written}
 
 -- ---- one after another
@@ -40,19 +41,7 @@ module _ (s : List ℕ) (at : ℕ) where
 
   pub written-more : (x y : List ℕ) (n : ℕ) → at ≤ length s → length x ≡ n → written (written s at x) (at + n) y ≡ written s at (x ++ y)
   unfolding written
-  written-more x y n h e =
-      let rest = drop (at + length x) s in
-      let b : withPart (x ++ rest) n y ≡ x ++ (y ++ drop (length y) rest) =
-      ap (λ (i : ℕ). withPart (x ++ rest) i y) (sym (add-zero n))
-      ∙ (replace-rest x rest n 0 y e ∙ ap (λ (i : ℕ). x ++ (y ++ drop i rest)) (zero-add (length y))) in
-      let d : drop (length y) rest ≡ drop (at + length (x ++ y)) s =
-      drop-drop (length y) (at + length x) s ∙ ap (λ (i : ℕ). drop i s) (sums x y) in
-      replace-rest (take at s) (x ++ rest) at n y (length-take-le at s h)
-      ∙ ap (λ (z : List ℕ). take at s ++ z)
-      (b ∙ (ap (λ (z : List ℕ). x ++ (y ++ z)) d ∙ sym (append-assoc x y (drop (at + length (x ++ y)) s))))
-    where
-      sums : (x y : List ℕ) → at + length x + length y ≡ at + length (x ++ y)
-      sums x y = simp length-append (omega arith)
+  written-more x y n h e = replace-more s at x y n h e
 
   -- One more byte.
   written-next : {s₁ : List ℕ} (l : List ℕ) (i x : ℕ) → length l ≡ i → at + i < length s → s₁ ≡ written s at l
@@ -150,41 +139,12 @@ chain : (s : List ℕ) (at : ℕ) {s₁ s₂ : List ℕ} (x y : List ℕ) (n a :
 chain s at x y n a h e i p q =
     q ∙ (ap (λ (z : List ℕ). written z a y) p ∙ (ap (λ (j : ℕ). written (written s at x) j y) i ∙ written-more s at x y n h e))
 
--- ---- where a reply goes
-
-module _ (s : List ℕ) (at : ℕ) (to : declared.ReplyTo) where
-  pub goes-nowhere : {s₁ : List ℕ} → to ≡ Nobody → s₁ ≡ written s at (zeros 4) → s₁ ≡ written s at (replyBytes (replyOf to))
-  goes-nowhere e a = a ∙ ap (λ (t : declared.ReplyTo). written s at (replyBytes (replyOf t))) (sym e)
-
-  pub goes-outside : {s₁ s₂ : List ℕ} (k : ℕ) → to ≡ Outsider k → at + 4 ≤ length s → s₁ ≡ written s at (u16Bytes (k % 65536))
-      → s₂ ≡ written s₁ (at + 2) (u16Bytes (k / 65536)) → s₂ ≡ written s at (replyBytes (replyOf to))
-  goes-outside k e h a b =
-      chain s at (u16Bytes (k % 65536)) (u16Bytes (k / 65536)) 2 (at + 2) (omega (arith, h)) refl refl a b
-      ∙ (ap (written s at) (bytes k) ∙ ap (λ (t : declared.ReplyTo). written s at (replyBytes (replyOf t))) (sym e))
-    where
-      bytes : (k : ℕ) → u16Bytes (k % 65536) ++ u16Bytes (k / 65536) ≡ u32Bytes k
-      bytes k =
-          let a : k % 65536 % 256 ≡ k % 256 = omega arith in
-          let c : k / 256 ≡ 256 * (k / 65536) + k % 65536 / 256 = omega arith in
-          let t : k / 256 / 256 ≡ k / 65536 = div-div-eq-div-mul k 256 256 in
-          let b : k % 65536 / 256 ≡ k / 256 % 256 = omega (arith, c, t) in
-          let d : k / 65536 / 256 ≡ k / 16777216 = div-div-eq-div-mul k 65536 256 in
-          rw (a, b, d)
-
-  pub goes-to-row : {s₁ s₂ s₃ : List ℕ} (q n r : ℕ) → to ≡ WaitingRow q n r → at + 4 ≤ length s → s₁ ≡ written s at (q ∷ []) → s₂ ≡ written s₁ (at + 1) (n ∷ [])
-      → s₃ ≡ written s₂ (at + 2) (u16Bytes r) → s₃ ≡ written s at (replyBytes (replyOf to))
-  goes-to-row q n r e h a b d =
-      chain s at (q ∷ n ∷ []) (u16Bytes r) 2 (at + 2) (omega (arith, h)) refl refl (chain s at (q ∷ []) (n ∷ []) 1 (at + 1) (omega (arith, h)) refl refl a b) d
-      ∙ ap (λ (t : declared.ReplyTo). written s at (replyBytes (replyOf t))) (sym e)
-
-pub ruleset goes-laws = (goes-nowhere, goes-outside, goes-to-row)
-
 -- ---- an entry
 
-pub head-written : (s : List ℕ) (at w : ℕ) (to : declared.ReplyTo) (len : ℕ) {kind : ℕ} {s₁ s₂ s₃ s₄ : List ℕ} → at + 8 ≤ length s
+pub head-written : (s : List ℕ) (at w : ℕ) (to : ReplyTo) (len : ℕ) {kind : ℕ} {s₁ s₂ s₃ s₄ : List ℕ} → at + 8 ≤ length s
     → s₁ ≡ written s at ((w + 1) ∷ []) → kind ≡ replyKind (replyOf to) → s₂ ≡ written s₁ (at + 1) (kind ∷ []) → s₃ ≡ written s₂ (at + 2) (u16Bytes len)
-    → s₄ ≡ written s₃ (at + 4) (replyBytes (replyOf to)) → s₄ ≡ written s at (entryHead w (replyOf to) len)
-unfolding entryHead
+    → s₄ ≡ withPart s₃ (at + 4) (replyBytes (replyOf to)) → s₄ ≡ written s at (entryHead w (replyOf to) len)
+unfolding entryHead written
 head-written s at w to len {kind} h a k b d e =
     let r = replyBytes (replyOf to) in
     let inside : at ≤ length s = omega (arith, h) in
@@ -193,7 +153,7 @@ head-written s at w to len {kind} h a k b d e =
     chain s at ((w + 1) ∷ kind ∷ u16Bytes len) r 4 (at + 4) inside refl refl two e
     ∙ ap (λ (j : ℕ). written s at (((w + 1) ∷ j ∷ u16Bytes len) ++ r)) k
 
-head-size : (w : ℕ) (to : ReplyTo) (n : ℕ) → length (entryHead w to n) ≡ 8
+head-size : (w : ℕ) (to : Optional Destination) (n : ℕ) → length (entryHead w to n) ≡ 8
 unfolding entryHead
 head-size w to n = omega (arith, reply-size to)
 
@@ -215,7 +175,7 @@ removed-is s slot k {at} h i f a b =
     chain s at (part s (at + entrySize) n) (zeros entrySize) n (at + n) (omega (arith, h, i, f)) l refl a b
     ∙ ap (λ (j : ℕ). withPart s j (part s (j + entrySize) n ++ zeros entrySize)) f
 
-module _ (s : List ℕ) (slot w : ℕ) (to : declared.ReplyTo) (message : List ℕ) (start len : ℕ) {k : ℕ} where
+module _ (s : List ℕ) (slot w : ℕ) (to : ReplyTo) (message : List ℕ) (start len : ℕ) {k : ℕ} where
   pub push-full : (k ≡ length (readSession s slot .queue)) × (k ≤ 4) → 4 ≤ k → s ≡ pushed s slot w (replyOf to) (part message start len)
   unfolding pushed
   push-full h i =

@@ -11,11 +11,12 @@ use lib.Seq.{length-take-le, drop-length}
 use borrow.Author.Tests.{lt-ltb}
 use Rattle.forest.specs.Forest.{Tree}
 use Rattle.scalar.specs.Value.{Value, pick}
+use Rattle.syntax.specs.Syntax.{Optional}
 use Rattle.wire.specs.Wire.{u16At, part, withPart}
 use Rattle.wire.specs.WireLaws.{length-withPart}
 use Rattle.tree.specs.Encode.{WellFormed, messageDeep, messageMany}
 use Rattle.state.specs.Places.{slotSize, messageRoom, entrySize, queueSize, queuePlace, slotStart, entryStart}
-use Rattle.state.specs.Session.{ReplyTo, Queued, Session, withQueue, Slot, live, State, setSlot}
+use Rattle.state.specs.Session.{Destination, Queued, Session, withQueue, Slot, live, State, setSlot}
 use Rattle.state.specs.Bytes.{zeros, padded, u16Bytes, replyKind, replyBytes, messageBytes, entryBytes, queueBytes, slotBytes, stateBytes}
 use Rattle.state.specs.Bytes.{readEntry, readSession}
 use Rattle.state.specs.Shape.{AllMessages, WellMade}
@@ -100,7 +101,7 @@ module _ {S : Session} (made : WellMade S) where
       made-queue made (without k (S .queue)) (omega (arith, ap length (x .others), ap length (x .whole), n, o, made .upToFour))
       (subst AllMessages (sym (x .others)) (remove-messages (x .before) (x .here) (x .after) all))
 
-  pub push-made : (w : ℕ) (to : ReplyTo) (m : Tree Value) → length (S .queue) < 4 → WellFormed messageDeep messageMany m
+  pub push-made : (w : ℕ) (to : Optional Destination) (m : Tree Value) → length (S .queue) < 4 → WellFormed messageDeep messageMany m
       → WellMade (withQueue S (S .queue ++ (record { operation = w; message = m; replyTo = to } ∷ [])))
   push-made w to m h good =
       let new : Queued = record { operation = w; message = m; replyTo = to } in
@@ -202,7 +203,7 @@ module _ {s : List ℕ} {slot : ℕ} {S : Session} (made : WellMade S) (holds : 
 
   -- ---- one more
 
-  pub push-live : (w : ℕ) (to : ReplyTo) (m : Tree Value) (l : List ℕ) → length (S .queue) < 4 → l ≡ messageBytes m → length l ≤ messageRoom
+  pub push-live : (w : ℕ) (to : Optional Destination) (m : Tree Value) (l : List ℕ) → length (S .queue) < 4 → l ≡ messageBytes m → length l ≤ messageRoom
       → pushed s slot w to l ≡ withPart s slot (slotBytes (live (withQueue S (S .queue ++ (record { operation = w; message = m; replyTo = to } ∷ [])))))
   unfolding pushed
   push-live w to m l h e small =
@@ -224,7 +225,7 @@ module _ {s : List ℕ} {slot : ℕ} {S : Session} (made : WellMade S) (holds : 
       ∙ (ap (withPart s (entryStart slot n)) (entry-same w to m)
       ∙ sym (queue-changed (S .queue ++ (new ∷ [])) z ∙ (ap (withPart s (slot + queuePlace)) a ∙ b)))))
     where
-      entry-same : (w : ℕ) (to : ReplyTo) (m : Tree Value) → entryOf w to (messageBytes m) ≡ entryBytes (record { operation = w; message = m; replyTo = to })
+      entry-same : (w : ℕ) (to : Optional Destination) (m : Tree Value) → entryOf w to (messageBytes m) ≡ entryBytes (record { operation = w; message = m; replyTo = to })
       entry-same w to m = unfold entryHead entryBytes in refl
 
 -- ---- in a state
@@ -239,7 +240,7 @@ module _ {G : State} (sized : Sized G) (q n : ℕ) (i : q < 4) (j : n < 4) {S : 
       let x : Slot = live (withQueue S (without k (S .queue))) in
       remove-live made slot-holds k h ∙ sym (set-bytes sized q n x (slot-size x (remove-made made k h)) i j)
 
-  pub push-state : (w : ℕ) (to : ReplyTo) (m : Tree Value) (l : List ℕ) → length (S .queue) < 4 → l ≡ messageBytes m → WellFormed messageDeep messageMany m
+  pub push-state : (w : ℕ) (to : Optional Destination) (m : Tree Value) (l : List ℕ) → length (S .queue) < 4 → l ≡ messageBytes m → WellFormed messageDeep messageMany m
       → pushed (stateBytes G) (slotStart q n) w to l
       ≡ stateBytes (setSlot G q n (live (withQueue S (S .queue ++ (record { operation = w; message = m; replyTo = to } ∷ [])))))
   push-state w to m l h e good =

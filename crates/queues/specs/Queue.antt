@@ -9,20 +9,13 @@ use lib.ListN.{length}
 use Rattle.scalar.specs.Value.{pick}
 use Rattle.wire.specs.Wire.{u16At, part, withPart}
 use Rattle.state.specs.Places.{messageRoom, entrySize, entryStart}
-use Rattle.state.specs.Session.{ReplyTo, nobody, outsider, waitingRow, Queued}
+use Rattle.syntax.specs.Syntax.{Optional}
+use Rattle.state.specs.Session.{Destination, Queued}
 use Rattle.state.specs.Bytes.{zeros, padded, u16Bytes, replyKind, replyBytes, readQueue, readSession}
 use Rattle.moves.specs.Moves.{Taken, nothing, message, keeping}
-use Rattle.queues.specs.declared.ReplyTo as declared
-use Rattle.queues.specs.declared.ReplyTo.the-variants.{Nobody, Outsider, WaitingRow}
 use Rattle.queues.specs.declared.OldestEntry.{OldestEntry}
 use Rattle.queues.specs.declared.OldestEntry.the-variants.{Nothing, Entry}
 use Rattle.queues.specs.declared.Span.{Span}
-
--- Where a reply goes, by the enum's cases, in the terms of states. 01, Moves: a state holds "where replies go".
-abbrev pub replyOf : declared.ReplyTo → ReplyTo
-replyOf Nobody = nobody
-replyOf (Outsider k) = outsider k
-replyOf (WaitingRow q n r) = waitingRow q n r
 
 -- The place and the length of the message's bytes in the entry k.
 unfoldable pub messageSpan : List ℕ → ℕ → ℕ → Span
@@ -64,13 +57,13 @@ removed s slot k = withPart s (entryStart slot k) (part s (entryStart slot k + e
 
 -- An entry, as `entryBytes`, from the bytes l of its message: the operation's O row plus 1, the reply's kind, the message's length and where
 -- the reply goes; then the message and zeros.
-unfoldable pub entryHead : ℕ → ReplyTo → ℕ → List ℕ
+unfoldable pub entryHead : ℕ → Optional Destination → ℕ → List ℕ
 entryHead w to n = ((w + 1) ∷ replyKind to ∷ u16Bytes n) ++ replyBytes to
 
-abbrev pub entryOf : ℕ → ReplyTo → List ℕ → List ℕ
+abbrev pub entryOf : ℕ → Optional Destination → List ℕ → List ℕ
 entryOf w to l = entryHead w to (length l) ++ padded messageRoom l
 
 -- The state's bytes with one more message at the first unused entry; the same where four are queued.
-unfoldable pub pushed : List ℕ → ℕ → ℕ → ReplyTo → List ℕ → List ℕ
+unfoldable pub pushed : List ℕ → ℕ → ℕ → Optional Destination → List ℕ → List ℕ
 pushed s slot w to l =
     pick (ltb (length (readSession s slot .queue)) 4) (withPart s (entryStart slot (length (readSession s slot .queue))) (entryOf w to l)) s

@@ -6,16 +6,11 @@ ghost use Prim.Native.Nat.{_+_, _*_, _/_, _%_, _≤_, _<_};
 ghost use lib.ListN.{length};
 ghost use Rattle.wire.specs.Wire.{part};
 ghost use Rattle.state.specs.Places.{slotSize, messageRoom, entrySize, entryStart};
-ghost use Rattle.state.specs.Bytes.{zeros, padded, u16Bytes, replyKind, replyBytes, readReply, readEntry, readQueue, readSession};
-ghost use Rattle.queues.specs.Queue.{replyOf, messageSpan, Counted, oldestFrom, oldestIn, removed, entryHead, pushed};
+ghost use Rattle.state.specs.Bytes.{zeros, padded, u16Bytes, readEntry, readQueue, readSession};
+ghost use Rattle.destinations.specs.Meaning.{replyOf};
+ghost use Rattle.queues.specs.Queue.{messageSpan, Counted, oldestFrom, oldestIn, removed, entryHead, pushed};
 ghost use Rattle.queues.specs.Written.{written};
-
-// Where the reply to a message goes: nowhere, to an outsider under its reply number, or to a waiting row by service, session and B row.
-pub enum ReplyTo {
-    Nobody,
-    Outsider(u32),
-    WaitingRow(u8, u8, u16),
-}
+use destinations::ReplyTo;
 
 // The index of the oldest message of an operation, if there is one.
 pub enum OldestEntry {
@@ -29,31 +24,13 @@ pub struct Span {
     pub len: usize,
 }
 
-// Where a reply goes, from its kind and the four bytes from `at` on.
-pub fn reply_at(state: &[u8], kind: u8, at: usize) -> ReplyTo
-    requires { ⌜ at + 4 ≤ length (now state) ⌝ }
-    ensures { λ r. ⌜ replyOf r ≡ readReply (now (state .entry)) kind at ⌝ }
-{
-    if kind == 1 {
-        return ReplyTo::Outsider(wire::u32_at(state, at));
-    }
-    if kind == 2 {
-        return ReplyTo::WaitingRow(
-            wire::byte_at(state, at),
-            wire::byte_at(state, at + 1),
-            wire::u16_at(state, at + 2),
-        );
-    }
-    ReplyTo::Nobody
-}
-
 // Where the reply to the message of the entry k goes.
 pub fn entry_reply(state: &[u8], slot: usize, k: usize) -> ReplyTo
     requires { ⌜ (slot + slotSize ≤ length (now state)) × (k < 4) ⌝ }
     ensures { λ r. ⌜ replyOf r ≡ readEntry (now (state .entry)) (entryStart slot k) .replyTo ⌝ }
 {
     let at = state::entry_start(slot, k);
-    reply_at(state, wire::byte_at(state, at + 1), at + 4)
+    destinations::read_reply(state, wire::byte_at(state, at + 1), at + 4)
 }
 
 // The operation (O row) of the entry that starts at `at`.
@@ -198,46 +175,15 @@ pub fn remove(state: &mut [u8], slot: usize, k: usize)
     clear(state, at + n, state::ENTRY);
 }
 
-fn reply_kind(to: ReplyTo) -> u8
-    ensures { λ r. ⌜ r ≡ replyKind (replyOf to) ⌝ }
-{
-    match to {
-        ReplyTo::Nobody => 0,
-        ReplyTo::Outsider(_) => 1,
-        ReplyTo::WaitingRow(_, _, _) => 2,
-    }
-}
-
-// Writes the four bytes that say where a reply goes.
-fn put_reply(state: &mut [u8], at: usize, to: ReplyTo)
-    requires { ⌜ at + 4 ≤ length (now state) ⌝ }
-    ensures { λ _. ⌜ now (state .exit) ≡ written (now (state .entry)) at (replyBytes (replyOf to)) ⌝ }
-{
-    match to {
-        ReplyTo::Nobody => {
-            clear(state, at, 4);
-        }
-        ReplyTo::Outsider(number) => {
-            put_number(state, at, (number % 65536) as u16);
-            put_number(state, at + 2, (number / 65536) as u16);
-        }
-        ReplyTo::WaitingRow(service, session, row) => {
-            put(state, at, service);
-            put(state, at + 1, session);
-            put_number(state, at + 2, row);
-        }
-    }
-}
-
 // Writes what an entry holds before its message, 8 bytes: the operation w, where the reply goes, the message's length.
 fn put_head(state: &mut [u8], at: usize, w: u16, to: ReplyTo, len: u16)
     requires { ⌜ (at + 8 ≤ length (now state)) × (w < 255) ⌝ }
     ensures { λ _. ⌜ now (state .exit) ≡ written (now (state .entry)) at (entryHead w (replyOf to) len) ⌝ }
 {
     put(state, at, (w + 1) as u8);
-    put(state, at + 1, reply_kind(to));
+    put(state, at + 1, destinations::reply_kind(to));
     put_number(state, at + 2, len);
-    put_reply(state, at + 4, to);
+    destinations::write_reply(state, at + 4, to);
 }
 
 // Writes an entry's message, the `len` bytes of `message` from `start` on, and zeros.

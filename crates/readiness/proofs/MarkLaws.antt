@@ -11,8 +11,9 @@ use Rattle.rows.specs.declared.BehaviourRow.{BehaviourRow}
 use Rattle.rows.specs.declared.BranchRow.{BranchRow}
 use Rattle.rows.specs.Readers.{behaviourRowOf, BranchAt}
 use Rattle.state.specs.Session.{Progress, undone, done, waits, received, taken, Progresses}
+use Rattle.destinations.specs.declared.Destination.{Destination}
 use Rattle.progress.specs.declared.Progress as coded
-use Rattle.progress.specs.declared.Progress.the-variants.{Undone, Done, Waits, Taken, FromOutsider, FromRow, FromNobody}
+use Rattle.progress.specs.declared.Progress.the-variants.{Undone, Done, Waits, Taken, Received}
 use Rattle.progress.specs.Meaning.{meaning}
 use Rattle.moves.specs.Readiness.{ifDone, ifReceived, ifTaken, thenOrElse, isDone}
 use Rattle.network.specs.Decode.{behaviourOf}
@@ -36,14 +37,8 @@ module _ (y : coded.Progress) (q : Progress) (e : meaning y ≡ q) where
   pub done-taken : {k : ℕ} → y ≡ Taken k → false ≡ ifDone q false true
   done-taken h = rw (sym e ∙ ap meaning h) refl
 
-  pub done-outsider : {v : ℕ} → y ≡ FromOutsider v → false ≡ ifDone q false true
-  done-outsider h = rw (sym e ∙ ap meaning h) refl
-
-  pub done-row : {a b c : ℕ} → y ≡ FromRow a b c → false ≡ ifDone q false true
-  done-row h = rw (sym e ∙ ap meaning h) refl
-
-  pub done-nobody : y ≡ FromNobody → false ≡ ifDone q false true
-  done-nobody h = rw (sym e ∙ ap meaning h) refl
+  pub done-received : {d : Destination} → y ≡ Received d → false ≡ ifDone q false true
+  done-received h = rw (sym e ∙ ap meaning h) refl
 
   pub received-undone : y ≡ Undone → false ≡ ifReceived q false true
   received-undone h = rw (sym e ∙ ap meaning h) refl
@@ -57,14 +52,8 @@ module _ (y : coded.Progress) (q : Progress) (e : meaning y ≡ q) where
   pub received-taken : {k : ℕ} → y ≡ Taken k → false ≡ ifReceived q false true
   received-taken h = rw (sym e ∙ ap meaning h) refl
 
-  pub received-outsider : {v : ℕ} → y ≡ FromOutsider v → true ≡ ifReceived q false true
-  received-outsider h = rw (sym e ∙ ap meaning h) refl
-
-  pub received-row : {a b c : ℕ} → y ≡ FromRow a b c → true ≡ ifReceived q false true
-  received-row h = rw (sym e ∙ ap meaning h) refl
-
-  pub received-nobody : y ≡ FromNobody → true ≡ ifReceived q false true
-  received-nobody h = rw (sym e ∙ ap meaning h) refl
+  pub received-received : {d : Destination} → y ≡ Received d → true ≡ ifReceived q false true
+  received-received h = rw (sym e ∙ ap meaning h) refl
 
   pub part-undone : y ≡ Undone → Part.Nothing ≡ ifTaken q Part.Nothing Part.Taken
   part-undone h = rw (sym e ∙ ap meaning h) refl
@@ -78,20 +67,14 @@ module _ (y : coded.Progress) (q : Progress) (e : meaning y ≡ q) where
   pub part-taken : {k : ℕ} → y ≡ Taken k → Part.Taken k ≡ ifTaken q Part.Nothing Part.Taken
   part-taken h = rw (sym e ∙ ap meaning h) refl
 
-  pub part-outsider : {v : ℕ} → y ≡ FromOutsider v → Part.Nothing ≡ ifTaken q Part.Nothing Part.Taken
-  part-outsider h = rw (sym e ∙ ap meaning h) refl
+  pub part-received : {d : Destination} → y ≡ Received d → Part.Nothing ≡ ifTaken q Part.Nothing Part.Taken
+  part-received h = rw (sym e ∙ ap meaning h) refl
 
-  pub part-row : {a b c : ℕ} → y ≡ FromRow a b c → Part.Nothing ≡ ifTaken q Part.Nothing Part.Taken
-  part-row h = rw (sym e ∙ ap meaning h) refl
+pub ruleset done-laws = (done-undone, done-done, done-waits, done-taken, done-received)
 
-  pub part-nobody : y ≡ FromNobody → Part.Nothing ≡ ifTaken q Part.Nothing Part.Taken
-  part-nobody h = rw (sym e ∙ ap meaning h) refl
+pub ruleset received-laws = (received-undone, received-done, received-waits, received-taken, received-received)
 
-pub ruleset done-laws = (done-undone, done-done, done-waits, done-taken, done-outsider, done-row, done-nobody)
-
-pub ruleset received-laws = (received-undone, received-done, received-waits, received-taken, received-outsider, received-row, received-nobody)
-
-pub ruleset part-laws = (part-undone, part-done, part-waits, part-taken, part-outsider, part-row, part-nobody)
+pub ruleset part-laws = (part-undone, part-done, part-waits, part-taken, part-received)
 
 -- ---- the taken part
 

@@ -52,9 +52,7 @@ fn marked_done(state: &[u8], slot: usize, r: u16) -> bool
         Progress::Done => true,
         Progress::Waits => false,
         Progress::Taken(_) => false,
-        Progress::FromOutsider(_) => false,
-        Progress::FromRow(_, _, _) => false,
-        Progress::FromNobody => false,
+        Progress::Received(_) => false,
     }
 }
 
@@ -68,9 +66,7 @@ fn marked_received(state: &[u8], slot: usize, r: u16) -> bool
         Progress::Done => false,
         Progress::Waits => false,
         Progress::Taken(_) => false,
-        Progress::FromOutsider(_) => true,
-        Progress::FromRow(_, _, _) => true,
-        Progress::FromNobody => true,
+        Progress::Received(_) => true,
     }
 }
 
@@ -83,9 +79,7 @@ fn taken_part(state: &[u8], slot: usize, r: u16) -> Part
         Progress::Done => Part::Nothing,
         Progress::Waits => Part::Nothing,
         Progress::Taken(k) => Part::Taken(k),
-        Progress::FromOutsider(_) => Part::Nothing,
-        Progress::FromRow(_, _, _) => Part::Nothing,
-        Progress::FromNobody => Part::Nothing,
+        Progress::Received(_) => Part::Nothing,
     }
 }
 

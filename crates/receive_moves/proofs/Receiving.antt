@@ -24,9 +24,10 @@ use Rattle.rows.specs.RowSyntax.{inputWith}
 use Rattle.row_parts.specs.Behaviours.{InputKeptBy}
 use Rattle.row_parts.specs.KindLaws.{input-is}
 use Rattle.state.specs.Places.{slotStart, entryStart}
-use Rattle.state.specs.Session.{Progress, undone, done, waits, received, taken, advance, Queued, Session, withTree, withQueue, withProgress, live, State, setSlot}
+use Rattle.state.specs.Session.{Progress, advance, Queued, Session, withTree, withQueue, withProgress, live, State, setSlot}
 use Rattle.state.specs.Bytes.{readEntry, readSession, slotBytes}
 use Rattle.state.specs.Shape.{isUndone, WellMade}
+use Rattle.progress.specs.UndoneLaws.{if-undone}
 use Rattle.moves.specs.Readiness.{reach}
 use Rattle.moves.specs.Moves.{Result, refused, moved, notAllowed, require, ifUndone, Taken, nothing, message, oldest, voidValue, takes}
 use Rattle.moves.specs.Moves.{receivedBy, receiveBy, receiveAt, receiveReached, receiveMove}
@@ -63,18 +64,10 @@ leaves-slot file {s} {s′} {o} {r} q n at S w G st i j p m e b h = record {
 -- ---- an input
 
 undone-runs : (p : Progress) (r : Result) → isUndone p ≡ true → ifUndone p r ≡ r
-undone-runs undone r e = refl
-undone-runs done r e = absurd (let z : _≡_ {A = ℕ} 0 1 = cc in omega arith)
-undone-runs waits r e = absurd (let z : _≡_ {A = ℕ} 0 1 = cc in omega arith)
-undone-runs (received to) r e = absurd (let z : _≡_ {A = ℕ} 0 1 = cc in omega arith)
-undone-runs (taken k) r e = absurd (let z : _≡_ {A = ℕ} 0 1 = cc in omega arith)
+undone-runs p r e = if-undone p r ∙ ap (λ (t : Bool). require t MoveNotAllowed r) e
 
 undone-not : (p : Progress) (r : Result) → isUndone p ≡ false → ifUndone p r ≡ notAllowed
-undone-not undone r e = absurd (let z : _≡_ {A = ℕ} 0 1 = cc in omega arith)
-undone-not done r e = refl
-undone-not waits r e = refl
-undone-not (received to) r e = refl
-undone-not (taken k) r e = refl
+undone-not p r e = if-undone p r ∙ ap (λ (t : Bool). require t MoveNotAllowed r) e
 
 operation-row : (file : List ℕ) (o : ℕ) → operationOf file o .row ≡ o
 unfolding operationOf
@@ -97,9 +90,9 @@ module _ (file s : List ℕ) (q slot i : ℕ) (x : Settling) (o p : ℕ) (two : 
   module _ (h : not u ≡ false) {a : Bool} (perm : a ≡ permits q (directionOf true) two (operationOf file o)) where
     allowed-is : (G : State) (n : ℕ) (S : Session) → readSession s slot ≡ S
         → inputReceives G q n S (settled x (S .progress)) i (operationOf file o) (pathOf file p) two
-        ≡ require a MoveNotAllowed (takes G q n S (pathOf file p) (settled x (S .progress)) i (receivedBy two) (oldest o (S .queue)))
+        ≡ require a MoveNotAllowed (takes G q n S (pathOf file p) (settled x (S .progress)) i (oldest o (S .queue)))
     allowed-is G n S e =
-        let R : ℕ → Result = λ j. takes G q n S (pathOf file p) (settled x (S .progress)) i (receivedBy two) (oldest j (S .queue)) in
+        let R : ℕ → Result = λ j. takes G q n S (pathOf file p) (settled x (S .progress)) i (oldest j (S .queue)) in
         undone-runs (S .progress i) _ (undone-here S e true (not-false u h))
         ∙ (ap (λ (j : ℕ). require (permits q input two (operationOf file o)) MoveNotAllowed (R j)) (operation-row file o)
         ∙ ap (λ (t : Bool). require t MoveNotAllowed (R o)) (sym perm))
@@ -110,18 +103,18 @@ module _ (file s : List ℕ) (q slot i : ℕ) (x : Settling) (o p : ℕ) (two : 
           leaves-refused MoveNotAllowed e
           (allowed-is G n (f .session) (f .reads)
           ∙ ap (λ (t : Bool). require t MoveNotAllowed
-          (takes G q n (f .session) (pathOf file p) (settled x (f .session .progress)) i (receivedBy two) (oldest o (f .session .queue)))) (not-true a g));
+          (takes G q n (f .session) (pathOf file p) (settled x (f .session .progress)) i (oldest o (f .session .queue)))) (not-true a g));
     }
 
     module _ (g : not a ≡ false) {scratch : List ℕ} {v : Taking} (took : Takes file s slot o p scratch v) where
       taking : (G : State) (n : ℕ) (S : Session) → readSession s slot ≡ S → (y : Taken) → oldest o (S .queue) ≡ y
           → inputReceives G q n S (settled x (S .progress)) i (operationOf file o) (pathOf file p) two
-          ≡ takes G q n S (pathOf file p) (settled x (S .progress)) i (receivedBy two) y
+          ≡ takes G q n S (pathOf file p) (settled x (S .progress)) i y
       taking G n S e y z =
           allowed-is G n S e
-          ∙ (ap (λ (t : Bool). require t MoveNotAllowed (takes G q n S (pathOf file p) (settled x (S .progress)) i (receivedBy two) (oldest o (S .queue))))
+          ∙ (ap (λ (t : Bool). require t MoveNotAllowed (takes G q n S (pathOf file p) (settled x (S .progress)) i (oldest o (S .queue))))
           (not-false a g)
-          ∙ ap (takes G q n S (pathOf file p) (settled x (S .progress)) i (receivedBy two)) z)
+          ∙ ap (takes G q n S (pathOf file p) (settled x (S .progress)) i) z)
 
       took-as : {t : Taking} → v ≡ t → WellFormed file → p < pathCount file → {G : State} {n b : ℕ} (f : InSession file s G q n slot b)
           → TakenAs file s slot o p scratch (f .session) t
@@ -144,10 +137,10 @@ module _ (file s : List ℕ) (q slot i : ℕ) (x : Settling) (o p : ℕ) (two : 
           after : State → Session → Queued → List Queued → Session
           after G S m l =
               withQueue (withProgress (withTree S (replaceAt voidValue (pathOf file p) (m .message) (S .tree)))
-              (advance (settled x (S .progress)) i (receivedBy two (m .replyTo)))) l
+              (advance (settled x (S .progress)) i (receivedBy (m .replyTo)))) l
 
       pub input-taken : {k m : ℕ} {y : Progress} {s′ : List ℕ} {r : Outcome} → v ≡ Taking.Message k m → i < 256
-          → y ≡ receivedBy two (readEntry s (entryStart slot k) .replyTo) → s′ ≡ storedBytes s slot scratch m k x i y → r ≡ doneWith 0
+          → y ≡ receivedBy (readEntry s (entryStart slot k) .replyTo) → s′ ≡ storedBytes s slot scratch m k x i y → r ≡ doneWith 0
           → ReceivesInput file q slot i x o p two s s′ r
       input-taken {k} {m} {y} {s′} {r} z low a′ b′ e = record {
         tells = λ w G st n b f l j.
@@ -161,7 +154,7 @@ module _ (file s : List ℕ) (q slot i : ℕ) (x : Settling) (o p : ℕ) (two : 
             leaves-slot file q n slot S′ w G st (f .service) (f .number) (f .place) made e
             (b′ ∙ stored-live (f .living) scratch m k x i y F (t .2) (t .1) c low)
             (taking G n S (f .reads) (message E (without k (S .queue))) (t .0)
-            ∙ (ap (λ (u : Bool). require u Stuck (moved (setSlot G q n (live (receivedIn S F k x i (receivedBy two (E .replyTo))))) [])) (t .2 .fits)
+            ∙ (ap (λ (u : Bool). require u Stuck (moved (setSlot G q n (live (receivedIn S F k x i (receivedBy (E .replyTo))))) [])) (t .2 .fits)
             ∙ ap (λ (u : Progress). moved (setSlot G q n (live (receivedIn S F k x i u))) []) (sym a′)));
       }
 

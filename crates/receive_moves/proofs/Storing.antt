@@ -1,6 +1,6 @@
 -- The stores of a receive, at each of the ways out of the code, and the session that the slot holds after them.
-use mathlib.Core.Path.{_≡_, refl, sym, ap, subst, _∙_}
-use mathlib.Core.Bool.{Bool, true, false, not}
+use mathlib.Core.Path.{_≡_, sym, ap, subst, _∙_}
+use mathlib.Core.Bool.{Bool}
 use mathlib.Core.List.{List}
 use Prim.Native.Nat.{ℕ, _<_, _≤_}
 use native.Mathlib.Omega.{arith}
@@ -8,20 +8,19 @@ use lib.ListN.{length}
 use borrow.Author.Tests.{lt-ltb, le-ltb}
 use Rattle.forest.specs.Forest.{Forest}
 use Rattle.scalar.specs.Value.{Value, pick}
+use Rattle.syntax.specs.Syntax.{Optional}
 use Rattle.wire.specs.Wire.{withPart}
 use Rattle.state.specs.Places.{slotSize}
-use Rattle.state.specs.Session.{ReplyTo, Progress, taken, advance, Session, withTree, withQueue, withProgress, live}
+use Rattle.state.specs.Session.{Destination, Progress, taken, advance, Session, withTree, withQueue, withProgress, live}
 use Rattle.state.specs.Bytes.{slotBytes}
 use Rattle.state.specs.Shape.{WellMade}
 use Rattle.state.specs.FreshLaws.{part-back}
 use Rattle.state.specs.KeepLaws.{made-tree, made-row}
 use Rattle.moves.specs.Moves.{receivedBy}
-use Rattle.progress.specs.declared.Progress.the-variants.{Done, Taken, FromOutsider, FromRow, FromNobody}
+use Rattle.progress.specs.declared.Progress.the-variants.{Taken}
 use Rattle.progress.specs.Meaning.{meaning}
 use Rattle.progress.specs.Stored.{rowStored}
-use Rattle.queues.specs.declared.ReplyTo as queues
-use Rattle.queues.specs.declared.ReplyTo.the-variants.{Nobody, Outsider, WaitingRow}
-use Rattle.queues.specs.Queue.{replyOf, without, removed}
+use Rattle.queues.specs.Queue.{without, removed}
 use Rattle.queues.specs.ChangeLaws.{remove-made, remove-live}
 use Rattle.slots.specs.SlotLaws.{row-set, tree-set, living-set, set-again, living-holds}
 use Rattle.slots.specs.Living.{Living}
@@ -32,32 +31,10 @@ use Rattle.receive_moves.specs.Receiving.{settled, settledBytes, storedB
 
 -- ---- the input's progress once received
 
-module _ (two : Bool) (to : ReplyTo) where
-  pub after-one-way : not two ≡ true → meaning Done ≡ receivedBy two to
-  after-one-way e = by two e
-    where
-      by : (t : Bool) → not t ≡ true → meaning Done ≡ receivedBy t to
-      by true e = absurd (let z : _≡_ {A = ℕ} 0 1 = cc in omega arith)
-      by false e = refl
+pub after-message : {x : Progress} {r to : Optional Destination} → r ≡ to → x ≡ receivedBy r → x ≡ receivedBy to
+after-message e h = h ∙ ap receivedBy e
 
-  module _ (e : not two ≡ false) (r : queues.ReplyTo) (h : replyOf r ≡ to) where
-    two-way : {x : Progress} → x ≡ receivedBy true (replyOf r) → x ≡ receivedBy two to
-    two-way {x} f = by two e
-      where
-        by : (t : Bool) → not t ≡ false → x ≡ receivedBy t to
-        by true e = f ∙ ap (receivedBy true) h
-        by false e = absurd (let z : _≡_ {A = ℕ} 0 1 = cc in omega arith)
-
-    pub after-nobody : r ≡ Nobody → meaning FromNobody ≡ receivedBy two to
-    after-nobody i = two-way (ap (λ (y : queues.ReplyTo). receivedBy true (replyOf y)) (sym i))
-
-    pub after-outsider : {v : ℕ} → r ≡ Outsider v → meaning (FromOutsider v) ≡ receivedBy two to
-    after-outsider i = two-way (ap (λ (y : queues.ReplyTo). receivedBy true (replyOf y)) (sym i))
-
-    pub after-row : {a b c : ℕ} → r ≡ WaitingRow a b c → meaning (FromRow a b c) ≡ receivedBy two to
-    after-row i = two-way (ap (λ (y : queues.ReplyTo). receivedBy true (replyOf y)) (sym i))
-
-pub ruleset after-laws = (after-one-way, after-nobody, after-outsider, after-row)
+pub ruleset after-laws = (after-message)
 
 -- ---- the branch
 

@@ -19,7 +19,7 @@ use Rattle.network.specs.Decode.{pathOf, operationOf, behaviourOf}
 use Rattle.state.specs.Places.{entryStart}
 use Rattle.state.specs.Session.{Progress, taken, Progresses, advance, Queued, Session, State}
 use Rattle.state.specs.Bytes.{readEntry, readSession}
-use Rattle.moves.specs.Moves.{Result, nothing, message, oldest, voidValue, require, ifUndone, receivedBy, takes, receiveAt}
+use Rattle.moves.specs.Moves.{Result, nothing, message, oldest, voidValue, require, ifUndone, takes, receiveAt}
 use Rattle.moves.specs.Step.{Step, finish}
 use Rattle.queues.specs.Queue.{without, removed}
 use Rattle.session_trees.specs.Changing.{KeptTree}
@@ -70,7 +70,7 @@ pub record Leaves (s s′ : List ℕ) (o : Outcome) (r : Result) : Type 0 where
 -- What an input of row i does, of moves' `receiveAt`.
 abbrev pub inputReceives : State → ℕ → ℕ → Session → Progresses → ℕ → Operation → Path → Bool → Result
 inputReceives G q n S p i o x two =
-    ifUndone (S .progress i) (require (permits q input two o) MoveNotAllowed (takes G q n S x p i (receivedBy two) (oldest (o .row) (S .queue))))
+    ifUndone (S .progress i) (require (permits q input two o) MoveNotAllowed (takes G q n S x p i (oldest (o .row) (S .queue))))
 
 pub record ReceivesInput (file : List ℕ) (q slot i : ℕ) (x : Settling) (o p : ℕ) (two : Bool) (s s′ : List ℕ) (r : Outcome) : Type 0 where
   pub tells : WellFormed file → (G : State) → StateOf file s G → (n b : ℕ) (h : InSession file s G q n slot b) → p < pathCount file → SettlesRow file x

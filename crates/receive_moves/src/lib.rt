@@ -4,8 +4,7 @@ ghost use mathlib.Core.Path.{_≡_};
 ghost use Prim.Native.Nat.{_+_, _≤_, _<_};
 ghost use lib.ListN.{length};
 ghost use Rattle.state.specs.Places.{slotSize, treeRoom, entryStart};
-ghost use Rattle.state.specs.Bytes.{readEntry, readSession};
-ghost use Rattle.state.specs.Shape.{isUndone};
+ghost use Rattle.state.specs.Bytes.{readEntry};
 ghost use Rattle.moves.specs.Moves.{receivedBy, receiveMove};
 ghost use Rattle.moving.specs.Made.{Made};
 ghost use Rattle.progress.specs.Meaning.{meaning};
@@ -13,7 +12,6 @@ ghost use Rattle.receive_moves.specs.Receiving.{settledBytes, storedByte
 use moving::Running;
 use progress::Progress;
 use queues::OldestEntry;
-use queues::ReplyTo;
 use readiness::Reached;
 use refusal::Outcome;
 use refusal::Refusal;
@@ -32,22 +30,6 @@ pub enum Taking {
     Nothing,
     TooLarge,
     Message(usize, u16),
-}
-
-// Is the row undone?
-fn is_undone(state: &[u8], slot: usize, r: u16) -> bool
-    requires { ⌜ slot < 65536 ⌝ }
-    ensures { λ x. ⌜ x ≡ isUndone (readSession (now (state .entry)) slot .progress r) ⌝ }
-{
-    match progress::row_progress(state, slot, r) {
-        Progress::Undone => true,
-        Progress::Done => false,
-        Progress::Waits => false,
-        Progress::Taken(_) => false,
-        Progress::FromOutsider(_) => false,
-        Progress::FromRow(_, _, _) => false,
-        Progress::FromNobody => false,
-    }
 }
 
 // The oldest message of O row o, and the session's tree with it at the path of P row p, in the scratch buffer.
@@ -76,19 +58,12 @@ fn take(scratch: &mut [u8], file: &[u8], state: &[u8], slot: usize, o: u16, p: u
     Taking::Message(k, n)
 }
 
-// The input's progress once it has the message of the entry k: done, or received where it is two-way.
-fn progress_after(state: &[u8], slot: usize, k: usize, twoway: bool) -> Progress
+// The input's progress once it has the message of the entry k.
+fn progress_after(state: &[u8], slot: usize, k: usize) -> Progress
     requires { ⌜ (slot + slotSize ≤ length (now state)) × (k < 4) ⌝ }
-    ensures { λ x. ⌜ meaning x ≡ receivedBy twoway (readEntry (now (state .entry)) (entryStart slot k) .replyTo) ⌝ }
+    ensures { λ x. ⌜ meaning x ≡ receivedBy (readEntry (now (state .entry)) (entryStart slot k) .replyTo) ⌝ }
 {
-    if !twoway {
-        return Progress::Done;
-    }
-    match queues::entry_reply(state, slot, k) {
-        ReplyTo::Nobody => Progress::FromNobody,
-        ReplyTo::Outsider(number) => Progress::FromOutsider(number),
-        ReplyTo::WaitingRow(service, session, row) => Progress::FromRow(service, session, row),
-    }
+    progress::received_by(queues::entry_reply(state, slot, k))
 }
 
 // "in a choice it settles the branch"
@@ -141,7 +116,7 @@ fn receive_input(
     requires { ⌜ (slot + slotSize ≤ length (now state)) × (slot < 65536) × (i < 256) ⌝ }
     ensures { λ r. ⌜ ReceivesInput (now (file .entry)) q slot i x o p twoway (now (state .entry)) (now (state .exit)) r ⌝ }
 {
-    if !is_undone(state, slot, i) {
+    if !progress::is_undone(state, slot, i) {
         return refusal::refused(Refusal::MoveNotAllowed);
     }
     if !operations::permits(file, q, true, twoway, o) {
@@ -152,7 +127,7 @@ fn receive_input(
         Taking::Nothing => refusal::refused(Refusal::MoveNotAllowed),
         Taking::TooLarge => refusal::refused(Refusal::Stuck),
         Taking::Message(k, n) => {
-            let y = progress_after(state, slot, k, twoway);
+            let y = progress_after(state, slot, k);
             store(state, slot, &scratch, n, k, x, i, y);
             refusal::done(0)
         }

@@ -1,19 +1,17 @@
 -- The message of a reply, at each of the ways out of the code.
-use mathlib.Core.Path.{_≡_, refl, sym, ap, subst, _∙_}
-use mathlib.Core.Bool.{Bool, true, false, not, _&&_}
+use mathlib.Core.Path.{_≡_, ap, subst, _∙_}
+use mathlib.Core.Bool.{Bool, true, not}
 use mathlib.Core.List.{List, [], _∷_, _++_}
-use Prim.Native.Nat.{ℕ, _+_, _/_, _%_, _≤_, _<_}
+use Prim.Native.Nat.{ℕ, _+_, _/_, _%_, _<_}
 use native.Mathlib.Omega.{arith}
 use lib.ListN.{length, take, drop}
 use lib.Seq.{take-all}
-use lib.Dec.{leb}
-use Rattle.forest.specs.Forest.{Tree, tree, Lookup, absent, levels, nodes}
+use Rattle.forest.specs.Forest.{tree, Lookup, absent}
 use Rattle.forest.specs.Path.{Path, read}
 use Rattle.scalar.specs.Value.{Value}
-use Rattle.tree.specs.Encode.{children, Octets, Encodes, Message, empty, messageDeep, messageMany, treeDeep, treeMany}
-use Rattle.tree.specs.EncodeLaws.{and-left, and-right}
-use Rattle.tree.specs.Decode.{decode, isPresent, isTree, isMessage}
-use Rattle.tree.specs.DecodeLaws.{decode-complete, message-sound, message-complete, encode-injective}
+use Rattle.tree.specs.Encode.{Encodes, Message, empty, treeDeep, treeMany}
+use Rattle.tree.specs.Decode.{decode, isPresent, isTree}
+use Rattle.tree.specs.DecodeLaws.{decode-complete}
 use Rattle.tree.specs.Ids.{isPath}
 use Rattle.tree.specs.Ids as ids
 use Rattle.tree.specs.Standing.{Spot, Followed}
@@ -22,25 +20,20 @@ use Rattle.tree.specs.declared.Found.{Found}
 use Rattle.tree_edit.specs.Wrote.{Wrote}
 use Rattle.tree_edit.specs.WroteLaws.{wrote-more, wrote-all-of}
 use Rattle.tree_edit.specs.Change.{alone, subtreeOf}
-use Rattle.subtyping.specs.Own.{fits}
 use Rattle.network.specs.Form as network
 use Rattle.network.specs.Layout.{pathCount}
-use Rattle.network.specs.Rows.{replyType}
-use Rattle.network.specs.Decode.{pathOf, operationOf}
-use Rattle.network.specs.TestLaws.{le-of, apart, unequal, not-true, told}
+use Rattle.network.specs.Decode.{pathOf}
+use Rattle.network.specs.TestLaws.{unequal}
 use Rattle.rows.specs.Readers.{pathIds}
-use Rattle.types.specs.Tells.{FitsRow}
 use Rattle.row_parts.specs.PathLaws.{ids-path, path-is}
 use Rattle.state.specs.Session.{Session}
 use Rattle.state.specs.Bytes.{u32Bytes}
 use Rattle.state.specs.SizeLaws.{session-tree-size}
-use Rattle.moves.specs.Moves.{isMessageTree}
 use Rattle.slots.specs.Slots.{treeIn}
 use Rattle.slots.specs.SlotLaws.{living-tree}
 use Rattle.slots.specs.Living.{Living}
-use Rattle.waiting_rows.specs.WaitingLaws.{reply-fits}
 use Rattle.reply_moves.specs.declared.Reply.{Reply}
-use Rattle.reply_moves.specs.Replying.{ReadsReply, FitsReply}
+use Rattle.reply_moves.specs.Replying.{ReadsReply}
 
 -- ---- `read_reply`
 
@@ -96,46 +89,6 @@ module _ (file s : List ℕ) (slot c : ℕ) {t is : List ℕ} (e : t ≡ treeIn 
     }
 
 pub ruleset read-laws = (read-long, read-no-path, read-no-tree, read-nothing, read-message)
-
--- ---- `fits_reply`
-
-limits : (t : Tree Value) → isMessageTree t ≡ true → (levels (children t) ≤ messageDeep) × (nodes (children t) ≤ messageMany)
-limits (tree v k) e =
-    (le-of (levels k) messageDeep (and-left (leb (levels k) messageDeep) _ e), le-of (nodes k) messageMany (and-right (leb (levels k) messageDeep) _ e))
-
-module _ (file m : List ℕ) (o : ℕ) (octets : Octets m) {u : Bool} (d : u ≡ isMessage m) where
-  -- A tree that is no message's.
-  no-limits : isMessage m ≡ false → (t : Tree Value) → Encodes treeDeep treeMany m t → (b : Bool) → isMessageTree t ≡ b → b ≡ false
-  no-limits e t h true i =
-      let l = limits t i in
-      let g = h .good in
-      let w : Message m t =
-      record {
-        bytes = h .bytes;
-        good = record { root = g .root; sound = g .sound; rising = g .rising; shallow = l .0; few = l .1 };
-      } in
-      apart (sym e ∙ message-complete m t w)
-  no-limits e t h false i = refl
-
-  pub fits-none : not u ≡ true → FitsReply file m o false
-  fits-none n = record {
-    tells = λ w l two t h.
-        sym (ap (λ (b : Bool). b && fits t (operationOf file o .reply)) (no-limits (sym d ∙ not-true u n) t h (isMessageTree t) refl));
-    message = λ e. apart e;
-  }
-
-  is-message : not u ≡ false → (t : Tree Value) → Encodes treeDeep treeMany m t → Message m t
-  is-message n t h =
-      let k = message-sound m octets (told d n) in
-      subst (Message m) (encode-injective messageDeep messageMany treeDeep treeMany (k .0) t (k .1 .good) (h .good) (sym (k .1 .bytes) ∙ h .bytes)) (k .1)
-
-  pub fits-told : not u ≡ false → {y : ℕ} {x : Bool} → y ≡ replyType file o → FitsRow m file y x → FitsReply file m o x
-  fits-told n i k = record {
-    tells = λ w l two t h. sym (reply-fits o k i w l two t (is-message n t h));
-    message = λ e. is-message n;
-  }
-
-pub ruleset fits-laws = (fits-none, fits-told)
 
 -- ---- `put_answer`
 

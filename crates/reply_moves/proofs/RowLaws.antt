@@ -23,7 +23,7 @@ use Rattle.rows.specs.RowSyntax.{inputWith}
 use Rattle.operations.specs.Directions.{directionOf}
 use Rattle.operations.specs.PermitsLaws.{two-way}
 use Rattle.row_parts.specs.KindLaws.{input-is}
-use Rattle.state.specs.Session.{ReplyTo, Progress, undone, done, waits, received, taken, Session, State}
+use Rattle.state.specs.Session.{Destination, Progress, undone, done, waits, received, taken, Session, State}
 use Rattle.state.specs.Bytes.{readSession}
 use Rattle.state.specs.RowLaws.{row-absent}
 use Rattle.state_rows.specs.PartLaws.{row-stands}
@@ -36,7 +36,7 @@ use Rattle.reply_moves.specs.Replying.{ReplyingAt}
 -- ---- what a row answers
 
 -- What is done with the destination of the reply.
-abbrev next : List ℕ → Network → State → ℕ → ℕ → Session → ℕ → ℕ → ℕ → Bool → Bool → ReplyTo → Result
+abbrev next : List ℕ → Network → State → ℕ → ℕ → Session → ℕ → ℕ → ℕ → Bool → Bool → Destination → Result
 next file N G q n S r o c x y to = require x MoveNotAllowed (require y MoveNotAllowed (replyTo N G q n S r (operationOf file o) (pathOf file c) to))
 
 -- `replyAt` of row r, by the input's row that a reader gives.

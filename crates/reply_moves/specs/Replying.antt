@@ -1,6 +1,6 @@
 -- What the functions tell of a row that replies: `replyAt` and `replyTo` of moves/Moves, for files that none of 2 to 5 refuses.
 use mathlib.Core.Path.{_≡_}
-use mathlib.Core.Bool.{Bool, true, _&&_}
+use mathlib.Core.Bool.{true}
 use mathlib.Core.List.{List}
 use Prim.Native.Nat.{ℕ, _<_, _≤_}
 use lib.ListN.{length, take}
@@ -11,13 +11,12 @@ use Rattle.tree.specs.Encode.{Encodes, Message, treeDeep, treeMany}
 use Rattle.refusal.specs.declared.Outcome.{Outcome}
 use Rattle.syntax.specs.Syntax.{Network, Operation}
 use Rattle.syntax.specs.Rows.{atRow}
-use Rattle.subtyping.specs.Own.{fits}
 use Rattle.network.specs.Form.{WellFormed}
 use Rattle.network.specs.Layout.{pathCount, behaviourCount, operationCount}
 use Rattle.network.specs.Decode.{pathOf, operationOf, behaviourOf, networkOf}
 use Rattle.state.specs.Session.{outsider, waitingRow, Session, State}
 use Rattle.state.specs.Bytes.{readSession}
-use Rattle.moves.specs.Moves.{Result, notAllowed, onReceived, isMessageTree, takeReply, answered, replyTo, replyAt}
+use Rattle.moves.specs.Moves.{Result, notAllowed, onReceived, replyTo, replyAt}
 use Rattle.moves.specs.Step.{Step, finish}
 use Rattle.moving.specs.Made.{StateOf, InSession}
 use Rattle.slots.specs.Living.{Living}
@@ -51,24 +50,11 @@ pub record ReadsReply (file s : List ℕ) (slot c : ℕ) (o : List ℕ) (x : Rep
   pub tells : WellFormed file → c < pathCount file → (S : Session) → Living s slot S → ReadAs o x (read (pathOf file c) (S .tree))
   pub inside : (n : ℕ) → x ≡ Reply.Message n → n ≤ length o
 
--- 19: x tells whether the tree of m is a message that fits the reply type of O row o.
-pub record FitsReply (file m : List ℕ) (o : ℕ) (x : Bool) : Type 0 where
-  pub tells : WellFormed file → o < operationCount file → operationOf file o .twoWay ≡ true → (t : Tree Value) → Encodes treeDeep treeMany m t
-      → x ≡ (isMessageTree t && fits t (operationOf file o .reply))
-  pub message : x ≡ true → (t : Tree Value) → Encodes treeDeep treeMany m t → Message m t
-
 -- The reply to an outsider, by row r of the session in the slot.
 pub record RepliesOutside (file s : List ℕ) (slot r o c number : ℕ) (s′ out out′ : List ℕ) (a : Outcome) : Type 0 where
   pub tells : WellFormed file → RowsExist file (Replying.Row o c) → (G : State) → StateOf file s G → (q n b : ℕ) (h : InSession file s G q n slot b)
       → 512 ≤ length out → _≡_ {A = Step} (record { outcome = a; state = s′; out = out′ })
       (finish s out (replyTo (networkOf file) G q n (h .session) r (operationOf file o) (pathOf file c) (outsider number)))
-
--- The message of m as the reply to row r2 of the session in the slot `to`, in the state in which row r of the session in the slot is done.
-pub record StoresReply (file s : List ℕ) (slot r to r2 p : ℕ) (m s′ : List ℕ) (a : Outcome) : Type 0 where
-  pub tells : WellFormed file → p < pathCount file → (G : State) → StateOf file s G → (q n b : ℕ) (h : InSession file s G q n slot b)
-      → (q2 n2 b2 : ℕ) → InSession file s G q2 n2 to b2 → (t : Tree Value) → Message m t → (out : List ℕ)
-      → _≡_ {A = Step} (record { outcome = a; state = s′; out = out })
-      (finish s out (takeReply (answered (networkOf file) G q n (h .session) r) q2 n2 r2 (pathOf file p) t))
 
 -- The reply to a waiting row, by row r of the session in the slot.
 pub record RepliesInside (file s : List ℕ) (slot r c q2 n2 r2 : ℕ) (s′ : List ℕ) (a : Outcome) : Type 0 where

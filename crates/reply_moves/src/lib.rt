@@ -9,14 +9,16 @@ ghost use Rattle.state.specs.Places.{slotSize, treeRoom};
 ghost use Rattle.state.specs.Bytes.{u32Bytes};
 ghost use Rattle.moves.specs.Moves.{replyMove};
 ghost use Rattle.moving.specs.Made.{MadeOut};
-ghost use Rattle.reply_moves.specs.Replying.{ReplyingAt, ReadsReply, FitsReply, RepliesOutside, StoresReply, RepliesInside};
+ghost use Rattle.reply_moves.specs.Replying.{ReplyingAt, ReadsReply, RepliesOutside, RepliesInside};
+use destinations::Destination;
 use moving::Running;
 use progress::Progress;
 use refusal::Outcome;
 use refusal::Refusal;
+use refusal::Verdict;
 use rows::InputRow;
-use session_trees::Change;
 use tree::Found;
+use waiting_rows::Sender;
 use waiting_rows::Waiting;
 
 // The O row and the P row of the reply path of a row whose body is done; or 15.
@@ -73,17 +75,6 @@ fn read_reply(out: &mut [u8], file: &[u8], state: &[u8], slot: usize, c: u16) ->
     Reply::Message(tree_edit::subtree(out, s, ids))
 }
 
-// Is the tree of m a message that fits the reply type of O row o?
-fn fits_reply(file: &[u8], m: &[u8], o: u16) -> bool
-    ensures { λ x. ⌜ FitsReply (now (file .entry)) (now (m .entry)) o x ⌝ }
-{
-    tree::octets(m);
-    if !tree::is_message(m) {
-        return false;
-    }
-    types::fits(m, file, rows::reply_type(file, o))
-}
-
 // Writes the reply number and the bytes of m to the start of out, and gives the place past them.
 fn put_answer(out: &mut [u8], number: u32, m: &[u8]) -> usize
     requires { ⌜ 4 + length (now m) ≤ length (now out) ⌝ }
@@ -117,43 +108,24 @@ fn reply_outside(
     let Reply::Message(n) = read_reply(&mut m, file, state, slot, c) else {
         return refusal::refused(Refusal::Stuck);
     };
-    if !fits_reply(file, &m[..n], o) {
-        return refusal::refused(Refusal::MessageMisfit);
-    }
+    let v = fitting::passes(
+        &m[..n],
+        file,
+        rows::reply_type(file, o),
+        Refusal::MessageMisfit,
+    );
+    let Verdict::Done = v else {
+        return Outcome {
+            bytes: 0,
+            verdict: v,
+        };
+    };
     if 508 < n {
         return refusal::refused(Refusal::MessageMisfit);
     }
     progress::put_row(state, slot, r, Progress::Done);
     let e = put_answer(out, number, &m[..n]);
     refusal::done(e)
-}
-
-// Row r2 of the session in the slot `to` takes the message of m as its reply, and row r of the session in the slot is done; 18 where the tree
-// would pass its limits.
-fn store_reply(
-    file: &[u8],
-    state: &mut [u8],
-    slot: usize,
-    r: u16,
-    to: usize,
-    r2: u16,
-    p: u16,
-    m: &[u8],
-) -> Outcome
-    requires { ⌜ (slot + slotSize ≤ length (now state)) × (to + slotSize ≤ length (now state)) × (r < 256) × (r2 < 256) ⌝ }
-    ensures { λ a. ⌜ StoresReply (now (file .entry)) (now (state .entry)) slot r to r2 p (now (m .entry)) (now (state .exit)) a ⌝ }
-{
-    let mut tree = [0u8; 2304];
-    let ids = rows::path_row(file, p);
-    let Change::Kept(n) = session_trees::replace(&mut tree, state, to, ids, m) else {
-        return refusal::refused(Refusal::Stuck);
-    };
-    if 1024 < n {
-        return refusal::refused(Refusal::Stuck);
-    }
-    progress::put_row(state, slot, r, Progress::Done);
-    waiting_rows::put_reply(state, to, r2, &tree, n);
-    refusal::done(0)
 }
 
 // Row r of the session in the slot replies to row r2 of session n2 of service q2 with what stands at the path of P row c.
@@ -180,10 +152,19 @@ fn reply_inside(
     let Reply::Message(n) = read_reply(&mut m, file, state, slot, c) else {
         return refusal::refused(Refusal::Stuck);
     };
-    if !fits_reply(file, &m[..n], o2) {
-        return refusal::refused(Refusal::MessageMisfit);
-    }
-    store_reply(file, state, slot, r, to, r2, p, &m[..n])
+    let v = fitting::passes(
+        &m[..n],
+        file,
+        rows::reply_type(file, o2),
+        Refusal::MessageMisfit,
+    );
+    let Verdict::Done = v else {
+        return Outcome {
+            bytes: 0,
+            verdict: v,
+        };
+    };
+    waiting_rows::take_reply(file, state, Sender::Row(slot, r), to, r2, p, &m[..n])
 }
 
 // Row r of session n of service q replies: 15 unless it is received and its body is done, 18, 19; a reply to an outsider is written out.
@@ -198,9 +179,12 @@ pub fn reply_move(file: &[u8], state: &mut [u8], out: &mut [u8], q: u16, n: u16,
     let Replying::Row(o, c) = replying_at(file, state, slot, b, q, r) else {
         return refusal::refused(Refusal::MoveNotAllowed);
     };
-    match progress::row_progress(state, slot, r) {
-        Progress::FromOutsider(number) => reply_outside(file, state, out, slot, r, o, c, number),
-        Progress::FromRow(q2, n2, r2) => reply_inside(
+    let Progress::Received(d) = progress::row_progress(state, slot, r) else {
+        return refusal::refused(Refusal::MoveNotAllowed);
+    };
+    match d {
+        Destination::Outsider(number) => reply_outside(file, state, out, slot, r, o, c, number),
+        Destination::WaitingRow(q2, n2, r2) => reply_inside(
             file,
             state,
             slot,
@@ -210,6 +194,5 @@ pub fn reply_move(file: &[u8], state: &mut [u8], out: &mut [u8], q: u16, n: u16,
             wire::byte_to_u16(n2),
             r2,
         ),
-        _ => refusal::refused(Refusal::MoveNotAllowed),
     }
 }

@@ -1,6 +1,6 @@
 -- A message sent, at each of the ways out of the code.
 use mathlib.Core.Path.{_≡_, refl, sym, ap, subst, _∙_}
-use mathlib.Core.Bool.{Bool, true, false, not, _&&_}
+use mathlib.Core.Bool.{Bool, true, false, not}
 use mathlib.Core.List.{List, [], _∷_, _++_}
 use Prim.Native.Nat.{ℕ, _+_, _%_, _≤_, _<_}
 use native.Mathlib.Omega.{arith}
@@ -12,8 +12,7 @@ use lib.Seq.{take-all}
 use borrow.Author.Tests.{eq-eqb, ne-eqb}
 use Rattle.forest.specs.Forest.{Tree, tree}
 use Rattle.scalar.specs.Value.{Value, pick}
-use Rattle.tree.specs.Encode.{empty, Encodes, Message, treeDeep, treeMany}
-use Rattle.tree.specs.EncodeLaws.{and-left}
+use Rattle.tree.specs.Encode.{empty, Encodes, treeDeep, treeMany}
 use Rattle.tree_edit.specs.Wrote.{Wrote}
 use Rattle.tree_edit.specs.WroteLaws.{wrote-all, wrote-all-of}
 use Rattle.refusal.specs.declared.Refusal.{Refusal}
@@ -22,52 +21,53 @@ use Rattle.refusal.specs.declared.Verdict.{Verdict}
 use Rattle.refusal.specs.declared.Verdict.the-variants.{Done, Refused}
 use Rattle.refusal.specs.declared.Outcome.{Outcome}
 use Rattle.refusal.specs.Refusal.{doneWith, refusedBy}
-use Rattle.wire.specs.Wire.{withPart}
-use Rattle.syntax.specs.Syntax.{Network, Operation, Optional}
-use Rattle.subtyping.specs.Own.{fits}
+use Rattle.syntax.specs.Syntax.{MessageType, Network, Operation, Optional}
 use Rattle.network.specs.Form.{WellFormed}
 use Rattle.network.specs.Layout.{typeCount, expressionCount, behaviourCount, operationCount}
-use Rattle.network.specs.Rows.{operationService, operationLocation, requestType}
+use Rattle.network.specs.Rows.{operationLocation, requestType}
 use Rattle.network.specs.RowLaws.{operation-kept}
 use Rattle.network.specs.Decode.{typeOf, expressionOf, operationOf, behaviourOf, networkOf}
 use Rattle.syntax.specs.Meets.{inFile, metInput}
-use Rattle.network.specs.TestLaws.{apart, not-true, not-false}
-use Rattle.state.specs.Places.{slotSize, slotStart}
-use Rattle.state.specs.Session.{ReplyTo, Progress, advance, Session, withQueue, withProgress, Slot, live, State, setSlot}
-use Rattle.state.specs.Bytes.{messageBytes, slotBytes, stateBytes, readSession}
-use Rattle.state.specs.Shape.{behaviourIn, WellMade}
+use Rattle.network.specs.TestLaws.{not-true, not-false}
+use Rattle.state.specs.Places.{slotSize}
+use Rattle.state.specs.Session.{Destination, Progress, advance, Session, withProgress, Slot, live, State, setSlot}
+use Rattle.state.specs.Bytes.{messageBytes, stateBytes, readSession}
+use Rattle.state.specs.Shape.{behaviourIn}
 use Rattle.state.specs.SizeLaws.{message-size}
 use Rattle.state.specs.ChangeLaws.{set-same, set-other}
-use Rattle.state.specs.KeepLaws.{made-row}
-use Rattle.moves.specs.Evaluation.{Evaluation, missing, wrongKind, given, evaluate}
+use Rattle.moves.specs.Evaluation.{Evaluation, given, evaluate}
 use Rattle.moves.specs.Targets as definition
 use Rattle.moves.specs.Readiness.{reach}
-use Rattle.moves.specs.Moves.{Result, refused, moved, notAllowed, require, onTree, onLive, onOperation, allowed, started}
-use Rattle.moves.specs.Moves.{deliver, isMessageTree, mustFit, goneOn, sendInside, sendOutside, sendBy, sendAt, sendReached, sendMove}
+use Rattle.moves.specs.Moves.{Result, refused, moved, notAllowed, require, onTree, onOperation}
+use Rattle.moves.specs.Moves.{mustFit, goneOn, sendInside, sendOutside, sendBy, sendAt, sendReached, sendMove}
 use Rattle.moves.specs.Step.{finish}
 use Rattle.slots.specs.Slots.{treeIn}
-use Rattle.slots.specs.SlotLaws.{living-tree, row-set}
+use Rattle.slots.specs.SlotLaws.{living-tree}
 use Rattle.slots.specs.Living.{Living}
 use Rattle.evaluation.specs.declared.Evaluated.{Evaluated}
 use Rattle.evaluation.specs.declared.Written.{Written}
+use Rattle.evaluation.proofs.Written as written
 use Rattle.evaluation.specs.Evaluated.{Evaluates}
-use Rattle.evaluation.specs.Writing.{WrittenAs, Writes}
+use Rattle.evaluation.specs.Writing.{bytesWritten, WrittenAs, Writes}
 use Rattle.readiness.specs.declared.Reached as rows
 use Rattle.readiness.proofs.Reached as reached
 use Rattle.readiness.specs.Reaching.{reachedAs, Reaches}
 use Rattle.readiness.specs.ReachedLaws.{reached-row}
 use Rattle.operations.specs.declared.Met.{Met}
-use Rattle.targets.specs.declared.Target.{Target}
 use Rattle.operations.specs.Meeting.{operationMet}
 use Rattle.operations.specs.MeetingLaws.{met-exists}
-use Rattle.targets.specs.Answers.{Targets}
 use Rattle.moving.specs.declared.Running.{Running}
-use Rattle.moving.specs.Made.{StateOf, MadeOut, InSession, Runs, RunsAt}
-use Rattle.moving.specs.MadeLaws.{in-session, running, refused-step, made-out-refused, target-is}
-use Rattle.delivery.specs.Delivery.{Holding, onVerdict, Allowed, MustFit, startWithin, StartsWithin, Delivers}
-use Rattle.delivery.specs.DeliveryLaws.{stands-holding, holding-set, tree-message, Known, target-known}
+use Rattle.moving.specs.Made.{StateOf, MadeOut, Runs, RunsAt}
+use Rattle.moving.specs.MadeLaws.{in-session, running, refused-step, made-out-refused}
+use Rattle.fitting.specs.Fitting.{Comes, Passed, Passes}
+use Rattle.fitting.specs.FittingLaws.{tree-comes}
+use Rattle.delivery.specs.declared.Arrival.{Arrival}
+use Rattle.delivery.specs.declared.Admission.{Admission}
+use Rattle.delivery.specs.Delivery.{Offered, Known, AdmittedAs, Admits, Stores}
+use Rattle.delivery.specs.DeliveryLaws.{target-known}
+use Rattle.moving.specs.HoldingLaws.{gone-holding}
 use Rattle.send_moves.specs.declared.Sending.{Sending}
-use Rattle.send_moves.specs.Sending.{afterSending, replyBack, sendingAs, RowsExist, SendingAt, WritesMessage, SendsOutside}
+use Rattle.send_moves.specs.Sending.{afterSending, replyBack, sendingAs, RowsExist, SendingAt, WritesMessage, verdictOf, SendsOutside}
 use Rattle.send_moves.specs.Sending.{SendsInside, SendsBy}
 use Rattle.progress.specs.Stored.{rowStored}
 use Rattle.progress.specs.StateLaws.{row-stored-length}
@@ -89,82 +89,64 @@ message-inside h e = rw e at (h .inside)
 pub part-length : (m : List ℕ) (n : ℕ) → n ≤ length m → n ≡ length (take n m)
 part-length m n h = simp length-take (omega arith)
 
--- ---- what fits
+-- ---- what is offered
 
-must-is : (file : List ℕ) (o : ℕ) {m : List ℕ} {y : ℕ} {x : Bool} → MustFit m file y x → y ≡ requestType file o → WellFormed file → o < operationCount file
-    → (t : Tree Value) → Encodes treeDeep treeMany m t → x ≡ (isMessageTree t && fits t (operationOf file o .request))
+pub length-tree : {w : Written} {n : ℕ} → w ≡ Written.Tree n → n ≡ bytesWritten w
+length-tree e = ap bytesWritten (sym e)
+
+pub length-missing : {w : Written} → w ≡ Written.Missing → 0 ≡ bytesWritten w
+length-missing e = ap bytesWritten (sym e)
+
+pub length-wrong : {w : Written} → w ≡ Written.Wrong → 0 ≡ bytesWritten w
+length-wrong e = ap bytesWritten (sym e)
+
+pub verdict-tree : {w : Written} {n : ℕ} → w ≡ Written.Tree n → Done ≡ verdictOf w
+verdict-tree e = ap verdictOf (sym e)
+
+pub verdict-missing : {w : Written} → w ≡ Written.Missing → Refused Stuck ≡ verdictOf w
+verdict-missing e = ap verdictOf (sym e)
+
+pub verdict-wrong : {w : Written} → w ≡ Written.Wrong → Refused Stuck ≡ verdictOf w
+verdict-wrong e = ap verdictOf (sym e)
+
+-- A value goes on to its type, once it is given.
+abbrev fitting : Evaluation (Tree Value) → MessageType → (Tree Value → Result) → Result
+fitting y t k = onTree y (λ m. mustFit m t (k m))
+
+value-comes : {l : List ℕ} (m : Tree Value) (t : MessageType) (y : Evaluation (Tree Value)) → Encodes treeDeep treeMany l m → y ≡ given m
+    → Comes l MessageMisfit t (fitting y t)
+value-comes m t y h e = tree-comes m t (fitting y t) h (λ k. ap (λ (z : Evaluation (Tree Value)). fitting z t k) e)
+
+written-offers : (buf : List ℕ) (w : Written) (t : MessageType) (y : Evaluation (Tree Value)) → WrittenAs buf w y
+    → Offered (verdictOf w) (take (bytesWritten w) buf) MessageMisfit t (fitting y t)
+written-offers buf (Written.Tree n) t y h = value-comes (h .0) t y (h .2) (h .1)
+written-offers buf Written.Missing t y h = λ k. ap (λ (z : Evaluation (Tree Value)). fitting z t k) h
+written-offers buf Written.Wrong t y h = λ k. ap (λ (z : Evaluation (Tree Value)). fitting z t k) h
+
+request-is : (file : List ℕ) (o : ℕ) {r : ℕ} → r ≡ requestType file o → typeOf file r ≡ operationOf file o .request
 unfolding operationOf
-must-is file o u k w l t g =
-    u .tells w (subst (λ (j : ℕ). j < typeCount file) (sym k) (operation-kept file w o l .request .exists)) t g
-    ∙ ap (λ (j : ℕ). isMessageTree t && fits t (typeOf file j)) k
-
-fit-message : {m : List ℕ} (t : Tree Value) (b : Bool) → (isMessageTree t && b) ≡ true → Encodes treeDeep treeMany m t → Message m t
-fit-message t b e g = record { bytes = g .bytes; good = tree-message t (and-left (isMessageTree t) b e) (g .good) }
+request-is file o e = ap (typeOf file) e
 
 -- ---- the state in which the sender has gone on
 
-abbrev going : Session → ℕ → Progress → Session
-going S r after = withProgress S (advance (S .progress) r after)
-
-going-made : {S : Session} (r : ℕ) (after : Progress) → r < 256 → WellMade S → WellMade (going S r after)
-going-made r after l w = made-row w r after l
-
-module _ {file s s₁ : List ℕ} {G : State} {q n slot b : ℕ} (st : StateOf file s G) (h : InSession file s G q n slot b) (to r : ℕ) (after : Progress)
-    (l : r < 256) (e : s₁ ≡ rowStored s slot r after) where
-  gone-holding : Holding s₁ (goneOn (networkOf file) G q n (h .session) to r after)
-  gone-holding =
-      let x = live (going (h .session) r after) in
-      let z : s₁ ≡ withPart s (slotStart q n) (slotBytes x) =
-      e ∙ (row-set (h .living) r after l ∙ ap (λ (j : ℕ). withPart s j (slotBytes x)) (h .place)) in
-      subst (λ (y : List ℕ). Holding y (setSlot G q n x)) (sym z)
-      (holding-set (stands-holding st) q n x (h .service) (h .number) (going-made r after l (h .living .made)))
-
 -- Whom a message meets stays: the sender is live with the same queue.
 gone-target : (N : Network) (G : State) (q n : ℕ) (S : Session) (to r : ℕ) (after : Progress) (o : Operation) → G q n ≡ live S
-    → definition.target N (goneOn N G q n S to r after) o to ≡ definition.target N G o to
+    → definition.target N (goneOn G q n S r after) o to ≡ definition.target N G o to
 gone-target N G q n S to r after o e = go (ℕ-discrete (o .service) q) (ℕ-discrete to n)
   where
-    other : ((o .service ≡ q) → (to ≡ n) → ⊥) → definition.target N (goneOn N G q n S to r after) o to ≡ definition.target N G o to
+    other : ((o .service ≡ q) → (to ≡ n) → ⊥) → definition.target N (goneOn G q n S r after) o to ≡ definition.target N G o to
     other f = ap (λ (x : Slot). definition.onBehaviour (behaviourIn N (o .service) to) (λ B. definition.targetOf (o .row) to B x))
-        (set-other G q n (live (going S r after)) (o .service) to f)
+        (set-other G q n (live (withProgress S (advance (S .progress) r after))) (o .service) to f)
 
-    go : Dec (o .service ≡ q) → Dec (to ≡ n) → definition.target N (goneOn N G q n S to r after) o to ≡ definition.target N G o to
+    go : Dec (o .service ≡ q) → Dec (to ≡ n) → definition.target N (goneOn G q n S r after) o to ≡ definition.target N G o to
     go (yes u) (yes v) =
-        let x = live (going S r after) in
+        let x = live (withProgress S (advance (S .progress) r after)) in
         let z : setSlot G q n x (o .service) to ≡ x = ap (λ (k : ℕ). setSlot G q n x k to) u ∙ (ap (λ (k : ℕ). setSlot G q n x q k) v ∙ set-same G q n x) in
         let y : G (o .service) to ≡ live S = ap (λ (k : ℕ). G k to) u ∙ (ap (λ (k : ℕ). G q k) v ∙ e) in
         ap (λ (x : Slot). definition.onBehaviour (behaviourIn N (o .service) to) (λ B. definition.targetOf (o .row) to B x)) z
         ∙ sym (ap (λ (x : Slot). definition.onBehaviour (behaviourIn N (o .service) to) (λ B. definition.targetOf (o .row) to B x)) y)
     go (yes u) (no v) = other (λ _ y. v y)
     go (no u) d = other (λ y _. u y)
-
--- ---- a message that was let through moves
-
-abbrev IsMoved : Result → Type 0
-IsMoved (refused why) = ⊥
-IsMoved (moved G bytes) = Unit {0}
-
-finish-moved : (s s₁ out : List ℕ) (r : Result) → IsMoved r → finish s₁ out r ≡ finish s out r
-finish-moved s s₁ out (refused why) h = absurd h
-finish-moved s s₁ out (moved G bytes) h = refl
-
-deliver-moved : (G : State) (o : Operation) (n : ℕ) (T : definition.Target) (back : ReplyTo) (m : Tree Value) (q : ℕ)
-    → ((r : Result) → r ≡ allowed q T r) → Known G o n T → startWithin T back m ≡ true → IsMoved (deliver G o n T back m)
-deliver-moved G o n definition.noTarget back m q a k e = absurd (subst IsMoved (a (moved G [])) tt)
-deliver-moved G o n definition.queueFull back m q a k e = absurd (subst IsMoved (a (moved G [])) tt)
-deliver-moved G o n definition.queued back m q a k e =
-    subst (λ (x : Slot). IsMoved (onLive x (λ S. moved (setSlot G (o .service) n
-    (live (withQueue S (S .queue ++ (record { operation = o .row; message = m; replyTo = back } ∷ []))))) []))) (sym (k .1)) tt
-deliver-moved G o n (definition.starts c i a) back m q f k e =
-    subst (λ (x : Bool). IsMoved (require x Stuck (moved (setSlot G (o .service) n (live (started c i a back m))) []))) (sym e) tt
-
-deliver-stuck : (G : State) (o : Operation) (n : ℕ) (T : definition.Target) (back : ReplyTo) (m : Tree Value) → startWithin T back m ≡ false
-    → deliver G o n T back m ≡ refused Stuck
-deliver-stuck G o n definition.noTarget back m e = apart (sym e)
-deliver-stuck G o n definition.queueFull back m e = apart (sym e)
-deliver-stuck G o n definition.queued back m e = apart (sym e)
-deliver-stuck G o n (definition.starts c i a) back m e =
-    ap (λ (x : Bool). require x Stuck (moved (setSlot G (o .service) n (live (started c i a back m))) [])) e
 
 -- ---- `send_outside`
 
@@ -173,7 +155,7 @@ module _ (file s : List ℕ) (slot i o e to : ℕ) (after : Progress) (out : Lis
   outside-short l = record { tells = λ w lo le G st q n b h k. absurd (omega (arith, l, k)) }
 
   abbrev sends : State → ℕ → ℕ → Session → Tree Value → Result
-  sends G q n S m = mustFit m (operationOf file o .request) (moved (goneOn (networkOf file) G q n S to i after) (messageBytes m))
+  sends G q n S m = mustFit m (operationOf file o .request) (moved (goneOn G q n S i after) (messageBytes m))
 
   pub outside-target : {a : Outcome} → (to ≡ 0 → ⊥) → a ≡ refusedBy MoveNotAllowed → SendsOutside file s slot i o e to after s out out a
   outside-target f g = record {
@@ -189,50 +171,51 @@ module _ (file s : List ℕ) (slot i o e to : ℕ) (after : Progress) (out : Lis
         ap (λ (x : Bool). require x MoveNotAllowed (onTree (evaluate (S .tree) (expressionOf file e)) (sends G q n S))) (eq-eqb to 0 zero)
         ∙ ap (λ (l : Evaluation (Tree Value)). onTree l (sends G q n S)) f
 
-    pub outside-missing : {a : Outcome} → x ≡ Written.Missing → a ≡ refusedBy Stuck → SendsOutside file s slot i o e to after s out out a
-    outside-missing f g = record {
+    pub outside-stuck : {a : Outcome} → OneOf (1 ∷ 2 ∷ []) (tagOf written.the-type x) → a ≡ refusedBy Stuck
+        → SendsOutside file s slot i o e to after s out out a
+    outside-stuck f g = record {
       tells = λ w lo le G st q n b h j.
-          refused-step g (evaluated G q n (h .session) missing
-          (subst (λ (y : Written). WrittenAs buf y (evaluate (h .session .tree) (expressionOf file e))) f (k .tells w le (h .session) (h .living))));
+          refused-step g (evaluated G q n (h .session) (evaluate (h .session .tree) (expressionOf file e)) refl
+          ∙ none x f G q n (h .session) (evaluate (h .session .tree) (expressionOf file e)) (k .tells w le (h .session) (h .living)));
     }
-
-    pub outside-wrong : {a : Outcome} → x ≡ Written.Wrong → a ≡ refusedBy Stuck → SendsOutside file s slot i o e to after s out out a
-    outside-wrong f g = record {
-      tells = λ w lo le G st q n b h j.
-          refused-step g (evaluated G q n (h .session) wrongKind
-          (subst (λ (y : Written). WrittenAs buf y (evaluate (h .session .tree) (expressionOf file e))) f (k .tells w le (h .session) (h .living))));
-    }
+      where
+        none : (x : Written) → OneOf (1 ∷ 2 ∷ []) (tagOf written.the-type x) → (G : State) (q n : ℕ) (S : Session) (y : Evaluation (Tree Value))
+            → WrittenAs buf x y → onTree y (sends G q n S) ≡ refused Stuck
+        none (Written.Tree n) f G q j S y h = absurd (miss (1 ∷ 2 ∷ []) 0 tt f)
+        none Written.Missing f G q j S y h = ap (λ (z : Evaluation (Tree Value)). onTree z (sends G q j S)) h
+        none Written.Wrong f G q j S y h = ap (λ (z : Evaluation (Tree Value)). onTree z (sends G q j S)) h
 
     module _ {n : ℕ} (f : x ≡ Written.Tree n) (m : List ℕ) (t : m ≡ take n buf) {y : ℕ} (r : y ≡ requestType file o)
-        {u : Bool} (g : MustFit m file y u) where
-      message : WellFormed file → e < expressionCount file → (S : Session) → Living s slot S
-          → (t : Tree Value) × (evaluate (S .tree) (expressionOf file e) ≡ given t) × Encodes treeDeep treeMany m t
-      message w le S h =
-          let z = subst (λ (y : Written). WrittenAs buf y (evaluate (S .tree) (expressionOf file e))) f (k .tells w le S h) in
-          (z .0, z .1, subst (λ (y : List ℕ). Encodes treeDeep treeMany y (z .0)) (sym t) (z .2))
+        {v : Verdict} (p : Passes m file y MessageMisfit v) where
+      abbrev gone : State → ℕ → ℕ → Session → Tree Value → Result
+      gone G q j S m = moved (goneOn G q j S i after) (messageBytes m)
 
-      module _ (w : WellFormed file) (lo : o < operationCount file) (le : e < expressionCount file)
-          {G : State} {q j b : ℕ} (h : InSession file s G q j slot b) where
-        abbrev z : (t : Tree Value) × (evaluate (h .session .tree) (expressionOf file e) ≡ given t) × Encodes treeDeep treeMany m t
-        z = message w le (h .session) (h .living)
+      passed : (u : Verdict) → v ≡ u → WellFormed file → o < operationCount file → e < expressionCount file → (S : Session) → Living s slot S
+          → Passed u m (fitting (evaluate (S .tree) (expressionOf file e)) (operationOf file o .request))
+      passed u g w lo le S h =
+          let y = evaluate (S .tree) (expressionOf file e) in
+          let z = subst (λ (d : Written). WrittenAs buf d y) f (k .tells w le S h) in
+          let enc : Encodes treeDeep treeMany m (z .0) = subst (λ (d : List ℕ). Encodes treeDeep treeMany d (z .0)) (sym t) (z .2) in
+          subst (λ (d : Verdict). Passed d m (fitting y (operationOf file o .request))) g
+          (p .tells w (subst (λ (d : ℕ). d < typeCount file) (sym r) (operation-kept file w o lo .request .exists)) (fitting y (operationOf file o .request))
+          (subst (λ (d : MessageType). Comes m MessageMisfit d (fitting y (operationOf file o .request))) (sym (request-is file o r))
+          (value-comes (z .0) (operationOf file o .request) y enc (z .1))))
 
-        outside-is : (c : Bool) → u ≡ c → sendOutside (networkOf file) G q j (h .session) to i (operationOf file o) (expressionOf file e) after
-            ≡ require c MessageMisfit (moved (goneOn (networkOf file) G q j (h .session) to i after) (messageBytes (z .0)))
-        outside-is c p =
-            evaluated G q j (h .session) (given (z .0)) (z .1)
-            ∙ ap (λ (v : Bool). require v MessageMisfit (moved (goneOn (networkOf file) G q j (h .session) to i after) (messageBytes (z .0))))
-            (sym (must-is file o g r w lo (z .0) (z .2)) ∙ p)
+      pub outside-not : {why : Refusal} {a : Outcome} → v ≡ Refused why → a ≡ record { bytes = 0; verdict = v }
+          → SendsOutside file s slot i o e to after s out out a
+      outside-not {why} g c = record {
+        tells = λ w lo le G st q j b h l.
+            refused-step (c ∙ ap (λ (u : Verdict). record { bytes = 0; verdict = u }) g)
+            (evaluated G q j (h .session) (evaluate (h .session .tree) (expressionOf file e)) refl
+            ∙ passed (Refused why) g w lo le (h .session) (h .living) (gone G q j (h .session)));
+      }
 
-      pub outside-misfit : {a : Outcome} → not u ≡ true → a ≡ refusedBy MessageMisfit → SendsOutside file s slot i o e to after s out out a
-      outside-misfit p c = record { tells = λ w lo le G st q j b h l. refused-step c (outside-is w lo le h false (not-true u p)) }
-
-      module _ (p : not u ≡ false) where
+      module _ (g : v ≡ Done) where
         pub outside-long : {a : Outcome} → n ≡ length m → 512 < n → SendsOutside file s slot i o e to after s out out a
-        outside-long v c = record {
+        outside-long u c = record {
           tells = λ w lo le G st q j b h l.
-              let d = z w lo le h in
-              let ms = fit-message (d .0) _ (sym (must-is file o g r w lo (d .0) (d .2)) ∙ not-false u p) (d .2) in
-              absurd (omega (arith, c, v, ap length (ms .bytes), message-size (d .0) (ms .good)));
+              let d = passed Done g w lo le (h .session) (h .living) in
+              absurd (omega (arith, c, u, ap length (d .1 .bytes), message-size (d .0) (d .1 .good)));
         }
 
         pub outside-done : {s₁ out′ : List ℕ} {v : ℕ} {a : Outcome} → n ≡ length m → i < 256
@@ -240,22 +223,23 @@ module _ (file s : List ℕ) (slot i o e to : ℕ) (after : Progress) (out : Lis
             → SendsOutside file s slot i o e to after s₁ out out′ a
         outside-done {s₁} {out′} {v} {a} ln l c wr₀ d = record {
           tells = λ w lo le G st q j b h len.
-              let k2 = z w lo le h in
+              let k2 = passed Done g w lo le (h .session) (h .living) in
               let wr : Wrote out out′ 0 v v m = wrote-all-of (take-all n m (omega (arith, ln))) wr₀ in
               let bytes = messageBytes (k2 .0) in
-              let eb : m ≡ bytes = k2 .2 .bytes in
+              let eb : m ≡ bytes = k2 .1 .bytes in
               let ev : v ≡ length bytes = sym (wr .size) ∙ ap length eb in
               let eo : out′ ≡ bytes ++ drop (length bytes) out =
               wrote-all wr ∙ (ap (λ (y : List ℕ). y ++ drop v out) eb ∙ ap (λ (y : ℕ). bytes ++ drop y out) ev) in
-              let es = gone-holding st h to i after l c .bytes in
+              let es = gone-holding h i after st l c .bytes in
               ap (λ (y : Outcome). record { outcome = y; state = s₁; out = out′ }) (d ∙ ap doneWith ev)
               ∙ (ap (λ (y : List ℕ). record { outcome = doneWith (length bytes); state = y; out = out′ }) es
               ∙ (ap (λ (y : List ℕ). record {
                 outcome = doneWith (length bytes);
-                state = stateBytes (goneOn (networkOf file) G q j (h .session) to i after);
+                state = stateBytes (goneOn G q j (h .session) i after);
                 out = y;
               }) eo
-              ∙ ap (finish s out) (sym (outside-is w lo le h true (not-false u p)))));
+              ∙ ap (finish s out) (sym (evaluated G q j (h .session) (evaluate (h .session .tree) (expressionOf file e)) refl
+              ∙ k2 .2 (gone G q j (h .session))))));
         }
 
 -- ---- `send_inside`
@@ -266,117 +250,46 @@ pub put-length : (s : List ℕ) (slot i : ℕ) (after : Progress) {s₁ : List �
 put-length s slot i after l k j e =
     ap length e ∙ (row-stored-length s slot i after (omega (arith, l, k)) j ∙ l)
 
-service-is : (file : List ℕ) (k : ℕ) → operationService file k ≡ operationOf file k .service
-unfolding operationOf
-service-is file k = refl
+module _ (file s : List ℕ) (slot i k e to : ℕ) (after : Progress) (back : Optional Destination) {buf m o : List ℕ} {w : Written} {n : ℕ} {own : Verdict} {x : Admission}
+    (wm : WritesMessage file s slot e buf w) (ln : n ≡ bytesWritten w) (ow : own ≡ verdictOf w) (lm : m ≡ take n buf)
+    (ad : Admits file s k to m own MessageMisfit o x) where
+  abbrev value : Session → Evaluation (Tree Value)
+  value S = evaluate (S .tree) (expressionOf file e)
 
-module _ (file s : List ℕ) (slot i k e to : ℕ) (after : Progress) (back : ReplyTo) {t : Target} {v : Verdict} {sq : ℕ} (tg : Targets file s k to t)
-    (sv : sq ≡ operationService file k) (al : Allowed file sq t v) where
-  abbrev op : Operation
-  op = operationOf file k
+  offered : WellFormed file → e < expressionCount file → (S : Session) → Living s slot S
+      → Offered own m MessageMisfit (operationOf file k .request) (fitting (value S) (operationOf file k .request))
+  offered wf le S h =
+      subst (λ (v : Verdict). Offered v m MessageMisfit (operationOf file k .request) (fitting (value S) (operationOf file k .request))) (sym ow)
+      (subst (λ (l : List ℕ). Offered (verdictOf w) l MessageMisfit (operationOf file k .request) (fitting (value S) (operationOf file k .request)))
+      (sym (lm ∙ ap (λ (j : ℕ). take j buf) ln)) (written-offers buf w (operationOf file k .request) (value S) (wm .tells wf le S h)))
 
-  abbrev delivered : State → ℕ → ℕ → Session → Tree Value → Result
-  delivered G q n S m = deliver (goneOn (networkOf file) G q n S to i after) op to (definition.target (networkOf file) G op to) back m
+  admitted : {y : Admission} → x ≡ y → WellFormed file → k < operationCount file → e < expressionCount file → (G : State) → StateOf file s G → (S : Session)
+      → Living s slot S → AdmittedAs file G k to m o (fitting (value S) (operationOf file k .request)) y
+  admitted f wf lo le G st S h =
+      subst (AdmittedAs file G k to m o (fitting (value S) (operationOf file k .request))) f
+      (ad .tells wf lo G st (fitting (value S) (operationOf file k .request)) (offered wf le S h))
 
-  abbrev next : State → ℕ → ℕ → Session → Evaluation (Tree Value) → Result
-  next G q n S y = onTree y (λ m. mustFit m (op .request) (delivered G q n S m))
-
-  verdict-is : WellFormed file → (G : State) → StateOf file s G → (r : Result) → onVerdict v r
-      ≡ allowed (op .service) (definition.target (networkOf file) G op to) r
-  verdict-is w G st r =
-      al .tells (tg .exists w) r
-      ∙ (ap (λ (u : definition.Target). allowed sq u r) (target-is tg w st)
-      ∙ ap (λ (u : ℕ). allowed u (definition.target (networkOf file) G op to) r) (sv ∙ service-is file k))
-
-  pub inside-not : {why : Refusal} {a : Outcome} → v ≡ Refused why → a ≡ record { bytes = 0; verdict = v } → SendsInside file s slot i k e to after back s a
-  inside-not {why} f g = record {
-    tells = λ w lo le G st q n b h out.
-        let r = next G q n (h .session) (evaluate (h .session .tree) (expressionOf file e)) in
-        refused-step (g ∙ ap (λ (u : Verdict). record { bytes = 0; verdict = u }) f)
-        (sym (verdict-is w G st r) ∙ ap (λ (u : Verdict). onVerdict u r) f);
+  pub inside-not : {why : Refusal} {a : Outcome} → x ≡ Admission.Refused why → a ≡ refusedBy why → SendsInside file s slot i k e to after back s a
+  inside-not f g = record {
+    tells = λ wf lo le G st q j b h out.
+        refused-step g (admitted f wf lo le G st (h .session) (h .living) (goneOn G q j (h .session) i after) back);
   }
 
-  module _ (d : v ≡ Done) {buf : List ℕ} {x : Written} (wm : WritesMessage file s slot e buf x) where
-    passed : WellFormed file → (G : State) → StateOf file s G → (r : Result) → r ≡ allowed (op .service) (definition.target (networkOf file) G op to) r
-    passed w G st r = sym (ap (λ (u : Verdict). onVerdict u r) d) ∙ verdict-is w G st r
+  pub inside-sent : {y : Arrival} {s₁ s′ : List ℕ} {a : Outcome} → x ≡ Admission.Admitted y → i < 256 → s₁ ≡ rowStored s slot i after
+      → Stores file k back m o y s₁ s′ → a ≡ doneWith 0 → SendsInside file s slot i k e to after back s′ a
+  inside-sent {y} {s₁} {s′} f l eb d g = record {
+    tells = λ wf lo le G st q j b h out.
+        let N = networkOf file in
+        let op = operationOf file k in
+        let G₁ = goneOn G q j (h .session) i after in
+        let T = definition.target N G op to in
+        let z = admitted f wf lo le G st (h .session) (h .living) in
+        let kn : Known G₁ op to T = subst (Known G₁ op to) (gone-target N G q j (h .session) to i after op (h .isLive)) (target-known N G₁ op to) in
+        ap (λ (u : Outcome). record { outcome = u; state = s′; out = out }) g
+        ∙ (d .tells wf lo G₁ (gone-holding h i after st l eb) to T kn (z .0) (z .1) (z .2) s out ∙ ap (finish s out) (sym (z .3 G₁ back)));
+  }
 
-    evaluated-in : WellFormed file → (G : State) → StateOf file s G → (q n : ℕ) (S : Session) (y : Evaluation (Tree Value))
-        → evaluate (S .tree) (expressionOf file e) ≡ y
-        → sendInside (networkOf file) G q n S to i (expressionOf file e) after back op ≡ next G q n S y
-    evaluated-in w G st q n S y f = sym (passed w G st (next G q n S (evaluate (S .tree) (expressionOf file e)))) ∙ ap (next G q n S) f
-
-    pub inside-missing : {a : Outcome} → x ≡ Written.Missing → a ≡ refusedBy Stuck → SendsInside file s slot i k e to after back s a
-    inside-missing f g = record {
-      tells = λ w lo le G st q n b h out.
-          refused-step g (evaluated-in w G st q n (h .session) missing
-          (subst (λ (y : Written). WrittenAs buf y (evaluate (h .session .tree) (expressionOf file e))) f (wm .tells w le (h .session) (h .living))));
-    }
-
-    pub inside-wrong : {a : Outcome} → x ≡ Written.Wrong → a ≡ refusedBy Stuck → SendsInside file s slot i k e to after back s a
-    inside-wrong f g = record {
-      tells = λ w lo le G st q n b h out.
-          refused-step g (evaluated-in w G st q n (h .session) wrongKind
-          (subst (λ (y : Written). WrittenAs buf y (evaluate (h .session .tree) (expressionOf file e))) f (wm .tells w le (h .session) (h .living))));
-    }
-
-    module _ {n : ℕ} (f : x ≡ Written.Tree n) (m : List ℕ) (tm : m ≡ take n buf) {y : ℕ} (r : y ≡ requestType file k)
-        {u : Bool} (g : MustFit m file y u) where
-      message-in : WellFormed file → e < expressionCount file → (S : Session) → Living s slot S
-          → (t : Tree Value) × (evaluate (S .tree) (expressionOf file e) ≡ given t) × Encodes treeDeep treeMany m t
-      message-in w le S h =
-          let z = subst (λ (y : Written). WrittenAs buf y (evaluate (S .tree) (expressionOf file e))) f (wm .tells w le S h) in
-          (z .0, z .1, subst (λ (y : List ℕ). Encodes treeDeep treeMany y (z .0)) (sym tm) (z .2))
-
-      module _ (w : WellFormed file) (lo : k < operationCount file) (le : e < expressionCount file) {G : State} (st : StateOf file s G) {q j b : ℕ}
-          (h : InSession file s G q j slot b) where
-        abbrev zi : (t : Tree Value) × (evaluate (h .session .tree) (expressionOf file e) ≡ given t) × Encodes treeDeep treeMany m t
-        zi = message-in w le (h .session) (h .living)
-
-        inside-is : (c : Bool) → u ≡ c → sendInside (networkOf file) G q j (h .session) to i (expressionOf file e) after back op
-            ≡ require c MessageMisfit (delivered G q j (h .session) (zi .0))
-        inside-is c p =
-            evaluated-in w G st q j (h .session) (given (zi .0)) (zi .1)
-            ∙ ap (λ (v : Bool). require v MessageMisfit (delivered G q j (h .session) (zi .0))) (sym (must-is file k g r w lo (zi .0) (zi .2)) ∙ p)
-
-      pub inside-misfit : {a : Outcome} → not u ≡ true → a ≡ refusedBy MessageMisfit → SendsInside file s slot i k e to after back s a
-      inside-misfit p c = record { tells = λ w lo le G st q j b h out. refused-step c (inside-is w lo le st h false (not-true u p)) }
-
-      module _ (p : not u ≡ false) {g₂ : Bool} (sw : StartsWithin file t m g₂) where
-        is-message : (w : WellFormed file) (lo : k < operationCount file) → (t : Tree Value) → Encodes treeDeep treeMany m t → Message m t
-        is-message w lo t h = fit-message t _ (sym (must-is file k g r w lo t h) ∙ not-false u p) h
-
-        within-is : (w : WellFormed file) (lo : k < operationCount file) (G : State) → StateOf file s G → (m₁ : Tree Value) → Message m m₁
-            → startWithin (definition.target (networkOf file) G op to) back m₁ ≡ g₂
-        within-is w lo G st m₁ h =
-            sym (sw .tells w (tg .exists w) back m₁ h
-            ∙ ap (λ (T : definition.Target). startWithin T back m₁) (target-is tg w st))
-
-        pub inside-past : {a : Outcome} → not g₂ ≡ true → a ≡ refusedBy Stuck → SendsInside file s slot i k e to after back s a
-        inside-past c a = record {
-          tells = λ w lo le G st q j b h out.
-              let d = zi w lo le st h in
-              refused-step a (inside-is w lo le st h true (not-false u p)
-              ∙ deliver-stuck (goneOn (networkOf file) G q j (h .session) to i after) op to (definition.target (networkOf file) G op to) back (d .0)
-              (within-is w lo G st (d .0) (is-message w lo (d .0) (d .2)) ∙ not-true g₂ c));
-        }
-
-        pub inside-sent : {s₁ s′ : List ℕ} {a : Outcome} → not g₂ ≡ false → i < 256 → s₁ ≡ rowStored s slot i after
-            → Delivers file k to t back m s₁ s′ a → SendsInside file s slot i k e to after back s′ a
-        inside-sent {s₁} {s′} {a} c l eb dl = record {
-          tells = λ w lo le G st q j b h out.
-              let d = zi w lo le st h in
-              let ms = is-message w lo (d .0) (d .2) in
-              let N = networkOf file in
-              let G₁ = goneOn N G q j (h .session) to i after in
-              let T = definition.target N G op to in
-              let gt : definition.target N G₁ op to ≡ T = gone-target N G q j (h .session) to i after op (h .isLive) in
-              let kn : Known G₁ op to T = subst (Known G₁ op to) gt (target-known N G₁ op to) in
-              let mv : IsMoved (deliver G₁ op to T back (d .0)) =
-              deliver-moved G₁ op to T back (d .0) (op .service) (passed w G st) kn (within-is w lo G st (d .0) ms ∙ not-false g₂ c) in
-              dl .tells w lo G₁ (gone-holding st h to i after l eb) (tg .exists w) (target-is tg w st ∙ sym gt) (d .0) ms out
-              ∙ (ap (λ (X : definition.Target). finish s₁ out (deliver G₁ op to X back (d .0))) (target-is tg w st)
-              ∙ (finish-moved s s₁ out (deliver G₁ op to T back (d .0)) mv ∙ ap (finish s out) (sym (inside-is w lo le st h true (not-false u p)))));
-        }
+pub ruleset inside-laws = (inside-not, inside-sent)
 
 -- ---- `send_by`
 
@@ -384,7 +297,7 @@ location-is : (file : List ℕ) (o : ℕ) → operationLocation file o ≡ opera
 unfolding operationOf
 location-is file o = refl
 
-module _ (file s : List ℕ) (slot i o e to : ℕ) (after : Progress) (back : ReplyTo) (out : List ℕ) {j : ℕ} {x : Bool} (lc : j ≡ operationLocation file o)
+module _ (file s : List ℕ) (slot i o e to : ℕ) (after : Progress) (back : Optional Destination) (out : List ℕ) {j : ℕ} {x : Bool} (lc : j ≡ operationLocation file o)
     (is : x ≡ inFile (networkOf file) j) where
   by-place : (G : State) (q n : ℕ) (S : Session) (c : Bool) → x ≡ c → sendBy (networkOf file) G q n S to i (operationOf file o) (expressionOf file e) after back
       ≡ pick c (onOperation (metInput (networkOf file) (operationOf file o)) (sendInside (networkOf file) G q n S to i (expressionOf file e) after back))
@@ -480,7 +393,7 @@ module _ (file s out : List ℕ) (q n r to : ℕ) where
             made-out-refused file makes f (λ w G st. move-row w G st
             ∙ ap (λ (t : Sending). sendingAs file (networkOf file) G q n (running h e w G st .session) to i t) c)
 
-        pub move-sends : {o c : ℕ} {two : Bool} {after : Progress} {back : ReplyTo} {s′ out′ : List ℕ} {a : Outcome} → z ≡ Sending.Row o c two
+        pub move-sends : {o c : ℕ} {two : Bool} {after : Progress} {back : Optional Destination} {s′ out′ : List ℕ} {a : Outcome} → z ≡ Sending.Row o c two
             → after ≡ afterSending two → back ≡ replyBack two (q % 256) (n % 256) i → SendsBy file s slot i o c to after back s′ out out′ a
             → MadeOut file makes s s′ out out′ a
         move-sends {o} {c} {two} {after} {back} f ea eb d = record {
@@ -490,14 +403,16 @@ module _ (file s out : List ℕ) (q n r to : ℕ) where
               let rowsIn : RowsExist file (Sending.Row o c two) = subst (RowsExist file) f (m .exists w (here w G st)) in
               let eq : q % 256 ≡ q = omega (arith, j .service) in
               let en : n % 256 ≡ n = omega (arith, j .number) in
-              let send : Progress → ReplyTo → Result = λ x y. sendBy N G q n (j .session) to i (operationOf file o) (expressionOf file c) x y in
+              let send : Progress → Optional Destination → Result = λ x y. sendBy N G q n (j .session) to i (operationOf file o) (expressionOf file c) x y in
               let eback : back ≡ replyBack two q n i =
               eb ∙ (ap (λ (t : ℕ). replyBack two t (n % 256) i) eq ∙ ap (λ (t : ℕ). replyBack two q t i) en) in
               d .tells w (rowsIn .0) (rowsIn .1) G st q n b j l
-              ∙ (ap (λ (t : Progress). finish s out (send t back)) ea ∙ (ap (λ (t : ReplyTo). finish s out (send (afterSending two) t)) eback
+              ∙ (ap (λ (t : Progress). finish s out (send t back)) ea ∙ (ap (λ (t : Optional Destination). finish s out (send (afterSending two) t)) eback
               ∙ ap (finish s out) (sym (move-row w G st ∙ ap (λ (t : Sending). sendingAs file N G q n (j .session) to i t) f))));
         }
 
 pub ruleset message-laws = (message-inside, part-length)
 
-pub ruleset outside-laws = (outside-short, outside-target, outside-missing, outside-wrong, outside-misfit, outside-long, outside-done)
+pub ruleset outside-laws = (outside-short, outside-target, outside-stuck, outside-not, outside-long, outside-done)
+
+pub ruleset offer-laws = (length-tree, length-missing, length-wrong, verdict-tree, verdict-missing, verdict-wrong)

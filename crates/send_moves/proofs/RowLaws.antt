@@ -21,13 +21,14 @@ use Rattle.rows.specs.RowSyntax.{outputWith}
 use Rattle.operations.specs.Directions.{directionOf}
 use Rattle.row_parts.specs.Behaviours.{OutputKeptBy}
 use Rattle.row_parts.specs.KindLaws.{output-is}
-use Rattle.state.specs.Session.{ReplyTo, Progress, Session, State}
+use Rattle.state.specs.Session.{Progress, Session, State}
 use Rattle.state.specs.Bytes.{readSession}
 use Rattle.progress.specs.declared.Progress as coded
 use Rattle.progress.specs.Meaning.{meaning}
 use Rattle.progress.proofs.Progress as progress
-use Rattle.queues.specs.declared.ReplyTo as declared
-use Rattle.queues.specs.Queue.{replyOf}
+use Rattle.destinations.specs.declared.Destination as destination
+use Rattle.destinations.specs.declared.ReplyTo as declared
+use Rattle.destinations.specs.Meaning.{replyOf}
 use Rattle.moves.specs.Moves.{Result, notAllowed, require, ifUndone, sendOutput, sendAt}
 use Rattle.send_moves.specs.declared.Sending.{Sending}
 use Rattle.send_moves.specs.Sending.{replyBack, sendingAs, RowsExist, readyAs, OutputAt, SendingAt}
@@ -63,10 +64,10 @@ pub ruleset output-laws = (output-notification, output-solicit, output-other)
 
 -- ---- `reply_back`
 
-pub back-row : (t : Bool) (a b q n i : ℕ) → t ≡ true → a ≡ q → b ≡ n → replyOf (declared.ReplyTo.WaitingRow a b i) ≡ replyBack t q n i
+pub back-row : (t : Bool) (a b q n i : ℕ) → t ≡ true → a ≡ q → b ≡ n → replyOf (declared.ReplyTo.To (destination.Destination.WaitingRow a b i)) ≡ replyBack t q n i
 back-row t a b q n i e f g =
-    ap (λ (x : ℕ). replyOf (declared.ReplyTo.WaitingRow x b i)) f
-    ∙ (ap (λ (x : ℕ). replyOf (declared.ReplyTo.WaitingRow q x i)) g ∙ ap (λ (x : Bool). replyBack x q n i) (sym e))
+    ap (λ (x : ℕ). replyOf (declared.ReplyTo.To (destination.Destination.WaitingRow x b i))) f
+    ∙ (ap (λ (x : ℕ). replyOf (declared.ReplyTo.To (destination.Destination.WaitingRow q x i))) g ∙ ap (λ (x : Bool). replyBack x q n i) (sym e))
 
 -- ---- `sending_at`
 
@@ -99,17 +100,15 @@ module _ (file s : List ℕ) (slot q i : ℕ) where
           ∙ ap (λ (x : Progress). ifUndone x (require (permits q output two (operationOf file o)) MoveNotAllowed
           (sendingAs file N G q n S to i (Sending.Row o e two)))) (sym m)
 
-      pub row-not-undone : OneOf (1 ∷ 2 ∷ 3 ∷ 4 ∷ 5 ∷ 6 ∷ []) (tagOf progress.the-type p) → SendingAt file s slot q i Sending.Nothing
+      pub row-not-undone : OneOf (1 ∷ 2 ∷ 3 ∷ 4 ∷ []) (tagOf progress.the-type p) → SendingAt file s slot q i Sending.Nothing
       row-not-undone k = refuses (λ N G n to. row-next N G n to ∙ other p _ k)
         where
-          other : (p : coded.Progress) (r : Result) → OneOf (1 ∷ 2 ∷ 3 ∷ 4 ∷ 5 ∷ 6 ∷ []) (tagOf progress.the-type p) → ifUndone (meaning p) r ≡ notAllowed
-          other coded.Progress.Undone r k = absurd (miss (1 ∷ 2 ∷ 3 ∷ 4 ∷ 5 ∷ 6 ∷ []) 0 tt k)
+          other : (p : coded.Progress) (r : Result) → OneOf (1 ∷ 2 ∷ 3 ∷ 4 ∷ []) (tagOf progress.the-type p) → ifUndone (meaning p) r ≡ notAllowed
+          other coded.Progress.Undone r k = absurd (miss (1 ∷ 2 ∷ 3 ∷ 4 ∷ []) 0 tt k)
           other coded.Progress.Done r k = refl
           other coded.Progress.Waits r k = refl
           other (coded.Progress.Taken i) r k = refl
-          other (coded.Progress.FromOutsider i) r k = refl
-          other (coded.Progress.FromRow i a b) r k = refl
-          other coded.Progress.FromNobody r k = refl
+          other (coded.Progress.Received d) r k = refl
 
       module _ (k : p ≡ coded.Progress.Undone) {b : Bool} (z : b ≡ permits q (directionOf false) two (operationOf file o)) where
         row-undone : (N : Network) (G : State) (n to : ℕ) (x : Bool) → b ≡ x → readyAs file N G q n S to i v

@@ -5,13 +5,15 @@ use mathlib.Core.List.{List}
 use Prim.Native.Nat.{ℕ, _<_, _≤_}
 use lib.ListN.{length}
 use Rattle.refusal.specs.declared.Outcome.{Outcome}
-use Rattle.refusal.specs.declared.Refusal.the-variants.{MoveNotAllowed}
+use Rattle.refusal.specs.declared.Refusal.the-variants.{MoveNotAllowed, Stuck}
+use Rattle.refusal.specs.declared.Verdict.{Verdict}
+use Rattle.refusal.specs.declared.Verdict.the-variants.{Done, Refused}
 use Rattle.typing.specs.Rules.{permits}
-use Rattle.syntax.specs.Syntax.{Network, output}
+use Rattle.syntax.specs.Syntax.{Optional, none, some, Network, output}
 use Rattle.network.specs.Form.{WellFormed}
 use Rattle.network.specs.Layout.{expressionCount, behaviourCount, operationCount}
 use Rattle.network.specs.Decode.{expressionOf, operationOf, behaviourOf, networkOf}
-use Rattle.state.specs.Session.{ReplyTo, nobody, waitingRow, Progress, done, waits, Session, State}
+use Rattle.state.specs.Session.{Destination, waitingRow, Progress, done, waits, Session, State}
 use Rattle.state.specs.Bytes.{readSession}
 use Rattle.moves.specs.Evaluation.{evaluate}
 use Rattle.moves.specs.Moves.{Result, notAllowed, require, ifUndone, sendInside, sendOutside, sendBy, sendAt}
@@ -27,9 +29,9 @@ abbrev pub afterSending : Bool → Progress
 afterSending true = waits
 afterSending false = done
 
-abbrev pub replyBack : Bool → ℕ → ℕ → ℕ → ReplyTo
-replyBack true q n r = waitingRow q n r
-replyBack false q n r = nobody
+abbrev pub replyBack : Bool → ℕ → ℕ → ℕ → Optional Destination
+replyBack true q n r = some (waitingRow q n r)
+replyBack false q n r = none
 
 -- What row i sends by its operation and message; or 15.
 abbrev pub sendingAs : List ℕ → Network → State → ℕ → ℕ → Session → ℕ → ℕ → Sending → Result
@@ -66,6 +68,12 @@ pub record WritesMessage (file s : List ℕ) (slot e : ℕ) (o : List ℕ) (x : 
   pub tells : WellFormed file → e < expressionCount file → (S : Session) → Living s slot S → WrittenAs o x (evaluate (S .tree) (expressionOf file e))
   pub inside : bytesWritten x ≤ length o
 
+-- 18: "A value read is missing, an operand .. is of the wrong kind".
+abbrev pub verdictOf : Written → Verdict
+verdictOf (Written.Tree n) = Done
+verdictOf Written.Missing = Refused Stuck
+verdictOf Written.Wrong = Refused Stuck
+
 -- A message of E row e by O row o to a location outside, by row i of the session in the slot.
 pub record SendsOutside (file s : List ℕ) (slot i o e to : ℕ) (after : Progress) (s′ out out′ : List ℕ) (a : Outcome) : Type 0 where
   pub tells : WellFormed file → o < operationCount file → e < expressionCount file → (G : State) → StateOf file s G → (q n b : ℕ)
@@ -73,13 +81,13 @@ pub record SendsOutside (file s : List ℕ) (slot i o e to : ℕ) (after : Progr
       (finish s out (sendOutside (networkOf file) G q n (h .session) to i (operationOf file o) (expressionOf file e) after))
 
 -- A message of E row e to the input of O row k, by row i of the session in the slot.
-pub record SendsInside (file s : List ℕ) (slot i k e to : ℕ) (after : Progress) (back : ReplyTo) (s′ : List ℕ) (a : Outcome) : Type 0 where
+pub record SendsInside (file s : List ℕ) (slot i k e to : ℕ) (after : Progress) (back : Optional Destination) (s′ : List ℕ) (a : Outcome) : Type 0 where
   pub tells : WellFormed file → k < operationCount file → e < expressionCount file → (G : State) → StateOf file s G → (q n b : ℕ)
       (h : InSession file s G q n slot b) → (out : List ℕ) → _≡_ {A = Step} (record { outcome = a; state = s′; out = out })
       (finish s out (sendInside (networkOf file) G q n (h .session) to i (expressionOf file e) after back (operationOf file k)))
 
 -- A message of E row e by O row o, by row i of the session in the slot.
-pub record SendsBy (file s : List ℕ) (slot i o e to : ℕ) (after : Progress) (back : ReplyTo) (s′ out out′ : List ℕ) (a : Outcome) : Type 0 where
+pub record SendsBy (file s : List ℕ) (slot i o e to : ℕ) (after : Progress) (back : Optional Destination) (s′ out out′ : List ℕ) (a : Outcome) : Type 0 where
   pub tells : WellFormed file → o < operationCount file → e < expressionCount file → (G : State) → StateOf file s G → (q n b : ℕ)
       (h : InSession file s G q n slot b) → 512 ≤ length out → _≡_ {A = Step} (record { outcome = a; state = s′; out = out′ })
       (finish s out (sendBy (networkOf file) G q n (h .session) to i (operationOf file o) (expressionOf file e) after back))

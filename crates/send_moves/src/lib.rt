@@ -4,16 +4,19 @@ ghost use mathlib.Core.Path.{_≡_};
 ghost use Prim.Native.Nat.{_+_, _%_, _≤_, _<_};
 ghost use lib.ListN.{length};
 ghost use Rattle.progress.specs.Meaning.{meaning};
-ghost use Rattle.queues.specs.Queue.{replyOf};
+ghost use Rattle.destinations.specs.Meaning.{replyOf};
 ghost use Rattle.moves.specs.Moves.{sendMove};
 ghost use Rattle.moving.specs.Made.{MadeOut};
-ghost use Rattle.send_moves.specs.Sending.{afterSending, replyBack, OutputAt, SendingAt, WritesMessage, SendsOutside, SendsInside, SendsBy};
+ghost use Rattle.evaluation.specs.Writing.{bytesWritten};
+ghost use Rattle.send_moves.specs.Sending.{afterSending, replyBack, verdictOf, OutputAt, SendingAt, WritesMessage, SendsOutside, SendsInside, SendsBy};
 ghost use Rattle.state.specs.Places.{slotSize, treeRoom};
+use delivery::Admission;
+use destinations::Destination;
+use destinations::ReplyTo;
 use evaluation::Written;
 use moving::Running;
 use operations::Met;
 use progress::Progress;
-use queues::ReplyTo;
 use readiness::Reached;
 use refusal::Outcome;
 use refusal::Refusal;
@@ -72,7 +75,7 @@ fn reply_back(twoway: bool, q: u16, n: u16, i: u16) -> ReplyTo
     ensures { λ x. ⌜ replyOf x ≡ replyBack twoway (q % 256) (n % 256) i ⌝ }
 {
     if twoway {
-        return ReplyTo::WaitingRow((q % 256) as u8, (n % 256) as u8, i);
+        return ReplyTo::To(Destination::WaitingRow((q % 256) as u8, (n % 256) as u8, i));
     }
     ReplyTo::Nobody
 }
@@ -109,20 +112,47 @@ fn send_outside(
         return refusal::refused(Refusal::MoveNotAllowed);
     }
     let mut m = [0u8; 1024];
-    match write_message(&mut m, file, state, slot, e) {
-        Written::Tree(n) => {
-            if !delivery::must_fit(&m[..n], file, rows::request_type(file, o)) {
-                return refusal::refused(Refusal::MessageMisfit);
-            }
-            if 512 < n {
-                return refusal::refused(Refusal::MessageMisfit);
-            }
-            progress::put_row(state, slot, i, after);
-            let w = tree_edit::append(out, 0, &m[..n], 0, n);
-            refusal::done(w)
-        }
-        Written::Missing => refusal::refused(Refusal::Stuck),
-        Written::Wrong => refusal::refused(Refusal::Stuck),
+    let Written::Tree(n) = write_message(&mut m, file, state, slot, e) else {
+        return refusal::refused(Refusal::Stuck);
+    };
+    let v = fitting::passes(
+        &m[..n],
+        file,
+        rows::request_type(file, o),
+        Refusal::MessageMisfit,
+    );
+    let Verdict::Done = v else {
+        return Outcome {
+            bytes: 0,
+            verdict: v,
+        };
+    };
+    if 512 < n {
+        return refusal::refused(Refusal::MessageMisfit);
+    }
+    progress::put_row(state, slot, i, after);
+    let w = tree_edit::append(out, 0, &m[..n], 0, n);
+    refusal::done(w)
+}
+
+// The length of the message, 0 where there is none; and what it answers itself, 18 where there is none.
+fn message_length(w: Written) -> usize
+    ensures { λ n. ⌜ n ≡ bytesWritten w ⌝ }
+{
+    match w {
+        Written::Tree(n) => n,
+        Written::Missing => 0,
+        Written::Wrong => 0,
+    }
+}
+
+fn message_verdict(w: Written) -> Verdict
+    ensures { λ v. ⌜ v ≡ verdictOf w ⌝ }
+{
+    match w {
+        Written::Tree(_) => Verdict::Done,
+        Written::Missing => Verdict::Refused(Refusal::Stuck),
+        Written::Wrong => Verdict::Refused(Refusal::Stuck),
     }
 }
 
@@ -141,32 +171,27 @@ fn send_inside(
     requires { ⌜ (length (now state) ≡ 65536) × (slot + slotSize ≤ 65536) × (i < 256) ⌝ }
     ensures { λ a. ⌜ SendsInside (now (file .entry)) (now (state .entry)) slot i k e to (meaning after) (replyOf back) (now (state .exit)) a ⌝ }
 {
-    let target = targets::target_of(file, state, k, to);
-    let v = delivery::allowed(
-        file,
-        wire::byte_to_u16(rows::operation_service(file, k)),
-        target,
-    );
-    let Verdict::Done = v else {
-        return Outcome {
-            bytes: 0,
-            verdict: v,
-        };
-    };
     let mut m = [0u8; 1024];
-    match write_message(&mut m, file, state, slot, e) {
-        Written::Tree(n) => {
-            if !delivery::must_fit(&m[..n], file, rows::request_type(file, k)) {
-                return refusal::refused(Refusal::MessageMisfit);
-            }
-            if !delivery::starts_within(file, target, &m[..n]) {
-                return refusal::refused(Refusal::Stuck);
-            }
+    let mut tree = [0u8; 2304];
+    let w = write_message(&mut m, file, state, slot, e);
+    let n = message_length(w);
+    let own = message_verdict(w);
+    match delivery::admit(
+        &mut tree,
+        file,
+        state,
+        k,
+        to,
+        &m[..n],
+        own,
+        Refusal::MessageMisfit,
+    ) {
+        Admission::Refused(why) => refusal::refused(why),
+        Admission::Admitted(y) => {
             progress::put_row(state, slot, i, after);
-            delivery::deliver(file, state, k, to, target, back, &m[..n])
+            delivery::store(file, state, k, back, &m[..n], y, &tree);
+            refusal::done(0)
         }
-        Written::Missing => refusal::refused(Refusal::Stuck),
-        Written::Wrong => refusal::refused(Refusal::Stuck),
     }
 }
 

@@ -8,7 +8,7 @@ use lib.ListN.{length, take, length-take}
 use lib.Dec.{leb}
 use borrow.Author.Tests.{le-leb}
 use Rattle.forest.specs.Forest.{Forest, end, Tree, tree, Lookup, absent, present, nodes, levels}
-use Rattle.forest.specs.Path.{replaceAt, setPayloadAt}
+use Rattle.forest.specs.Path.{Path, replaceAt, setPayloadAt}
 use Rattle.scalar.specs.Value.{Value, value, pick}
 use Rattle.tree.specs.Encode.{encode, rooted, WellFormed, Encodes, empty, messageDeep, messageMany, treeDeep, treeMany}
 use Rattle.tree.specs.Decode.{decode, isPresent, isTree}
@@ -17,6 +17,9 @@ use Rattle.tree.specs.Ids.{isPath, pathOf}
 use Rattle.tree_edit.specs.Limited as limited
 use Rattle.tree_edit.specs.declared.Grown.{Grown}
 use Rattle.typing.specs.Environment.{within}
+use Rattle.rows.specs.Readers.{pathIds}
+use Rattle.row_parts.specs.PathLaws.{ids-path, path-is}
+use Rattle.state.specs.Places.{treeRoom}
 use Rattle.state.specs.Session.{Session, live}
 use Rattle.state.specs.Bytes.{treeBytes, messageBytes}
 use Rattle.state.specs.SizeLaws.{message-size, session-tree-size}
@@ -26,15 +29,15 @@ use Rattle.slots.specs.SlotLaws.{living-tree}
 use Rattle.slots.specs.Living.{Living}
 use Rattle.network.specs.TestLaws.{unequal}
 use Rattle.session_trees.specs.declared.Change.{Change}
-use Rattle.session_trees.specs.Changing.{KeptTree, ChangedTo, Replaces, Assigns, changeOf, Kept}
+use Rattle.session_trees.specs.Changing.{KeptTree, ChangedTo, keptBytes, Replaces, ReplacesAt, Assigns, changeOf, Kept}
 
 -- ---- the writer's answer
 
 pub grown-long : {v : Grown} {n : ℕ} → v ≡ Grown.Within n → 1024 < n → Kept v Change.TooLarge
 grown-long {v} {n} e l = record { tells = subst (λ (y : Grown). changeOf y Change.TooLarge) (sym e) l }
 
-pub grown-within : {v : Grown} {n k : ℕ} → v ≡ Grown.Within n → k ≡ n → Kept v (Change.Kept k)
-grown-within {v} {n} {k} e h = record { tells = subst (λ (y : Grown). changeOf y (Change.Kept k)) (sym e) h }
+pub grown-within : {v : Grown} {n k : ℕ} → v ≡ Grown.Within n → n ≤ 1024 → k ≡ n → Kept v (Change.Kept k)
+grown-within {v} {n} {k} e l h = record { tells = subst (λ (y : Grown). changeOf y (Change.Kept k)) (sym e) (h, l) }
 
 pub grown-past : {v : Grown} {n : ℕ} → v ≡ Grown.Past n → Kept v Change.TooLarge
 grown-past {v} e = record { tells = subst (λ (y : Grown). changeOf y Change.TooLarge) (sym e) tt }
@@ -76,10 +79,10 @@ changed o o′ v x F k h = by v x (k .tells) h
         let z : r ≡ length (treeBytes F) = sym (h .wrote .size) in
         let l = session-tree-size F w in
         record {
-          bytes = ap (λ (j : ℕ). take j o′) e ∙ h .encodes .bytes;
-          size = e ∙ z;
-          small = omega (arith, e, z, l);
-          room = omega (arith, e, h .wrote .fits);
+          bytes = ap (λ (j : ℕ). take j o′) (e .0) ∙ h .encodes .bytes;
+          size = e .0 ∙ z;
+          small = omega (arith, e .0, z, l);
+          room = omega (arith, e .0, h .wrote .fits);
           made = w;
           fits = ap (λ (b : Bool). b && leb (levels F) 6) (le-leb (nodes F) 48 (w .few)) ∙ le-leb (levels F) 6 (w .shallow);
         }
@@ -89,29 +92,37 @@ changed o o′ v x F k h = by v x (k .tells) h
     by (Grown.Past r) (Change.Kept n) e h = absurd e
     by (Grown.Past r) Change.TooLarge e h = swapped (leb (levels F) treeDeep) (leb (nodes F) treeMany) (h .large)
 
+-- There is room for it.
+kept-small : (v : Grown) (x : Change) → changeOf v x → keptBytes x ≤ treeRoom
+kept-small (Grown.Within r) (Change.Kept n) e = omega (arith, e .0, e .1)
+kept-small (Grown.Within r) Change.TooLarge e = omega arith
+kept-small (Grown.Past r) (Change.Kept n) e = absurd e
+kept-small (Grown.Past r) Change.TooLarge e = omega arith
+
 -- ---- `replace`
 
 module _ (s : List ℕ) (slot : ℕ) (ids m : List ℕ) {t : List ℕ} (e : t ≡ treeIn s slot) where
   pub replace-long : {o : List ℕ} → 1024 < length t → Replaces s slot ids m o Change.TooLarge
-  replace-long l = record { tells = λ S u h p c. absurd (omega (arith, l, session-short e h)) }
+  replace-long l = record { tells = λ S u h p c. absurd (omega (arith, l, session-short e h)); small = omega arith }
 
   pub replace-message : {o : List ℕ} → 1024 < length m → Replaces s slot ids m o Change.TooLarge
-  replace-message l = record { tells = λ S u h p c. absurd (omega (arith, l, message-short m u c)) }
+  replace-message l = record { tells = λ S u h p c. absurd (omega (arith, l, message-short m u c)); small = omega arith }
 
   pub replace-path : {o : List ℕ} {b : Bool} → b ≡ isPath ids → not b ≡ true → Replaces s slot ids m o Change.TooLarge
-  replace-path k n = record { tells = λ S u h p c. unequal (k ∙ p) n }
+  replace-path k n = record { tells = λ S u h p c. unequal (k ∙ p) n; small = omega arith }
 
   pub replace-tree : {o : List ℕ} {b : Bool} → b ≡ isTree 6 48 t → not b ≡ true → Replaces s slot ids m o Change.TooLarge
-  replace-tree k n = record { tells = λ S u h p c. unequal (k ∙ is-tree treeDeep treeMany t _ (session-encodes e h)) n }
+  replace-tree k n = record { tells = λ S u h p c. unequal (k ∙ is-tree treeDeep treeMany t _ (session-encodes e h)) n; small = omega arith }
 
   pub replace-no-message : {o : List ℕ} {b : Bool} → b ≡ isTree 6 48 m → not b ≡ true → Replaces s slot ids m o Change.TooLarge
-  replace-no-message k n = record { tells = λ S u h p c. unequal (k ∙ is-tree treeDeep treeMany m u (message-tree m u c)) n }
+  replace-no-message k n = record { tells = λ S u h p c. unequal (k ∙ is-tree treeDeep treeMany m u (message-tree m u c)) n; small = omega arith }
 
   pub replace-done : {o o′ : List ℕ} {v : Grown} {x : Change} → limited.PutOutcome false ids t m o o′ v → Kept v x → Replaces s slot ids m o′ x
   replace-done {o} {o′} {v} {x} w k = record {
     tells = λ S u h p c.
         changed o o′ v x (replaceAt voidValue (pathOf ids) u (S .tree)) k
         (w .tells empty (S .tree) u (decode-complete treeDeep treeMany t _ (session-encodes e h)) (decode-complete treeDeep treeMany m u (message-tree m u c)));
+    small = kept-small v x (k .tells);
   }
 
   -- ---- `assign`
@@ -137,6 +148,17 @@ module _ (s : List ℕ) (slot : ℕ) (ids m : List ℕ) {t : List ℕ} (e : t �
         changed o o′ v x (setPayloadAt voidValue (pathOf ids) u (S .tree)) k
         (w .tells empty (S .tree) u (decode-complete treeDeep treeMany t _ (session-encodes e h)) (decode-complete 0 0 m (tree u end) c));
   }
+
+-- ---- `replace_at`
+
+pub replaced-at : {file : List ℕ} {p : ℕ} {s is m o : List ℕ} {slot : ℕ} {x : Change} → is ≡ pathIds file p → Replaces s slot is m o x
+    → ReplacesAt file p s slot m o x
+replaced-at {file} {p} {o = o} {x = x} d h = record {
+  tells = λ w l S t i g.
+      subst (λ (y : Path). ChangedTo o x (replaceAt voidValue y t (S .tree))) (ap pathOf d ∙ path-is file p)
+      (h .tells S t i (ap isPath d ∙ ids-path file w p l) g);
+  small = h .small;
+}
 
 pub ruleset grown-laws = (grown-long, grown-within, grown-past)
 

@@ -3,15 +3,19 @@
 use mathlib.Core.Path.{_≡_}
 use mathlib.Core.Bool.{Bool, true, false}
 use mathlib.Core.List.{List}
-use Prim.Native.Nat.{ℕ, _≤_}
+use Prim.Native.Nat.{ℕ, _≤_, _<_}
 use lib.ListN.{length, take}
 use Rattle.forest.specs.Forest.{Forest, end, Tree, tree}
 use Rattle.forest.specs.Path.{replaceAt, setPayloadAt}
 use Rattle.scalar.specs.Value.{Value}
-use Rattle.tree.specs.Encode.{WellFormed, Encodes, empty, messageDeep, messageMany, treeDeep, treeMany}
+use Rattle.tree.specs.Encode.{WellFormed, Encodes, Message, empty, messageDeep, messageMany, treeDeep, treeMany}
 use Rattle.tree.specs.Ids.{isPath, pathOf}
 use Rattle.tree_edit.specs.declared.Grown.{Grown}
+use Rattle.network.specs.Form as form
+use Rattle.network.specs.Decode as network
+use Rattle.network.specs.Layout.{pathCount}
 use Rattle.typing.specs.Environment.{within}
+use Rattle.state.specs.Places.{treeRoom}
 use Rattle.state.specs.Session.{Session}
 use Rattle.state.specs.Bytes.{treeBytes}
 use Rattle.moves.specs.Moves.{voidValue}
@@ -31,10 +35,22 @@ abbrev pub ChangedTo : List ℕ → Change → Forest Value → Type 0
 ChangedTo o (Change.Kept n) F = KeptTree o n F
 ChangedTo o Change.TooLarge F = within F ≡ false
 
+-- How many bytes a kept tree takes: there is room for them in a slot.
+abbrev pub keptBytes : Change → ℕ
+keptBytes (Change.Kept n) = n
+keptBytes Change.TooLarge = 0
+
 -- The subtree at the path replaced by the message m.
 pub record Replaces (s : List ℕ) (slot : ℕ) (ids m o : List ℕ) (x : Change) : Type 0 where
   pub tells : (S : Session) (t : Tree Value) → Living s slot S → isPath ids ≡ true → Encodes messageDeep messageMany m t
       → ChangedTo o x (replaceAt voidValue (pathOf ids) t (S .tree))
+  pub small : keptBytes x ≤ treeRoom
+
+-- The same at the path of P row p.
+pub record ReplacesAt (file : List ℕ) (p : ℕ) (s : List ℕ) (slot : ℕ) (m o : List ℕ) (x : Change) : Type 0 where
+  pub tells : form.WellFormed file → p < pathCount file → (S : Session) (t : Tree Value) → Living s slot S → Message m t
+      → ChangedTo o x (replaceAt voidValue (network.pathOf file p) t (S .tree))
+  pub small : keptBytes x ≤ treeRoom
 
 -- The value of the leaf m set at the path.
 pub record Assigns (s : List ℕ) (slot : ℕ) (ids m o : List ℕ) (x : Change) : Type 0 where
@@ -43,7 +59,7 @@ pub record Assigns (s : List ℕ) (slot : ℕ) (ids m o : List ℕ) (x : Change)
 
 -- What is made of a writer's answer.
 abbrev pub changeOf : Grown → Change → Type 0
-changeOf (Grown.Within n) (Change.Kept k) = k ≡ n
+changeOf (Grown.Within n) (Change.Kept k) = (k ≡ n) × (n ≤ treeRoom)
 changeOf (Grown.Within n) Change.TooLarge = 1025 ≤ n
 changeOf (Grown.Past n) (Change.Kept k) = ⊥
 changeOf (Grown.Past n) Change.TooLarge = Unit {0}

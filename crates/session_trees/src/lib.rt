@@ -2,7 +2,7 @@
 // children. Writing makes missing steps void."; receive "replaces the subtree"; 18: "would take a tree past 48 nodes or 6 levels".
 ghost use Prim.Native.Nat.{_+_, _≤_};
 ghost use lib.ListN.{length};
-ghost use Rattle.session_trees.specs.Changing.{Replaces, Assigns, Kept};
+ghost use Rattle.session_trees.specs.Changing.{Replaces, ReplacesAt, Assigns, Kept};
 ghost use Rattle.state.specs.Places.{slotSize};
 use tree_edit::Grown;
 
@@ -49,6 +49,21 @@ pub fn replace(out: &mut [u8], state: &[u8], slot: usize, ids: [u16; 4], m: &[u8
         return Change::TooLarge;
     }
     grown(tree_edit::put_within(out, s, ids, m, false))
+}
+
+// The same at the path of P row p.
+pub fn replace_at(
+    out: &mut [u8],
+    file: &[u8],
+    p: u16,
+    state: &[u8],
+    slot: usize,
+    m: &[u8],
+) -> Change
+    requires { ⌜ (slot + slotSize ≤ length (now state)) × (2304 ≤ length (now out)) ⌝ }
+    ensures { λ x. ⌜ ReplacesAt (now (file .entry)) p (now (state .entry)) slot (now (m .entry)) (now (out .exit)) x ⌝ }
+{
+    replace(out, state, slot, rows::path_row(file, p), m)
 }
 
 // The tree of the session in the slot with the value of the leaf m set at the path.

@@ -10,7 +10,7 @@ use Rattle.syntax.specs.Syntax.{parallel, assign, choice, waiting, answering, B
 use Rattle.syntax.specs.Rows.{hasRow, hasRowIn}
 use Rattle.network.specs.Shapes.{Outside, EachRowOnce, EachBranchRowOnce}
 use Rattle.network.specs.OnceLaws.{or-case}
-use Rattle.state.specs.Session.{Progress, Progresses, ReplyTo, undone, received, taken}
+use Rattle.state.specs.Session.{Progress, Progresses, Destination, undone, received, taken}
 use Rattle.state.specs.Shape.{isUndone, undoneOrDone, undoneDoneOrWaits, undoneDoneOrReceived, undoneOrTaken, undoneDoneOrBody, branches, suits, suitsBranches}
 use Rattle.soundness.specs.Parts.{branchAt, Fresh, FreshBranches, notTaken, Clean, CleanBranches, Reaches, atSelf, atFirst, atSecond, atLeft, atRight, atThen, atElse}
 use Rattle.soundness.specs.Parts.{atLoop, atServed, atBranch}
@@ -125,7 +125,7 @@ undone-untaken s e = subst (λ (z : Progress). T (notTaken z)) (sym e) tt
 pub untaken-taken : (s : Progress) {k : ℕ} {X : Type 0} → s ≡ taken k → T (notTaken s) → X
 untaken-taken s e t = absurd (subst (λ (z : Progress). T (notTaken z)) e t)
 
-pub undone-received : (s : Progress) {to : ReplyTo} {X : Type 0} → s ≡ received to → s ≡ undone → X
+pub undone-received : (s : Progress) {to : Destination} {X : Type 0} → s ≡ received to → s ≡ undone → X
 undone-received s e f = absurd (let z : _≡_ {A = ℕ} 0 1 = cc in omega arith)
 
 -- The other branches of a choice do not change with the taken one.

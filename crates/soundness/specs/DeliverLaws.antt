@@ -19,21 +19,21 @@ use Rattle.subtyping.specs.OwnLaws.{tree-within}
 use Rattle.typing.specs.EnvironmentLaws.{sums, maxima}
 use Rattle.typing.specs.Rules.{Derives}
 use Rattle.tree.specs.Encode.{WellFormed, messageDeep, messageMany}
-use Rattle.state.specs.Session.{ReplyTo, Progresses, undone, done, received, taken, advance, Queued, Session, withQueue, withProgress, newSession, Slot, free, live, State, setSlot}
+use Rattle.state.specs.Session.{Destination, Progresses, undone, received, taken, advance, Queued, Session, withQueue, withProgress, newSession, Slot, free, live, State, setSlot}
 use Rattle.state.specs.Shape.{serviceAt, clientOf, starterOf, behaviourIn, operationAt, suitsOperation, branches}
 use Rattle.moves.specs.Targets.{Target, noTarget, queueFull, queued, starts, startFrom, startOf, targetOf, onBehaviour, target}
-use Rattle.moves.specs.Moves.{Result, moved, saveWithin, permitsInput, allowed, startedBy, started, deliver}
+use Rattle.moves.specs.Moves.{Result, moved, saveWithin, permitsInput, receivedBy, allowed, startedBy, started, deliver}
 use Rattle.soundness.specs.GoodTrees.{GoodTree}
 use Rattle.soundness.specs.Parts.{branchAt, Reaches, atSelf, atFirst, atBranch}
 use Rattle.soundness.specs.RowLaws.{in-first, branch-rows}
 use Rattle.soundness.specs.Accepted.{OfFile, MadeOf, SmallType, Accepted, DerivedStarter}
 use Rattle.soundness.specs.MadeLaws.{made-at, plain-request, reaches-atRow}
 use Rattle.syntax.specs.ViewLaws.{own-row, some-inj}
-use Rattle.soundness.specs.Invariant.{Destination, Answers, QueuedSound, AllQueued, SessionSound, Sound}
+use Rattle.soundness.specs.Invariant.{ReplyFits, RepliesFit, Answers, QueuedSound, AllQueued, SessionSound, Sound}
 use Rattle.soundness.specs.SessionLaws.{advance-same, advance-below-branches, once-of, made-of, oneWay-sound, request-sound, queue-sound}
 use Rattle.soundness.specs.StartLaws.{StartedBy, FoundStart, startFrom-found, start-sound}
 use Rattle.soundness.specs.ResultLaws.{Keeps, goes-keeps, keeps-15, allowed-16, by-require, by-live, sound-set, live-inj}
-use Rattle.soundness.specs.LocalLaws.{permits-two, save-goes, suits-destination}
+use Rattle.soundness.specs.LocalLaws.{permits-one, permits-two, save-goes, suits-destination, suits-none}
 
 -- What fits a type of the file is a message.
 pub message-formed : (m : Tree Value) (t : MessageType) → GoodTree m → RisingTree t → SmallType t → Fits m t → WellFormed messageDeep messageMany m
@@ -142,14 +142,14 @@ module _ (N : Network) (rows : ℕ) (acc : Accepted N rows) where
           (start n2 B en eb (acc .starters (i .service) n2 B (ap (behaviourIn N (i .service)) (sym en) ∙ eb)))
 
   -- A message of the input i that may arrive, with where its reply goes.
-  pub record Arriving (i : Operation) (m : Tree Value) (back : ReplyTo) : Type 0 where
+  pub record Arriving (i : Operation) (m : Tree Value) (back : Optional Destination) : Type 0 where
     pub ofFile : OfFile N i
     pub suit : T (suitsOperation N rows (i .service) back (some i))
     pub good : GoodTree m
     pub fit : Fits m (i .request)
-    pub destination : Destination N i back
+    pub destination : RepliesFit N i back
 
-  queued-sound : (i : Operation) (m : Tree Value) (back : ReplyTo) → Arriving i m back
+  queued-sound : (i : Operation) (m : Tree Value) (back : Optional Destination) → Arriving i m back
       → QueuedSound N rows (i .service) (record { operation = i .row; message = m; replyTo = back })
   queued-sound i m back a =
       let f = acc .operations (i .row) i (a .ofFile) in
@@ -186,7 +186,7 @@ module _ (N : Network) (rows : ℕ) (acc : Accepted N rows) where
 
   module _ (q n c k : ℕ) (m : Branches) (runs : behaviourIn N q (suc n) ≡ some (choice c m))
       (hs : SessionSound N rows q (suc n) (withProgress newSession (begun c k)))
-      (l : ℕ) (b : Behaviour) (i : Operation) (x : Tree Value) (back : ReplyTo) (arr : Arriving i x back) where
+      (l : ℕ) (b : Behaviour) (i : Operation) (x : Tree Value) (back : Optional Destination) (arr : Arriving i x back) where
     here-what : choice c m ≡ hs .what
     here-what = some-inj (sym runs ∙ hs .runs)
 
@@ -194,21 +194,24 @@ module _ (N : Network) (rows : ℕ) (acc : Accepted N rows) where
     same-operation o f t = some-inj (sym (arr .ofFile) ∙ (ap (operationAt (N .operations)) (sym (eqb→eq (o .row) (i .row) t)) ∙ f))
 
     start-one : (r : ℕ) (o : Operation) (y : Path) → branchAt k m ≡ sequence l (oneWay r o y) b → T (eqb (o .row) (i .row))
-        → SessionSound N rows q (suc n) (startedBy c k r y done x)
+        → o .twoWay ≡ false → SessionSound N rows q (suc n) (startedBy c k r y (receivedBy back) x)
     unfolding MadeOf rowOf AllQueued
-    start-one r o y e t =
+    start-one r o y e t tw =
         let on = once-of N rows acc q (suc n) (choice c m) runs in
         let way = input-way c k l m (oneWay r o y) b e in
         let made = made-at N rows way (made-of N rows acc q (suc n) (choice c m) runs) in
-        oneWay-sound N rows acc q (suc n) (withProgress newSession (begun c k)) hs r o y x
+        let eo = same-operation o (made .1) t in
+        let no = suits-none N rows (i .service) back i (arr .suit) (ap (λ (w : Operation). w .twoWay) eo ∙ tw) in
+        subst (λ (z : Optional Destination). SessionSound N rows q (suc n) (startedBy c k r y (receivedBy z) x)) (sym no)
+        (oneWay-sound N rows acc q (suc n) (withProgress newSession (begun c k)) hs r o y x
         (subst (λ (z : Behaviour). Reaches (begun c k) (oneWay r o y) z) here-what way) (input-undone c k l m (oneWay r o y) b on e) (arr .good)
-        (subst (λ (z : Operation). Fits x (z .request)) (same-operation o (made .1) t) (arr .fit)) [] (omega arith) tt
+        (subst (λ (z : Operation). Fits x (z .request)) eo (arr .fit)) [] (omega arith) tt)
 
     request-same : {r r2 : ℕ} {o o2 : Operation} {x x2 c c2 : Path} {d d2 : Behaviour} → requestResponse r o x c d ≡ requestResponse r2 o2 x2 c2 d2 → o ≡ o2
     request-same e = cc
 
     start-two : (r : ℕ) (o : Operation) (y z : Path) (d : Behaviour) → branchAt k m ≡ sequence l (requestResponse r o y z d) b → T (eqb (o .row) (i .row))
-        → o .twoWay ≡ true → SessionSound N rows q (suc n) (startedBy c k r y (received back) x)
+        → o .twoWay ≡ true → SessionSound N rows q (suc n) (startedBy c k r y (receivedBy back) x)
     unfolding MadeOf rowOf AllQueued
     start-two r o y z d e t tw =
         let X = requestResponse r o y z d in
@@ -217,18 +220,19 @@ module _ (N : Network) (rows : ℕ) (acc : Accepted N rows) where
         let way2 = subst (λ (w : Behaviour). Reaches (begun c k) X w) here-what way in
         let made = made-at N rows way (made-of N rows acc q (suc n) (choice c m) runs) in
         let eo = same-operation o (made .1) t in
-        let ans : Answers N (hs .what) r back = λ r2 o2 x2 c2 d2 h.
+        let to = suits-destination N rows (i .service) back i (arr .suit) (ap (λ (w : Operation). w .twoWay) eo ∙ tw) in
+        let ans : Answers N (hs .what) r (to .0) = λ r2 o2 x2 c2 d2 h.
         let same = some-inj (sym (reaches-atRow (begun c k) X (hs .what) (plain-request r o y z d) (subst EachRowOnce here-what on) way2) ∙ h) in
-        subst (λ (w : Operation). Destination N w back) (eo ∙ request-same same) (arr .destination) in
-        request-sound N rows acc q (suc n) (withProgress newSession (begun c k)) hs r o y z d x back way2
-        (input-undone c k l m X b on e) (arr .good) (subst (λ (w : Operation). Fits x (w .request)) eo (arr .fit))
-        (suits-destination N rows (i .service) back i (arr .suit) (ap (λ (w : Operation). w .twoWay) eo ∙ tw)) ans [] (omega arith) tt
+        subst (λ (w : Operation). ReplyFits N w (to .0)) (eo ∙ request-same same) (subst (RepliesFit N i) (to .1) (arr .destination)) in
+        subst (λ (w : Optional Destination). SessionSound N rows q (suc n) (startedBy c k r y (receivedBy w) x)) (sym (to .1))
+        (request-sound N rows acc q (suc n) (withProgress newSession (begun c k)) hs r o y z d x (to .0) way2
+        (input-undone c k l m X b on e) (arr .good) (subst (λ (w : Operation). Fits x (w .request)) eo (arr .fit)) (to .2) ans [] (omega arith) tt)
 
     start-input : (r : ℕ) (o : Operation) (y : Path) (k2 : Optional Response)
         → branchAt k m ≡ sequence l (fromInput (record { row = r; operation = o; into = y; response = k2 })) b → T (eqb (o .row) (i .row))
         → T (permitsInput q (record { row = r; operation = o; into = y; response = k2 }))
         → SessionSound N rows q (suc n) (started c k (record { row = r; operation = o; into = y; response = k2 }) back x)
-    start-input r o y none e t u = start-one r o y e t
+    start-input r o y none e t u = start-one r o y e t (permits-one q input o u)
     start-input r o y (some a) e t u = start-two r o y (a .path) (a .body) e t (permits-two q input o u)
 
   -- Which targets let a message pass.
@@ -244,7 +248,7 @@ module _ (N : Network) (rows : ℕ) (acc : Accepted N rows) where
   allowed-keeps strict q queued R f = f tt
   allowed-keeps strict q (starts c k a) R f = by-require N rows strict (permitsInput q a) R f
 
-  started-sound : (i : Operation) (n : ℕ) (c k : ℕ) (a : Input) (x : Tree Value) (back : ReplyTo) → Arriving i x back
+  started-sound : (i : Operation) (n : ℕ) (c k : ℕ) (a : Input) (x : Tree Value) (back : Optional Destination) → Arriving i x back
       → Starting N (i .service) n (i .row) c k a
       → T (permitsInput (i .service) a) → SessionSound N rows (i .service) n (started c k a back x)
   started-sound i n c k a x back arr s u =
@@ -261,7 +265,7 @@ module _ (N : Network) (rows : ℕ) (acc : Accepted N rows) where
       sym-zero : (j : ℕ) → k ≡ 0 + j → j ≡ k
       sym-zero j e = omega arith
 
-  pub deliver-keeps : (strict : Bool) (G : State) → Sound N rows G → (i : Operation) (n : ℕ) (x : Tree Value) (back : ReplyTo) → Arriving i x back
+  pub deliver-keeps : (strict : Bool) (G : State) → Sound N rows G → (i : Operation) (n : ℕ) (x : Tree Value) (back : Optional Destination) → Arriving i x back
       → (t : Target) → TargetInfo N G i n t → Admits (i .service) t → Keeps N rows strict (deliver G i n t back x)
   deliver-keeps strict G hG i n x back arr noTarget f a = absurd a
   deliver-keeps strict G hG i n x back arr queueFull f a = absurd a

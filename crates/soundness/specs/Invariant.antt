@@ -7,13 +7,13 @@ use Prim.Native.Nat.{ℕ, _≤_}
 use lib.Dec.{T}
 use lib.ListN.{length}
 use Rattle.forest.specs.Path.{Path}
-use Rattle.syntax.specs.Syntax.{Types, Expression, some, Network, Operation, Behaviour, requestResponse, solicitResponse}
+use Rattle.syntax.specs.Syntax.{Types, Expression, Optional, none, some, Network, Operation, Behaviour, requestResponse, solicitResponse}
 use Rattle.syntax.specs.Rows.{atRow}
 use Rattle.subtyping.specs.Subtype.{Subtype}
 use Rattle.subtyping.specs.Own.{Fits}
 use Rattle.typing.specs.Environment.{within}
 use Rattle.tree.specs.Encode.{WellFormed, messageDeep, messageMany}
-use Rattle.state.specs.Session.{ReplyTo, nobody, outsider, waitingRow, undone, received, Queued, Session, live, State}
+use Rattle.state.specs.Session.{Destination, outsider, waitingRow, undone, received, Queued, Session, live, State}
 use Rattle.state.specs.Shape.{behaviourIn, operationAt, suitsOperation, suits}
 use Rattle.moves.specs.Readiness.{rest}
 use Rattle.soundness.specs.GoodTrees.{Good}
@@ -23,17 +23,21 @@ use Rattle.soundness.specs.Parts.{AllOpen}
 use Rattle.soundness.specs.Well.{Well}
 
 -- Replies of the operation o may go there: a waiting row's own reply type is above o's.
-abbrev pub Destination : Network → Operation → ReplyTo → Type 0
-Destination N o nobody = Unit {0}
-Destination N o (outsider k) = Unit {0}
-Destination N o (waitingRow q n r) =
+abbrev pub ReplyFits : Network → Operation → Destination → Type 0
+ReplyFits N o (outsider k) = Unit {0}
+ReplyFits N o (waitingRow q n r) =
     (B : Behaviour) → behaviourIn N q n ≡ some B → (r2 : ℕ) (o2 : Operation) (e : Expression) (x : Path) → atRow r B ≡ some (solicitResponse r2 o2 e x)
     → Subtype (o .reply) (o2 .reply)
 
+-- The same of a message, which has no destination if it is one-way.
+abbrev pub RepliesFit : Network → Operation → Optional Destination → Type 0
+RepliesFit N o none = Unit {0}
+RepliesFit N o (some d) = ReplyFits N o d
+
 -- The row i of B, a received request-response, may answer there.
-abbrev pub Answers : Network → Behaviour → ℕ → ReplyTo → Type 0
+abbrev pub Answers : Network → Behaviour → ℕ → Destination → Type 0
 Answers N B i to =
-    (r : ℕ) (o : Operation) (x c : Path) (d : Behaviour) → atRow i B ≡ some (requestResponse r o x c d) → Destination N o to
+    (r : ℕ) (o : Operation) (x c : Path) (d : Behaviour) → atRow i B ≡ some (requestResponse r o x c d) → ReplyFits N o to
 
 -- A queued message of the service q.
 pub record QueuedSound (N : Network) (rows q : ℕ) (m : Queued) : Type 0 where
@@ -42,7 +46,7 @@ pub record QueuedSound (N : Network) (rows q : ℕ) (m : Queued) : Type 0 where
   pub suit : T (suitsOperation N rows q (m .replyTo) (some operation))
   pub good : WellFormed messageDeep messageMany (m .message)
   pub fit : Fits (m .message) (operation .request)
-  pub destination : Destination N operation (m .replyTo)
+  pub destination : RepliesFit N operation (m .replyTo)
 
 unfoldable pub AllQueued : Network → ℕ → ℕ → List Queued → Type 0
 AllQueued N rows q [] = Unit {0}
@@ -58,7 +62,7 @@ pub record SessionSound (N : Network) (rows q n : ℕ) (S : Session) : Type 0 wh
   pub suit : T (suits N rows (S .progress) what)
   pub quiet : (r : ℕ) → Outside r what → S .progress r ≡ undone
   pub opened : AllOpen (S .progress) what
-  pub replies : (i : ℕ) (to : ReplyTo) → S .progress i ≡ received to → Answers N what i to
+  pub replies : (i : ℕ) (to : Destination) → S .progress i ≡ received to → Answers N what i to
   pub good : Good (S .tree)
   pub well : Well q (S .tree) (rest (S .progress) what) last
   pub few : length (S .queue) ≤ 4

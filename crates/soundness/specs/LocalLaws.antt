@@ -20,9 +20,9 @@ use Rattle.subtyping.specs.Own.{Fits}
 use Rattle.typing.specs.Environment.{within}
 use Rattle.typing.specs.Rules.{permits, sameBool, sameDirection}
 use Rattle.tree.specs.Encode.{WellFormed, messageDeep, messageMany}
-use Rattle.state.specs.Session.{ReplyTo, Progress, Progresses, undone, done, waits, received, taken, advance, reopen, Queued, Session, withTree, withQueue, withProgress, free, live}
+use Rattle.state.specs.Session.{Destination, Progress, Progresses, undone, done, waits, received, taken, advance, reopen, Queued, Session, withTree, withQueue, withProgress, free, live}
 use Rattle.state.specs.Session.{State, setSlot}
-use Rattle.state.specs.Shape.{operationAt, isNobody, isDestination, suitsOperation, undoneOrTaken, branches, suits, suitsBranches}
+use Rattle.state.specs.Shape.{operationAt, isDestination, suitsReply, suitsOperation, undoneOrTaken, branches, suits, suitsBranches}
 use Rattle.moves.specs.Readiness.{isDone, Reached, unreached, reached, offered, reach}
 use Rattle.moves.specs.Evaluation.{evaluate}
 use Rattle.moves.specs.Moves.{Result, moved, require, onTree, onBool, rootValue, voidValue, ifReadyWhile}
@@ -36,7 +36,7 @@ use Rattle.soundness.specs.ReachLaws.{Offered, Found, reach-found, reach
 use Rattle.soundness.specs.Accepted.{OfFile, MadeOf, Accepted}
 use Rattle.soundness.specs.MadeLaws.{made-at, plain-request, reaches-atRow}
 use Rattle.syntax.specs.ViewLaws.{own-row, some-inj, input-is, local-is}
-use Rattle.soundness.specs.Invariant.{Destination, Answers, QueuedSound, AllQueued, SessionSound, Sound}
+use Rattle.soundness.specs.Invariant.{ReplyFits, RepliesFit, Answers, QueuedSound, AllQueued, SessionSound, Sound}
 use Rattle.soundness.specs.SessionLaws.{advance-same, advance-below-branches, advance-other, once-of, made-of, tree-limit, assign-sound, oneWay-sound}
 use Rattle.soundness.specs.SessionLaws.{request-sound, if-sound, while-sound, again-sound, select-sound}
 use Rattle.soundness.specs.ResultLaws.{Keeps, Goes, goes-keeps, keeps-15, by-require, by-undone, by-session, at-tree, at-require, at-bool}
@@ -104,13 +104,28 @@ permits-output q two o t =
     same-output (o .direction) (and-l (sameDirection (o .direction) output) (sameBool (o .twoWay) two)
     (and-r (eqb (o .service) q) (sameDirection (o .direction) output && sameBool (o .twoWay) two) t))
 
--- A two-way operation's message has a destination.
-pub suits-destination : (N : Network) (rows q : ℕ) (to : ReplyTo) (o : Operation) → T (suitsOperation N rows q to (some o)) → o .twoWay ≡ true
-    → T (isDestination N rows to)
-suits-destination N rows q to o t e =
-    let u = and-r (isInputOperation (o .direction)) (pick (o .twoWay) (isDestination N rows to) (isNobody to))
-    (and-r (eqb (o .service) q) (isInputOperation (o .direction) && pick (o .twoWay) (isDestination N rows to) (isNobody to)) t) in
-    subst (λ (b : Bool). T (pick b (isDestination N rows to) (isNobody to))) e u
+-- A message has a destination exactly if its operation is two-way.
+suits-reply : (N : Network) (rows q : ℕ) (to : Optional Destination) (o : Operation) → T (suitsOperation N rows q to (some o)) → (b : Bool) → o .twoWay ≡ b
+    → T (suitsReply N rows b to)
+suits-reply N rows q to o t b e =
+    let u = and-r (isInputOperation (o .direction)) (suitsReply N rows (o .twoWay) to)
+    (and-r (eqb (o .service) q) (isInputOperation (o .direction) && suitsReply N rows (o .twoWay) to) t) in
+    subst (λ (b : Bool). T (suitsReply N rows b to)) e u
+
+pub suits-destination : (N : Network) (rows q : ℕ) (to : Optional Destination) (o : Operation) → T (suitsOperation N rows q to (some o)) → o .twoWay ≡ true
+    → (d : Destination) × (to ≡ some d) × T (isDestination N rows d)
+suits-destination N rows q to o t e = go to (suits-reply N rows q to o t true e)
+  where
+    go : (to : Optional Destination) → T (suitsReply N rows true to) → (d : Destination) × (to ≡ some d) × T (isDestination N rows d)
+    go none u = absurd u
+    go (some d) u = (d, refl, u)
+
+pub suits-none : (N : Network) (rows q : ℕ) (to : Optional Destination) (o : Operation) → T (suitsOperation N rows q to (some o)) → o .twoWay ≡ false → to ≡ none
+suits-none N rows q to o t e = go to (suits-reply N rows q to o t false e)
+  where
+    go : (to : Optional Destination) → T (suitsReply N rows false to) → to ≡ none
+    go none u = refl
+    go (some d) u = absurd u
 
 module _ (N : Network) (rows : ℕ) (acc : Accepted N rows) where
   -- A session changed and kept within the limits.
@@ -203,23 +218,27 @@ module _ (N : Network) (rows : ℕ) (acc : Accepted N rows) where
       same-operation : (m : Queued) (o : Operation) (k : QueuedSound N rows q m) → m .operation ≡ o .row → OfFile N o → k .operation ≡ o
       same-operation m o k e f = some-inj (sym (k .there) ∙ (ap (operationAt (N .operations)) e ∙ f))
 
-      one-takes : (r : ℕ) (o : Operation) (x : Path) → Reaches settled (oneWay r o x) (hs .what) → settled r ≡ undone → (strict : Bool) (t : Taken)
-          → AnyTaken N rows q (o .row) (S .queue) t
-          → Keeps N rows strict (takes G q n S x settled r (receivedBy false) t)
+      -- The session once the message is taken.
+      abbrev after : Path → ℕ → Queued → List Queued → Optional Destination → Session
+      after x r m l to = withQueue (withProgress (withTree S (replaceAt voidValue x (m .message) (S .tree))) (advance settled r (receivedBy to))) l
+
+      one-takes : (r : ℕ) (o : Operation) (x : Path) → Reaches settled (oneWay r o x) (hs .what) → settled r ≡ undone → o .twoWay ≡ false
+          → (strict : Bool) (t : Taken) → AnyTaken N rows q (o .row) (S .queue) t → Keeps N rows strict (takes G q n S x settled r t)
       unfolding MadeOf
-      one-takes r o x a u strict nothing f = keeps-15 N rows strict
-      one-takes r o x a u strict (message m l) f =
+      one-takes r o x a u tw strict nothing f = keeps-15 N rows strict
+      one-takes r o x a u tw strict (message m l) f =
           let k = f .sound in
           let made = made-at N rows a (made-of N rows acc q n (hs .what) (hs .runs)) in
           let eo = same-operation m o k (f .named) (made .1) in
-          goes-keeps N rows strict (takes G q n S x settled r (receivedBy false) (message m l))
-          (save-goes G q n (withQueue (withProgress (withTree S (replaceAt voidValue x (m .message) (S .tree))) (advance settled r done)) l) [] hG
+          let no = suits-none N rows q (m .replyTo) (k .operation) (k .suit) (ap (λ (z : Operation). z .twoWay) eo ∙ tw) in
+          goes-keeps N rows strict (takes G q n S x settled r (message m l))
+          (subst (λ (z : Optional Destination). Goes N rows (saveWithin G q n (after x r m l z) [])) (sym no) (save-goes G q n (after x r m l none) [] hG
           (oneWay-sound N rows acc q n (withProgress S settled) hs r o x (m .message) a u (message-good (m .message) (k .good))
-          (subst (λ (z : Operation). Fits (m .message) (z .request)) eo (k .fit)) l (let z = f .fewer in let w = h .few in omega arith) (f .others)))
+          (subst (λ (z : Operation). Fits (m .message) (z .request)) eo (k .fit)) l (let z = f .fewer in let w = h .few in omega arith) (f .others))))
 
       two-takes : (r : ℕ) (o : Operation) (x c : Path) (d : Behaviour) → Reaches settled (requestResponse r o x c d) (hs .what) → settled r ≡ undone
           → o .twoWay ≡ true
-          → (strict : Bool) (t : Taken) → AnyTaken N rows q (o .row) (S .queue) t → Keeps N rows strict (takes G q n S x settled r (receivedBy true) t)
+          → (strict : Bool) (t : Taken) → AnyTaken N rows q (o .row) (S .queue) t → Keeps N rows strict (takes G q n S x settled r t)
       unfolding MadeOf rowOf
       two-takes r o x c d a u tw strict nothing f = keeps-15 N rows strict
       two-takes r o x c d a u tw strict (message m l) f =
@@ -227,15 +246,16 @@ module _ (N : Network) (rows : ℕ) (acc : Accepted N rows) where
           let on = once-of N rows acc q n (hs .what) (hs .runs) in
           let made = made-at N rows a (made-of N rows acc q n (hs .what) (hs .runs)) in
           let eo = same-operation m o k (f .named) (made .1) in
-          let ans : Answers N (hs .what) r (m .replyTo) = λ r2 o2 x2 c2 d2 e.
+          let to = suits-destination N rows q (m .replyTo) (k .operation) (k .suit) (ap (λ (z : Operation). z .twoWay) eo ∙ tw) in
+          let ans : Answers N (hs .what) r (to .0) = λ r2 o2 x2 c2 d2 e.
           let same = some-inj (sym (reaches-atRow settled (requestResponse r o x c d) (hs .what) (plain-request r o x c d) on a) ∙ e) in
-          subst (λ (z : Operation). Destination N z (m .replyTo)) (eo ∙ request-operation same) (k .destination) in
-          goes-keeps N rows strict (takes G q n S x settled r (receivedBy true) (message m l))
-          (save-goes G q n (withQueue (withProgress (withTree S (replaceAt voidValue x (m .message) (S .tree))) (advance settled r (received (m .replyTo)))) l) [] hG
-          (request-sound N rows acc q n (withProgress S settled) hs r o x c d (m .message) (m .replyTo) a u (message-good (m .message) (k .good))
-          (subst (λ (z : Operation). Fits (m .message) (z .request)) eo (k .fit))
-          (suits-destination N rows q (m .replyTo) (k .operation) (k .suit) (ap (λ (z : Operation). z .twoWay) eo ∙ tw)) ans l
-          (let z = f .fewer in let w = h .few in omega arith) (f .others)))
+          subst (λ (z : Operation). ReplyFits N z (to .0)) (eo ∙ request-operation same) (subst (RepliesFit N (k .operation)) (to .1) (k .destination)) in
+          goes-keeps N rows strict (takes G q n S x settled r (message m l))
+          (subst (λ (z : Optional Destination). Goes N rows (saveWithin G q n (after x r m l z) [])) (sym (to .1))
+          (save-goes G q n (after x r m l (some (to .0))) [] hG
+          (request-sound N rows acc q n (withProgress S settled) hs r o x c d (m .message) (to .0) a u (message-good (m .message) (k .good))
+          (subst (λ (z : Operation). Fits (m .message) (z .request)) eo (k .fit)) (to .2) ans l
+          (let z = f .fewer in let w = h .few in omega arith) (f .others))))
         where
           request-operation : {r r2 : ℕ} {o o2 : Operation} {x x2 c c2 : Path} {d d2 : Behaviour}
               → requestResponse r o x c d ≡ requestResponse r2 o2 x2 c2 d2 → o ≡ o2
@@ -245,12 +265,12 @@ module _ (N : Network) (rows : ℕ) (acc : Accepted N rows) where
           → Reaches settled (fromInput (record { row = r; operation = o; into = x; response = k })) (hs .what) → p r ≡ settled r
           → Keeps N rows strict (receiveBy G q n S settled (some (record { row = r; operation = o; into = x; response = k })))
       receive-by strict r o x none a e =
-          let R = takes G q n S x settled r (receivedBy false) (oldest (o .row) (S .queue)) in
+          let R = takes G q n S x settled r (oldest (o .row) (S .queue)) in
           by-undone N rows strict (p r) (require (permits q input false o) MoveNotAllowed R)
           (λ t. by-require N rows strict (permits q input false o) R
-          (λ k. one-takes r o x a (sym e ∙ t) strict (oldest (o .row) (S .queue)) (oldest-sound N rows q (o .row) (S .queue) (h .queued))))
+          (λ w. one-takes r o x a (sym e ∙ t) (permits-one q input o w) strict (oldest (o .row) (S .queue)) (oldest-sound N rows q (o .row) (S .queue) (h .queued))))
       receive-by strict r o x (some k) a e =
-          let R = takes G q n S x settled r (receivedBy true) (oldest (o .row) (S .queue)) in
+          let R = takes G q n S x settled r (oldest (o .row) (S .queue)) in
           by-undone N rows strict (p r) (require (permits q input true o) MoveNotAllowed R)
           (λ t. by-require N rows strict (permits q input true o) R
           (λ w. two-takes r o x (k .path) (k .body) a (sym e ∙ t) (permits-two q input o w) strict (oldest (o .row) (S .queue))

@@ -8,7 +8,7 @@ use Rattle.forest.specs.Path.{Path}
 use Rattle.syntax.specs.Syntax.{Expression, Operation, Behaviour, nil, oneWay, requestResponse, notification, solicitResponse, ifThenElse, whileDo}
 use Rattle.syntax.specs.Syntax.{sequence, parallel, assign, choice, waiting, answering, Branches, lastBranch, branch}
 use Rattle.syntax.specs.Rows.{hasRow, hasRowIn}
-use Rattle.state.specs.Session.{Progress, Progresses, ReplyTo, undone, done, waits, received, taken}
+use Rattle.state.specs.Session.{Progress, Progresses, Destination, undone, done, waits, received, taken}
 use Rattle.moves.specs.Readiness.{isDone, firstOr}
 
 -- The branch k of a choice's branches, counted from 0, as the sequence of its input and what follows; past the last, the last.
@@ -61,7 +61,7 @@ pub data Reaches (p : Progresses) (X : Behaviour) : Behaviour → Type 0 where
   atThen : {r : ℕ} {e : Expression} {a b : Behaviour} → p r ≡ taken zero → Reaches p X a → Reaches p X (ifThenElse r e a b)
   atElse : {r : ℕ} {e : Expression} {a b : Behaviour} (k : ℕ) → p r ≡ taken (suc k) → Reaches p X b → Reaches p X (ifThenElse r e a b)
   atLoop : {r : ℕ} {e : Expression} {b : Behaviour} (k : ℕ) → p r ≡ taken k → Reaches p X b → Reaches p X (whileDo r e b)
-  atServed : {r : ℕ} {o : Operation} {x c : Path} {d : Behaviour} (to : ReplyTo) → p r ≡ received to → Reaches p X d
+  atServed : {r : ℕ} {o : Operation} {x c : Path} {d : Behaviour} (to : Destination) → p r ≡ received to → Reaches p X d
       → Reaches p X (requestResponse r o x c d)
   atBranch : {r : ℕ} {m : Branches} (k : ℕ) → p r ≡ taken k → Reaches p X (branchAt k m) → Reaches p X (choice r m)
 

@@ -12,7 +12,7 @@ use Rattle.syntax.specs.ViewLaws.{own-row}
 use Rattle.network.specs.OnceLaws.{or-left, or-right}
 use Rattle.network.specs.Shapes.{EachRowOnce, EachBranchRowOnce}
 use Rattle.typing.specs.TypedLaws.{by-bool}
-use Rattle.state.specs.Session.{Progress, Progresses, ReplyTo, undone, done, waits, received, taken}
+use Rattle.state.specs.Session.{Progress, Progresses, Destination, undone, done, waits, received, taken}
 use Rattle.state.specs.Shape.{branches, isUndone, undoneDoneOrReceived, undoneOrTaken, undoneDoneOrBody, suits}
 use Rattle.moves.specs.Readiness.{ifDone, ifReceived, ifTaken, thenOrElse, isDone, branchDone, Reached, unreached, reached, offered, here, orElse, onlyIf}
 use Rattle.moves.specs.Readiness.{offeredIf, offer, reach, reachBranch, served}
@@ -30,7 +30,7 @@ done-then s k e f t = subst T (taken-at s k e false f) t
 not-done : (s : Progress) (k : ℕ) → s ≡ taken k → T (ifDone s false true) → ⊥
 not-done s k e t = subst (λ (z : Progress). T (ifDone z false true)) e t
 
-not-done-received : (s : Progress) (to : ReplyTo) → s ≡ received to → T (ifDone s false true) → ⊥
+not-done-received : (s : Progress) (to : Destination) → s ≡ received to → T (ifDone s false true) → ⊥
 not-done-received s to e t = subst (λ (z : Progress). T (ifDone z false true)) e t
 
 pub reaches-done : (p : Progresses) {X B : Behaviour} → Reaches p X B → T (isDone p B) → T (isDone p X)
@@ -272,7 +272,7 @@ taken-found P waits x f a b = a tt
 taken-found P (received to) x f a b = a tt
 taken-found P (taken k) x f a b = b k refl
 
-received-found : (P : Reached → Type 0) (s : Progress) (x y : Reached) → P x → ((to : ReplyTo) → s ≡ received to → P y) → P (ifReceived s x y)
+received-found : (P : Reached → Type 0) (s : Progress) (x y : Reached) → P x → ((to : Destination) → s ≡ received to → P y) → P (ifReceived s x y)
 received-found P undone x y a b = a
 received-found P done x y a b = a
 received-found P waits x y a b = a

@@ -17,12 +17,12 @@ use Rattle.subtyping.specs.Own.{ownType, Fits}
 use Rattle.typing.specs.Rules.{permits}
 use Rattle.tree.specs.Encode.{Octets}
 use Rattle.tree.specs.Decode.{decodeMessage}
-use Rattle.state.specs.Session.{ReplyTo, nobody, outsider, waitingRow, Progress, Progresses, done, waits, received, advance, Session, withTree, withProgress, live, State}
+use Rattle.state.specs.Session.{Destination, outsider, waitingRow, Progress, Progresses, done, waits, received, advance, Session, withTree, withProgress, live, State}
 use Rattle.state.specs.Bytes.{messageBytes, u32Bytes}
 use Rattle.state.specs.Shape.{behaviourIn}
 use Rattle.moves.specs.Readiness.{isDone}
 use Rattle.moves.specs.Moves.{Result, moved, notAllowed, require, onFound, onMessage, voidValue, saveWithin, mustFit}
-use Rattle.moves.specs.Moves.{onWaitingOutput, onWaitingRow, takeReply, answered, replyTo, replyBy, replyAt, replyMove, outerReply}
+use Rattle.moves.specs.Moves.{onWaitingOutput, onWaitingRow, takeReply, goneOn, replyTo, replyBy, replyAt, replyMove, outerReply}
 use Rattle.soundness.specs.GoodTrees.{GoodTree}
 use Rattle.soundness.specs.Parts.{Reaches}
 use Rattle.soundness.specs.Parts.{isOpen, Opens, asking, serving}
@@ -105,7 +105,7 @@ module _ (N : Network) (rows : ℕ) (acc : Accepted N rows) where
     abbrev p : Progresses
     p = S .progress
 
-    answer : (r : ℕ) (o : Operation) (x c : Path) (d : Behaviour) (to : ReplyTo) → atRow r (h .what) ≡ some (requestResponse r o x c d) → p r ≡ received to
+    answer : (r : ℕ) (o : Operation) (x c : Path) (d : Behaviour) (to : Destination) → atRow r (h .what) ≡ some (requestResponse r o x c d) → p r ≡ received to
         → T (isDone p d) → Keeps N rows true (replyTo N G q n S r o c to)
     unfolding MadeOf
     answer r o x c d to at t dn =
@@ -113,12 +113,11 @@ module _ (N : Network) (rows : ℕ) (acc : Accepted N rows) where
         go to t (answer-sound N rows acc q n S h r o x c d to way t dn) (made-at N rows way (made-of N rows acc q n (h .what) (h .runs)) .1)
       where
         G2 : State
-        G2 = answered N G q n S r
+        G2 = goneOn G q n S r done
 
-        go : (to : ReplyTo) → p r ≡ received to
+        go : (to : Destination) → p r ≡ received to
             → (y : Tree Value) × (read c (S .tree) ≡ present y) × Fits y (o .reply) × GoodTree y × SessionSound N rows q n (withProgress S (advance p r done))
             → OfFile N o → Keeps N rows true (replyTo N G q n S r o c to)
-        go nobody t u fo = keeps-15 N rows true
         go (outsider k) t u fo =
             let K : Tree Value → Result = λ m. mustFit m (o .reply) (moved G2 (u32Bytes k ++ messageBytes m)) in
             let f = acc .operations (o .row) o fo in

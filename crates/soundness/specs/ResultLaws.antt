@@ -18,7 +18,7 @@ use Rattle.subtyping.specs.OwnLaws.{tree-within, own-rising}
 use Rattle.typing.specs.EnvironmentLaws.{sums, maxima}
 use Rattle.typing.specs.TypedLaws.{by-bool}
 use Rattle.tree.specs.Encode.{messageDeep, messageMany}
-use Rattle.state.specs.Session.{ReplyTo, Progress, undone, done, waits, received, taken, Session, Slot, free, live, State, setSlot}
+use Rattle.state.specs.Session.{Destination, Progress, undone, done, waits, received, taken, Session, Slot, free, live, State, setSlot}
 use Rattle.state.specs.Shape.{behaviourIn}
 use Rattle.moves.specs.Evaluation.{Evaluation, given}
 use Rattle.moves.specs.Moves.{Result, refused, moved, notAllowed, require, onTree, onFound, onBool, onLive, onBehaviour, onOperation, inSession}
@@ -97,7 +97,7 @@ module _ (N : Network) (rows : ℕ) where
   by-waiting strict (received to) r f = allowed-15 strict
   by-waiting strict (taken k) r f = allowed-15 strict
 
-  pub by-received : (strict : Bool) (s : Progress) (k : ReplyTo → Result) → ((to : ReplyTo) → s ≡ received to → Keeps strict (k to))
+  pub by-received : (strict : Bool) (s : Progress) (k : Destination → Result) → ((to : Destination) → s ≡ received to → Keeps strict (k to))
       → Keeps strict (onReceived s k)
   by-received strict undone k f = allowed-15 strict
   by-received strict done k f = allowed-15 strict

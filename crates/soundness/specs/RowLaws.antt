@@ -9,7 +9,7 @@ use Rattle.syntax.specs.Syntax.{sequence, parallel, assign, choice, waiting, an
 use Rattle.syntax.specs.Rows.{hasRow, hasRowIn}
 use Rattle.network.specs.Shapes.{EachRowOnce, EachBranchRowOnce}
 use Rattle.typing.specs.OccursLaws.{or-l, or-r}
-use Rattle.state.specs.Session.{Progress, Progresses, ReplyTo, undone, done, waits, received, taken}
+use Rattle.state.specs.Session.{Progress, Progresses, Destination, undone, done, waits, received, taken}
 use Rattle.moves.specs.Readiness.{ifDone, ifWaits, ifReceived, ifTaken, thenOrElse, firstOr, isDone, branchDone, rest, branchRest}
 use Rattle.soundness.specs.Parts.{branchAt, Fresh, Clean, CleanBranches, Reaches, atSelf, atFirst, atSecond, atLeft, atRight, atThen, atElse, atLoop}
 use Rattle.soundness.specs.Parts.{atServed, atBranch}
@@ -264,7 +264,7 @@ unfolding rest
 rest-loop p r e b k g =
     ap (λ (s : Progress). ifDone s (ifTaken s (whileDo r e b) (λ j. sequence r (rest p b) (whileDo r e b))) (nil r)) g
 
-pub rest-served : (p : Progresses) (r : ℕ) (o : Operation) (x c : Path) (d : Behaviour) (to : ReplyTo) → p r ≡ received to
+pub rest-served : (p : Progresses) (r : ℕ) (o : Operation) (x c : Path) (d : Behaviour) (to : Destination) → p r ≡ received to
     → rest p (requestResponse r o x c d) ≡ answering r o c (rest p d)
 unfolding rest
 rest-served p r o x c d to g =

@@ -22,14 +22,14 @@ use Rattle.typing.specs.NetworkRules.{Agrees}
 use Rattle.tree.specs.Encode.{Octets, messageDeep, messageMany}
 use Rattle.tree.specs.Decode.{decodeMessage}
 use Rattle.tree.specs.DecodeLaws.{decode-sound}
-use Rattle.state.specs.Session.{ReplyTo, nobody, outsider, waitingRow, Progress, Progresses, done, waits, advance, Session, withProgress, live, State}
+use Rattle.state.specs.Session.{Destination, outsider, waitingRow, Progress, Progresses, done, waits, advance, Session, withProgress, live, State}
 use Rattle.state.specs.Session.{setSlot}
 use Rattle.state.specs.Bytes.{messageBytes}
-use Rattle.state.specs.Shape.{operationAt, isNobody, isDestination, suitsOperation}
+use Rattle.state.specs.Shape.{operationAt, suitsReply, suitsOperation}
 use Rattle.moves.specs.Readiness.{Reached, unreached, reached, offered, reach}
 use Rattle.moves.specs.Evaluation.{given, evaluate}
 use Rattle.moves.specs.Targets.{Target, noTarget, queueFull, queued, starts, target}
-use Rattle.moves.specs.Moves.{Result, moved, require, onTree, onOperation, onMessage, mustFit, deliver, allowed, goneOn, sendInside}
+use Rattle.moves.specs.Moves.{Result, moved, require, onTree, onOperation, onMessage, mustFit, deliver, goneOn, admit, sendInside}
 use Rattle.moves.specs.Moves.{sendOutside, sendBy, sendOutput, sendAt, sendReached, sendMove, isInputNamed, inputNamed, outerMessage}
 use Rattle.soundness.specs.GoodTrees.{GoodTree}
 use Rattle.soundness.specs.Parts.{Reaches}
@@ -37,7 +37,7 @@ use Rattle.soundness.specs.ReachLaws.{Found, reach-found}
 use Rattle.soundness.specs.Accepted.{OfFile, MadeOf, Accepted}
 use Rattle.soundness.specs.MadeLaws.{made-at, plain-solicit, reaches-atRow}
 use Rattle.syntax.specs.ViewLaws.{some-inj, output-is}
-use Rattle.soundness.specs.Invariant.{Destination, SessionSound, Sound}
+use Rattle.soundness.specs.Invariant.{RepliesFit, SessionSound, Sound}
 use Rattle.soundness.specs.SessionLaws.{once-of, made-of, notification-sound, solicit-sound}
 use Rattle.soundness.specs.ResultLaws.{Keeps, keeps-15, by-require, by-undone, by-session, by-operation, by-message, by-pick, keeps-tree}
 use Rattle.soundness.specs.ResultLaws.{live-inj, set-elim, keeps-fit, outside-fit, sound-set}
@@ -68,11 +68,11 @@ module _ (N : Network) (rows : ℕ) (acc : Accepted N rows) where
         alike = m .sameWay;
       }
 
-  pub suit-of : (i : Operation) (back : ReplyTo) → T (isInputOperation (i .direction)) → T (pick (i .twoWay) (isDestination N rows back) (isNobody back))
+  pub suit-of : (i : Operation) (back : Optional Destination) → T (isInputOperation (i .direction)) → T (suitsReply N rows (i .twoWay) back)
       → T (suitsOperation N rows (i .service) back (some i))
   suit-of i back t u =
-      and-i (eqb (i .service) (i .service)) (isInputOperation (i .direction) && pick (i .twoWay) (isDestination N rows back) (isNobody back)) (eqb-refl (i .service))
-      (and-i (isInputOperation (i .direction)) (pick (i .twoWay) (isDestination N rows back) (isNobody back)) t u)
+      and-i (eqb (i .service) (i .service)) (isInputOperation (i .direction) && suitsReply N rows (i .twoWay) back) (eqb-refl (i .service))
+      (and-i (isInputOperation (i .direction)) (suitsReply N rows (i .twoWay) back) t u)
 
   -- The target as the state is after the sender has gone on.
   gone-info : (G : State) (q n : ℕ) (S : Session) (p2 : Progresses) → G q n ≡ live S → (i : Operation) (k : ℕ) (t : Target) → TargetInfo N G i k t
@@ -90,12 +90,12 @@ module _ (N : Network) (rows : ℕ) (acc : Accepted N rows) where
     abbrev p : Progresses
     p = S .progress
 
-    send-by : (r : ℕ) (o : Operation) (e : Expression) (after : Progress) (back : ReplyTo) → OfFile N o → o .direction ≡ output
+    send-by : (r : ℕ) (o : Operation) (e : Expression) (after : Progress) (back : Optional Destination) → OfFile N o → o .direction ≡ output
         → (y : Tree Value) → evaluate (S .tree) e ≡ given y → Fits y (o .request) → GoodTree y → SessionSound N rows q n (withProgress S (advance p r after))
-        → ((i : Operation) → Met o i → Agrees o i → Destination N i back × T (pick (i .twoWay) (isDestination N rows back) (isNobody back)))
+        → ((i : Operation) → Met o i → Agrees o i → RepliesFit N i back × T (suitsReply N rows (i .twoWay) back))
         → Keeps N rows true (sendBy N G q n S to r o e after back)
     send-by r o e after back fo dir y ev fit gy hs dest =
-        let G2 = goneOn N G q n S to r after in
+        let G2 = goneOn G q n S r after in
         let h2 = sound-set N rows G q n (live (withProgress S (advance p r after))) hG hs in
         let fo2 = acc .operations (o .row) o fo in
         by-pick N rows true (inFile N (o .location)) (onOperation (metInput N o) (sendInside N G q n S to r e after back))
@@ -127,11 +127,11 @@ module _ (N : Network) (rows : ℕ) (acc : Accepted N rows) where
     unfolding MadeOf rowOf
     send-by-output r o e none a =
         let made = made-at N rows a (made-of N rows acc q n (h .what) (h .runs)) in
-        by-undone N rows true (p r) (require (permits q output false o) MoveNotAllowed (sendBy N G q n S to r o e done nobody))
-        (λ t. by-require N rows true (permits q output false o) (sendBy N G q n S to r o e done nobody)
+        by-undone N rows true (p r) (require (permits q output false o) MoveNotAllowed (sendBy N G q n S to r o e done none))
+        (λ t. by-require N rows true (permits q output false o) (sendBy N G q n S to r o e done none)
         (λ k. let u = notification-sound N rows acc q n S h r o e a t in
-        send-by r o e done nobody (made .1) (permits-output q false o k) (u .0) (u .1) (u .2) (u .3) (u .4)
-        (λ i m ag. (tt, subst (λ (b : Bool). T (pick b (isDestination N rows nobody) (isNobody nobody))) (sym (m .alike ∙ permits-one q output o k)) tt))))
+        send-by r o e done none (made .1) (permits-output q false o k) (u .0) (u .1) (u .2) (u .3) (u .4)
+        (λ i m ag. (tt, subst (λ (b : Bool). T (suitsReply N rows b none)) (sym (m .alike ∙ permits-one q output o k)) tt))))
     send-by-output r o e (some x) a =
         let X = solicitResponse r o e x in
         let mB = made-of N rows acc q n (h .what) (h .runs) in
@@ -139,17 +139,17 @@ module _ (N : Network) (rows : ℕ) (acc : Accepted N rows) where
         let on = once-of N rows acc q n (h .what) (h .runs) in
         let at = reaches-atRow p X (h .what) (plain-solicit r o e x) on a in
         let place = behaviour-place N q n (h .what) (h .runs) in
-        let R = sendBy N G q n S to r o e waits (waitingRow q n r) in
+        let R = sendBy N G q n S to r o e waits (some (waitingRow q n r)) in
         by-undone N rows true (p r) (require (permits q output true o) MoveNotAllowed R)
         (λ t. by-require N rows true (permits q output true o) R
         (λ k. let u = solicit-sound N rows acc q n S h r o e x a t in
-        send-by r o e waits (waitingRow q n r) (made .1) (permits-output q true o k) (u .0) (u .1) (u .2) (u .3) (u .4)
+        send-by r o e waits (some (waitingRow q n r)) (made .1) (permits-output q true o k) (u .0) (u .1) (u .2) (u .3) (u .4)
         (λ i m ag. (
           (λ B eB r2 o2 e2 x2 e3.
               let sameB : h .what ≡ B = some-inj (sym (h .runs) ∙ eB) in
               let same : X ≡ solicitResponse r2 o2 e2 x2 = some-inj (sym at ∙ (ap (atRow r) sameB ∙ e3)) in
               subst (λ (z : Operation). Subtype (i .reply) (z .reply)) (solicit-same same) (ag .replies (permits-two q output o k))),
-          subst (λ (b : Bool). T (pick b (isDestination N rows (waitingRow q n r)) (isNobody (waitingRow q n r)))) (sym (m .alike ∙ permits-two q output o k))
+          subst (λ (b : Bool). T (suitsReply N rows b (some (waitingRow q n r)))) (sym (m .alike ∙ permits-two q output o k))
               (and-i (ltb q (length (N .services))) (leb n 3 && ltb r rows) (lt→ltb q (length (N .services)) (place .0))
               (and-i (leb n 3) (ltb r rows) (le→leb n 3 (place .1)) (lt→ltb r rows (made .0)))),
         ))))
@@ -181,28 +181,26 @@ module _ (N : Network) (rows : ℕ) (acc : Accepted N rows) where
   pub decoded-good : (bytes : List ℕ) (m : Tree Value) → Octets bytes → decodeMessage bytes ≡ present m → GoodTree m
   decoded-good bytes m oct e = message-good m (decode-sound messageDeep messageMany bytes m oct e .good)
 
-  outside-pick : (b : Bool) (k : ℕ) → k < 0x100000000 → T (pick b (isDestination N rows (pick b (outsider k) nobody)) (isNobody (pick b (outsider k) nobody)))
+  outside-pick : (b : Bool) (k : ℕ) → k < 0x100000000 → T (suitsReply N rows b (pick b (some (outsider k)) none))
   outside-pick true k small = lt→ltb k 0x100000000 small
   outside-pick false k small = tt
 
-  outside-destination : (i : Operation) (b : Bool) (k : ℕ) → Destination N i (pick b (outsider k) nobody)
+  outside-destination : (i : Operation) (b : Bool) (k : ℕ) → RepliesFit N i (pick b (some (outsider k)) none)
   outside-destination i true k = tt
   outside-destination i false k = tt
 
   pub outside-move : (G : State) → Sound N rows G → (q id n number : ℕ) (bytes : List ℕ) → number < 0x100000000 → Octets bytes
       → Keeps N rows false (outerMessage N G q id n number bytes)
   outside-move G hG q id n number bytes small oct =
-      let K : Operation → Result = λ i. allowed q (target N G i n) (onMessage (decodeMessage bytes)
-      (λ m. mustFit m (i .request) (deliver G i n (target N G i n) (pick (i .twoWay) (outsider number) nobody) m))) in
+      let K : Operation → Result = λ i. admit N G i n (onMessage (decodeMessage bytes)) G (pick (i .twoWay) (some (outsider number)) none) in
       by-operation N rows false (inputNamed N q id) K
       (λ i ei.
       let u = first-there (isInputNamed q id) (N .operations) i ei in
-      let svc = eqb→eq (i .service) q (and-l (eqb (i .service) q) (isInputOperation (i .direction) && eqb (i .id) id) (u .2)) in
       let isIn = and-l (isInputOperation (i .direction)) (eqb (i .id) id) (and-r (eqb (i .service) q) (isInputOperation (i .direction) && eqb (i .id) id) (u .2)) in
       let t = target N G i n in
-      let back = pick (i .twoWay) (outsider number) nobody in
+      let back = pick (i .twoWay) (some (outsider number)) none in
       let D : Tree Value → Result = λ m. mustFit m (i .request) (deliver G i n t back m) in
-      allowed-keeps N rows acc false q t (onMessage (decodeMessage bytes) D)
+      allowed-keeps N rows acc false (i .service) t (onMessage (decodeMessage bytes) D)
       (λ ad. by-message N rows false (decodeMessage bytes) D
       (λ m em. outside-fit N rows m (i .request) (deliver G i n t back m)
       (λ f. deliver-keeps N rows acc false G hG i n m back
@@ -213,4 +211,4 @@ module _ (N : Network) (rows : ℕ) (acc : Accepted N rows) where
         fit = subtype-sound (ownType m) (i .request) f;
         destination = outside-destination i (i .twoWay) number;
       })
-      t (target-info N rows acc G i n) (subst (λ (z : ℕ). Admits N rows acc z t) (sym svc) ad)))))
+      t (target-info N rows acc G i n) ad))))

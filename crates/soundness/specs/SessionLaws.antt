@@ -25,7 +25,7 @@ use Rattle.typing.specs.OccursLaws.{or-l, or-r}
 use Rattle.typing.specs.Rules.{WellSorted}
 use Rattle.typing.specs.Typed.{Typed}
 use Rattle.typing.specs.TypedLaws.{by-bool, within-before}
-use Rattle.state.specs.Session.{ReplyTo, Progress, Progresses, undone, done, waits, received, taken, advance, reopen, Queued, Session, withTree, withQueue, withProgress}
+use Rattle.state.specs.Session.{Destination, Progress, Progresses, undone, done, waits, received, taken, advance, reopen, Queued, Session, withTree, withQueue, withProgress}
 use Rattle.state.specs.Shape.{behaviourIn, isDestination, undoneOrDone, undoneDoneOrWaits, undoneDoneOrReceived, undoneOrTaken, undoneDoneOrBody}
 use Rattle.state.specs.Shape.{branches, suits, suitsBranches}
 use Rattle.moves.specs.Readiness.{ifDone, ifWaits, ifReceived, ifTaken, thenOrElse, isDone, branchDone, rest, branchRest}
@@ -82,22 +82,22 @@ advance-opens p X r s only new i t g =
     (λ u. (X, subst (λ (z : ℕ). Opens z X) (sym (eqb→eq i r u)) (new (subst (λ (z : Progress). T (isOpen z)) (advance-at p r s i u) g)), atSelf))
     (λ u. absurd (u (only i t (subst (λ (z : Progress). T (isOpen z)) (sym (advance-other p r s i u)) g))))
 
-done-received : {to : ReplyTo} → done ≡ received to → ⊥
+done-received : {to : Destination} → done ≡ received to → ⊥
 done-received e = let z : _≡_ {A = ℕ} 0 1 = cc in omega arith
 
-pub waits-received : {to : ReplyTo} → waits ≡ received to → ⊥
+pub waits-received : {to : Destination} → waits ≡ received to → ⊥
 waits-received e = let z : _≡_ {A = ℕ} 0 1 = cc in omega arith
 
-taken-received : {k : ℕ} {to : ReplyTo} → taken k ≡ received to → ⊥
+taken-received : {k : ℕ} {to : Destination} → taken k ≡ received to → ⊥
 taken-received e = let z : _≡_ {A = ℕ} 0 1 = cc in omega arith
 
-undone-is-received : {to : ReplyTo} → undone ≡ received to → ⊥
+undone-is-received : {to : Destination} → undone ≡ received to → ⊥
 undone-is-received e = let z : _≡_ {A = ℕ} 0 1 = cc in omega arith
 
 undone-done : (s : Progress) {X : Type 0} → s ≡ done → s ≡ undone → X
 undone-done s e f = absurd (let z : _≡_ {A = ℕ} 0 1 = cc in omega arith)
 
-received-inj : {a b : ReplyTo} → received a ≡ received b → a ≡ b
+received-inj : {a b : Destination} → received a ≡ received b → a ≡ b
 received-inj h = cc
 
 undone-open : (s : Progress) → s ≡ undone → T (isOpen s) → ⊥
@@ -169,7 +169,7 @@ module _ (N : Network) (rows : ℕ) (acc : Accepted N rows) where
     pub clean : Clean p2 X
     pub suit : T (suits N rows p2 X)
     pub opens : (i : ℕ) → T (hasRow i X) → T (isOpen (p2 i)) → (W : Behaviour) × Opens i W × Reaches p2 W X
-    pub replies : (i : ℕ) (to : ReplyTo) → p2 i ≡ received to → Answers N B i to
+    pub replies : (i : ℕ) (to : Destination) → p2 i ≡ received to → Answers N B i to
     pub good : Good F2
     pub before : Behaviour
     pub after : Behaviour
@@ -242,7 +242,7 @@ module _ (N : Network) (rows : ℕ) (acc : Accepted N rows) where
 
     -- A step that advances the row r of X to s.
     advanced : (X : Behaviour) (r : ℕ) (s : Progress) (F2 : Forest Value) → ((i : ℕ) → T (eqb i r) → T (hasRow i X)) → (T (isDone p X) → ⊥)
-        → ((i : ℕ) → T (hasRow i X) → T (isOpen (p i)) → T (eqb i r)) → (T (isOpen s) → Opens r X) → ((to : ReplyTo) → s ≡ received to → Answers N B r to)
+        → ((i : ℕ) → T (hasRow i X) → T (isOpen (p i)) → T (eqb i r)) → (T (isOpen s) → Opens r X) → ((to : Destination) → s ≡ received to → Answers N B r to)
         → Clean (advance p r s) X → T (suits N rows (advance p r s) X) → Good F2 → (L L2 : Behaviour) → rest p X ≡ L → rest (advance p r s) X ≡ L2
         → Leaf (S .tree) L F2 L2 → Change B (S .tree) p X F2 (advance p r s)
     advanced X r s F2 own nd only new ans cl su gd L L2 e1 e2 lf =
@@ -362,7 +362,7 @@ module _ (N : Network) (rows : ℕ) (acc : Accepted N rows) where
         (S .queue) (h .few) (h .queued)
 
     -- Receive: request-response, which keeps where its reply goes.
-    pub request-sound : (r : ℕ) (o : Operation) (x c : Path) (d : Behaviour) (m : Tree Value) (to : ReplyTo) → Reaches p (requestResponse r o x c d) B
+    pub request-sound : (r : ℕ) (o : Operation) (x c : Path) (d : Behaviour) (m : Tree Value) (to : Destination) → Reaches p (requestResponse r o x c d) B
         → p r ≡ undone
         → GoodTree m → Fits m (o .request) → T (isDestination N rows to) → Answers N B r to → (l : List Queued) → length l ≤ 4 → AllQueued N rows q l
         → SessionSound N rows q n (withQueue (withProgress (withTree S (replaceAt voidValue x m (S .tree))) (advance p r (received to))) l)
@@ -379,7 +379,7 @@ module _ (N : Network) (rows : ℕ) (acc : Accepted N rows) where
         changed X a F2 p2
         (advanced X r (received to) F2 (λ i z. in-own i r (hasRow i d) z) (λ z. undone-not-done (p r) t z)
         (λ i z w. or-case (eqb i r) (hasRow i d) (λ v. v) (λ v. absurd (undone-open (p i) (cx .0 t i v) w)) z) (λ z. serving)
-        (λ to2 z. subst (λ (y : ReplyTo). Answers N B r y) (received-inj z) ans)
+        (λ to2 z. subst (λ (y : Destination). Answers N B r y) (received-inj z) ans)
         ((λ z i u. fr i u), clean-fresh d p2 fr)
         (and-i (undoneDoneOrReceived N rows (p2 r)) (suits N rows p2 d)
         (subst (λ (s : Progress). T (undoneDoneOrReceived N rows s)) (sym (advance-same p r (received to))) dest) sd)
@@ -389,7 +389,7 @@ module _ (N : Network) (rows : ℕ) (acc : Accepted N rows) where
         l few ql
 
     -- Reply: what is answered is there, and fits.
-    pub answer-sound : (r : ℕ) (o : Operation) (x c : Path) (d : Behaviour) (to : ReplyTo) → Reaches p (requestResponse r o x c d) B → p r ≡ received to
+    pub answer-sound : (r : ℕ) (o : Operation) (x c : Path) (d : Behaviour) (to : Destination) → Reaches p (requestResponse r o x c d) B → p r ≡ received to
         → T (isDone p d)
         → (y : Tree Value) × (read c (S .tree) ≡ present y) × Fits y (o .reply) × GoodTree y × SessionSound N rows q n (withProgress S (advance p r done))
     unfolding Typed MadeOf isDone hasRow rest Clean suits EachRowOnce
@@ -486,7 +486,7 @@ module _ (N : Network) (rows : ℕ) (acc : Accepted N rows) where
         let none-open : (i : ℕ) → T (hasRow i X) → T (isOpen (p2 i)) → ⊥ = λ i z w.
         or-case (eqb i r) (hasRow i b) (λ v. subst (λ (s : Progress). T (isOpen s)) (advance-at (reopen p b) r (taken 0) i v) w)
         (λ v. undone-open (p2 i) (fr i v) w) z in
-        let back : (i : ℕ) (to : ReplyTo) → p2 i ≡ received to → Answers N B i to = λ i to g.
+        let back : (i : ℕ) (to : Destination) → p2 i ≡ received to → Answers N B i to = λ i to g.
         by-bool (hasRow i X) (λ z. absurd (none-open i z (subst (λ (s : Progress). T (isOpen s)) (sym g) tt)))
         (λ z. h .replies i to (again-off p r e b i z ∙ g)) in (
           changed X a (S .tree) p2

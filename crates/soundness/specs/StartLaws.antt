@@ -18,7 +18,7 @@ use Rattle.typing.specs.Rules.{Derives, WellSorted}
 use Rattle.typing.specs.Typed.{Typed}
 use Rattle.typing.specs.DerivesLaws.{derives-typed, derives-within}
 use Rattle.typing.specs.NetworkLaws.{end-rising}
-use Rattle.state.specs.Session.{ReplyTo, Progress, Progresses, undone, received, taken, advance, newSession, withProgress}
+use Rattle.state.specs.Session.{Destination, Progress, Progresses, undone, received, taken, advance, newSession, withProgress}
 use Rattle.state.specs.Shape.{behaviourIn, undoneOrTaken, branches, suits, suitsBranches}
 use Rattle.moves.specs.Readiness.{rest}
 use Rattle.moves.specs.Targets.{Target, noTarget, queueFull, queued, starts, startBy, startFrom}
@@ -38,10 +38,10 @@ within-end : T (within {A = Mark} end)
 unfolding measure
 within-end = tt
 
-none-received : {to : ReplyTo} {X : Type 0} → undone ≡ received to → X
+none-received : {to : Destination} {X : Type 0} → undone ≡ received to → X
 none-received e = absurd (let z : _≡_ {A = ℕ} 0 1 = cc in omega arith)
 
-taken-is-received : {k : ℕ} {to : ReplyTo} {X : Type 0} → taken k ≡ received to → X
+taken-is-received : {k : ℕ} {to : Destination} {X : Type 0} → taken k ≡ received to → X
 taken-is-received e = absurd (let z : _≡_ {A = ℕ} 0 1 = cc in omega arith)
 
 -- Which branch a message starts.

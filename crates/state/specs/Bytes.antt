@@ -8,11 +8,12 @@ use lib.Dec.{eqb, ltb}
 use lib.ListN.{length}
 use Rattle.forest.specs.Forest.{Forest, end, Tree, tree, Lookup, absent, present, childrenOf}
 use Rattle.scalar.specs.Value.{Value, pick}
+use Rattle.syntax.specs.Syntax.{Optional, none, some}
 use Rattle.wire.specs.Wire.{byteAt, u16At, u32At, part}
 use Rattle.tree.specs.Encode.{encode, rooted, empty, treeDeep, treeMany}
 use Rattle.tree.specs.Decode.{decode, decodeMessage}
 use Rattle.state.specs.Places.{slotSize, treeRoom, messageRoom, entrySize, lengthPlace, treePlace, queuePlace, keptSize, slotStart, rowStart}
-use Rattle.state.specs.Session.{ReplyTo, nobody, outsider, waitingRow, Progress, undone, done, waits, received, taken, Progresses, Queued, Session, sessionOf, Slot, free, live, State}
+use Rattle.state.specs.Session.{Destination, outsider, waitingRow, Progress, undone, done, waits, received, taken, Progresses, Queued, Session, sessionOf, Slot, free, live, State}
 
 -- n zeros.
 unfoldable pub zeros : ℕ → List ℕ
@@ -36,15 +37,22 @@ abbrev pub u32Bytes : ℕ → List ℕ
 u32Bytes v = v % 256 ∷ v / 256 % 256 ∷ v / 65536 % 256 ∷ v / 16777216 ∷ []
 
 -- Where a reply goes: its kind, and four bytes (the u32 reply number; or service, session and B row as a u16).
-abbrev pub replyKind : ReplyTo → ℕ
-replyKind nobody = 0
-replyKind (outsider k) = 1
-replyKind (waitingRow q n r) = 2
+abbrev pub destinationKind : Destination → ℕ
+destinationKind (outsider k) = 1
+destinationKind (waitingRow q n r) = 2
 
-abbrev pub replyBytes : ReplyTo → List ℕ
-replyBytes nobody = zeros 4
-replyBytes (outsider k) = u32Bytes k
-replyBytes (waitingRow q n r) = q ∷ n ∷ u16Bytes r
+abbrev pub destinationBytes : Destination → List ℕ
+destinationBytes (outsider k) = u32Bytes k
+destinationBytes (waitingRow q n r) = q ∷ n ∷ u16Bytes r
+
+-- The same of a message that may have no destination: 0, and zeros.
+abbrev pub replyKind : Optional Destination → ℕ
+replyKind none = 0
+replyKind (some d) = destinationKind d
+
+abbrev pub replyBytes : Optional Destination → List ℕ
+replyBytes none = zeros 4
+replyBytes (some d) = destinationBytes d
 
 -- 01, Message: "node = id u16 (root 0), basic u8, child count u8, length u8, value, then its children".
 abbrev pub messageBytes : Tree Value → List ℕ
@@ -63,11 +71,9 @@ queueBytes zero l = []
 queueBytes (suc n) [] = zeros entrySize ++ queueBytes n []
 queueBytes (suc n) (m ∷ l) = entryBytes m ++ queueBytes n l
 
--- A received row says where its reply goes. (No state of a file's shape has one that answers nobody.)
-abbrev pub receivedCode : ReplyTo → ℕ
-receivedCode nobody = 6
-receivedCode (outsider k) = 4
-receivedCode (waitingRow q n r) = 5
+-- A received row says where its reply goes: 4 to an outsider, 5 to a waiting row.
+abbrev pub receivedCode : Destination → ℕ
+receivedCode d = 3 + destinationKind d
 
 -- A row's progress, 6 bytes: what it is, the taken part, where the reply goes.
 unfoldable pub progressBytes : Progress → List ℕ
@@ -75,7 +81,7 @@ progressBytes undone = zeros 6
 progressBytes done = 1 ∷ zeros 5
 progressBytes waits = 2 ∷ zeros 5
 progressBytes (taken k) = 3 ∷ k ∷ zeros 4
-progressBytes (received to) = receivedCode to ∷ 0 ∷ replyBytes to
+progressBytes (received d) = receivedCode d ∷ 0 ∷ destinationBytes d
 
 -- The progress of the rows 0 to 255.
 abbrev pub rowsBytes : Progresses → List ℕ
@@ -104,9 +110,11 @@ unfoldable pub stateBytes : State → List ℕ
 stateBytes G = joined (λ k. slotBytes (slotAt G k)) 0 16
 
 -- Reading, total on any bytes. What is read from bytes that stand for no state means nothing. First where a reply goes, from its kind.
-unfoldable pub readReply : List ℕ → ℕ → ℕ → ReplyTo
-readReply s kind at =
-    pick (eqb kind 1) (outsider (u32At s at)) (pick (eqb kind 2) (waitingRow (byteAt s at) (byteAt s (at + 1)) (u16At s (at + 2))) nobody)
+unfoldable pub readDestination : List ℕ → ℕ → ℕ → Destination
+readDestination s kind at = pick (eqb kind 1) (outsider (u32At s at)) (waitingRow (byteAt s at) (byteAt s (at + 1)) (u16At s (at + 2)))
+
+unfoldable pub readReply : List ℕ → ℕ → ℕ → Optional Destination
+readReply s kind at = pick (eqb kind 0) none (some (readDestination s kind at))
 
 -- The tree found; a root alone where there is none.
 abbrev pub treeOr : Lookup Value → Tree Value
@@ -132,9 +140,8 @@ readProgress s at =
     pick (eqb (byteAt s at) 1) done
     (pick (eqb (byteAt s at) 2) waits
     (pick (eqb (byteAt s at) 3) (taken (byteAt s (at + 1)))
-    (pick (eqb (byteAt s at) 4) (received (readReply s 1 (at + 2)))
-    (pick (eqb (byteAt s at) 5) (received (readReply s 2 (at + 2)))
-    (pick (eqb (byteAt s at) 6) (received nobody) undone)))))
+    (pick (eqb (byteAt s at) 4) (received (readDestination s 1 (at + 2)))
+    (pick (eqb (byteAt s at) 5) (received (readDestination s 2 (at + 2))) undone))))
 
 -- The progress of a row in the slot that starts at `at`.
 abbrev pub readRow : List ℕ → ℕ → Progresses

@@ -22,7 +22,7 @@ unfoldable pub progressForm : List ℕ → ℕ → Bool
 progressForm s at =
     pick (eqb (byteAt s at) 3) (allZero s (at + 2) 4)
     (pick (eqb (byteAt s at) 4 || eqb (byteAt s at) 5) (eqb (byteAt s (at + 1)) 0)
-    (leb (byteAt s at) 6 && allZero s (at + 1) 5))
+    (leb (byteAt s at) 5 && allZero s (at + 1) 5))
 
 -- The progress of n rows.
 unfoldable pub rowsForm : List ℕ → ℕ → ℕ → Bool

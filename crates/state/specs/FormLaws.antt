@@ -11,7 +11,7 @@ use lib.Dec.{eqb, leb, ltb}
 use borrow.Author.Tests.{eq-eqb, ne-eqb, eqb-true, eqb-false, leb-true, le-leb, lt-leb, lt-ltb}
 use Rattle.forest.specs.Forest.{Forest, tree, childrenOf}
 use Rattle.scalar.specs.Value.{Value, pick}
-use Rattle.syntax.specs.Syntax.{none, some, Network}
+use Rattle.syntax.specs.Syntax.{Optional, none, some, Network}
 use Rattle.wire.specs.Wire.{byteAt, u16At, u32At, part}
 use Rattle.wire.specs.WireLaws.{length-part}
 use Rattle.tree.specs.Encode.{Octets, WellFormed, empty, messageDeep, messageMany, treeDeep, treeMany}
@@ -19,8 +19,8 @@ use Rattle.tree.specs.Decode.{decode, decodeMessage, isMessage, isSessionTree}
 use Rattle.tree.specs.DecodeLaws.{decode-complete, message-sound, message-complete, session-sound, session-complete}
 use Rattle.tree.specs.EncodeLaws.{and-left, and-right, octets-part}
 use Rattle.state.specs.Places.{slotSize, headSize, treeRoom, messageRoom, entrySize, queueSize, rowSize, rowsSize, treePlace, queuePlace, rowsPlace, keptPlace, keptSize, slotStart}
-use Rattle.state.specs.Session.{ReplyTo, nobody, outsider, waitingRow, Progress, undone, done, waits, received, taken, Progresses, Queued, Session, Slot, free, live}
-use Rattle.state.specs.Bytes.{zeros, joined, padded, u16Bytes, u32Bytes, replyKind, replyBytes, messageBytes, entryBytes, queueBytes, progressBytes, rowsBytes, treeBytes, headBytes, slotBytes, slotAt, stateBytes, readReply, treeOr, readEntry, readQueue, readProgress, treeLength, readSession, readSlot, readState}
+use Rattle.state.specs.Session.{Destination, outsider, waitingRow, Progress, undone, done, waits, received, taken, Progresses, Queued, Session, Slot, free, live}
+use Rattle.state.specs.Bytes.{zeros, joined, padded, u16Bytes, u32Bytes, replyKind, replyBytes, messageBytes, entryBytes, queueBytes, progressBytes, rowsBytes, treeBytes, headBytes, slotBytes, slotAt, stateBytes, readDestination, readReply, treeOr, readEntry, readQueue, readProgress, treeLength, readSession, readSlot, readState}
 use Rattle.state.specs.Shape.{AllMessages, MadeSlot, suitsSlot, suitsServices, sameBytes, decodeState}
 use Rattle.state.specs.Form.{allZero, progressForm, rowsForm, entryForm, queueForm, headForm, treeForm, liveForm, slotForm, slotsStand, slotsForm}
 use Rattle.state.specs.PartLaws.{length-padded, Holds, holds-first, holds-rest, holds-part}
@@ -39,7 +39,6 @@ holds-progress undone h = rw (holds-head h) (holds-zero 5 (holds-tail h))
 holds-progress done h = rw (holds-head h) (holds-zero 5 (holds-tail h))
 holds-progress waits h = rw (holds-head h) (holds-zero 5 (holds-tail h))
 holds-progress {s} {at} (taken k) h = rw (holds-head h) (holds-zero 4 (holds-rest (3 ∷ k ∷ []) (zeros 4) 2 refl h))
-holds-progress (received nobody) h = rw (holds-head h) (holds-zero 5 (holds-tail h))
 holds-progress (received (outsider k)) h = rw (holds-head h, holds-head (holds-tail h))
 holds-progress (received (waitingRow q n r)) h = rw (holds-head h, holds-head (holds-tail h))
 
@@ -51,28 +50,26 @@ data Code : ℕ → Type 0 where
   taken′ : Code 3
   outsider′ : Code 4
   waitingRow′ : Code 5
-  nobody′ : Code 6
 
-code : (c : ℕ) → c ≤ 6 → Code c
+code : (c : ℕ) → c ≤ 5 → Code c
 code zero i = undone′
 code (suc zero) i = done′
 code (suc (suc zero)) i = waits′
 code (suc (suc (suc zero))) i = taken′
 code (suc (suc (suc (suc zero)))) i = outsider′
 code (suc (suc (suc (suc (suc zero))))) i = waitingRow′
-code (suc (suc (suc (suc (suc (suc zero)))))) i = nobody′
-code (suc (suc (suc (suc (suc (suc (suc c))))))) i = absurd (omega arith)
+code (suc (suc (suc (suc (suc (suc c)))))) i = absurd (omega arith)
 
-progress-code : (s : List ℕ) (at : ℕ) → progressForm s at ≡ true → byteAt s at ≤ 6
+progress-code : (s : List ℕ) (at : ℕ) → progressForm s at ≡ true → byteAt s at ≤ 5
 unfolding progressForm
-progress-code s at h = by (decLt (byteAt s at) 7)
+progress-code s at h = by (decLt (byteAt s at) 6)
   where
-    by : Dec (byteAt s at < 7) → byteAt s at ≤ 6
+    by : Dec (byteAt s at < 6) → byteAt s at ≤ 5
     by (yes l) = omega arith
     by (no l) =
         let c = byteAt s at in
         let f : false ≡ true =
-        rw (ne-eqb c 3 (λ e. omega arith), ne-eqb c 4 (λ e. omega arith), ne-eqb c 5 (λ e. omega arith), lt-leb c 6 (omega arith)) at h in
+        rw (ne-eqb c 3 (λ e. omega arith), ne-eqb c 4 (λ e. omega arith), ne-eqb c 5 (λ e. omega arith), lt-leb c 5 (omega arith)) at h in
         absurd (let z : _≡_ {A = ℕ} 0 1 = cc in omega arith)
 
 module _ (s : List ℕ) (o : Octets s) where
@@ -82,7 +79,7 @@ module _ (s : List ℕ) (o : Octets s) where
       (two-holds s o at (omega arith) refl refl) (u16-holds s o (at + 2) (omega arith))
 
   progress-holds : (at : ℕ) → at + rowSize ≤ length s → progressForm s at ≡ true → Holds s at (progressBytes (readProgress s at))
-  unfolding progressForm readProgress progressBytes readReply zeros
+  unfolding progressForm readProgress progressBytes readDestination zeros
   progress-holds at i h = by (byteAt s at) refl (code (byteAt s at) (progress-code s at h))
     where
       by : (c : ℕ) → byteAt s at ≡ c → Code c → Holds s at (progressBytes (readProgress s at))
@@ -98,7 +95,6 @@ module _ (s : List ℕ) (o : Octets s) where
       by c e waitingRow′ =
           let z = eqb-true (byteAt s (at + 1)) 0 (rw e at h) in
           rw e (holds-join (5 ∷ 0 ∷ []) _ 2 refl (two-holds s o at (omega arith) e z) (waiting-holds (at + 2) (omega arith)))
-      by c e nobody′ = rw e (holds-cons (omega arith) e (zero-holds s (at + 1) 5 (omega arith) (rw e at h)))
 
 -- ---- rows
 
@@ -131,15 +127,15 @@ rows-hold s o p at k (suc n) i e h =
 
 -- ---- an entry of the queue
 
-small-kind : (to : ReplyTo) → leb (replyKind to) 2 ≡ true
-small-kind nobody = refl
-small-kind (outsider k) = refl
-small-kind (waitingRow q n r) = refl
+small-kind : (to : Optional Destination) → leb (replyKind to) 2 ≡ true
+small-kind none = refl
+small-kind (some (outsider k)) = refl
+small-kind (some (waitingRow q n r)) = refl
 
-holds-reply : {s : List ℕ} {at : ℕ} (to : ReplyTo) → Holds s at (replyBytes to) → pick (eqb (replyKind to) 0) (allZero s at 4) true ≡ true
-holds-reply nobody h = holds-zero 4 h
-holds-reply (outsider k) h = refl
-holds-reply (waitingRow q n r) h = refl
+holds-reply : {s : List ℕ} {at : ℕ} (to : Optional Destination) → Holds s at (replyBytes to) → pick (eqb (replyKind to) 0) (allZero s at 4) true ≡ true
+holds-reply none h = holds-zero 4 h
+holds-reply (some (outsider k)) h = refl
+holds-reply (some (waitingRow q n r)) h = refl
 
 holds-entry-form : {s : List ℕ} {at : ℕ} (m : Queued) → WellFormed messageDeep messageMany (m .message) → Holds s at (entryBytes m) → entryForm s at ≡ true
 unfolding entryForm entryBytes
@@ -160,14 +156,14 @@ holds-entry-form {s} {at} m w h =
 
 module _ (s : List ℕ) (o : Octets s) where
   reply-holds : (c at : ℕ) → at + 4 ≤ length s → leb c 2 ≡ true → pick (eqb c 0) (allZero s at 4) true ≡ true → Holds s at (replyBytes (readReply s c at))
-  unfolding readReply
+  unfolding readReply readDestination
   reply-holds zero at i k h = zero-holds s at 4 i h
   reply-holds (suc zero) at i k h = u32-holds s o at i
   reply-holds (suc (suc zero)) at i k h = waiting-holds s o at i
   reply-holds (suc (suc (suc c))) at i k h = absurd (omega (arith, leb-true (suc (suc (suc c))) 2 k))
 
   kind-back : (c at : ℕ) → leb c 2 ≡ true → replyKind (readReply s c at) ≡ c
-  unfolding readReply
+  unfolding readReply readDestination
   kind-back zero at k = refl
   kind-back (suc zero) at k = refl
   kind-back (suc (suc zero)) at k = refl

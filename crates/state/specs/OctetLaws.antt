@@ -11,16 +11,16 @@ use lib.Seq.{getD-append-add}
 use lib.Dec.{eqb, leb, ltb}
 use borrow.Author.Tests.{eqb-true, ltb-true, leb-true}
 use Rattle.forest.specs.Forest.{Forest, Tree, tree, nodes}
-use Rattle.scalar.specs.Value.{Value, value, pick}
+use Rattle.scalar.specs.Value.{Value, value}
 use Rattle.scalar.specs.ValueLaws.{value-basic, value-size}
 use Rattle.syntax.specs.Syntax.{Optional, none, some, Network, Operation, Behaviour, nil, oneWay, requestResponse, notification, solicitResponse, ifThenElse, whileDo, sequence, parallel, assign, choice, waiting, answering, Branches}
 use Rattle.syntax.specs.Rows.{rowOf, hasRow, atRow, entry, isInputOperation}
 use Rattle.tree.specs.Encode.{count, encode, rooted, empty, Octets, Proper, WellFormed, messageDeep, messageMany, treeDeep, treeMany}
 use Rattle.tree.specs.EncodeLaws.{and-left, and-right, count-nodes, encode-octets, octets-nil}
 use Rattle.state.specs.Places.{slotSize, treeRoom, messageRoom, entrySize, keptSize}
-use Rattle.state.specs.Session.{ReplyTo, nobody, outsider, waitingRow, Progress, undone, done, waits, received, taken, Progresses, Queued, Session, Slot, free, live, State}
-use Rattle.state.specs.Bytes.{zeros, joined, padded, u16Bytes, replyKind, replyBytes, messageBytes, entryBytes, queueBytes, progressBytes, rowsBytes, treeBytes, headBytes, slotBytes, slotAt, stateBytes}
-use Rattle.state.specs.Shape.{isDestination, isNobody, isUndone, undoneOrDone, undoneDoneOrWaits, undoneDoneOrReceived, undoneOrTaken, undoneDoneOrBody, branches, suits, quietElsewhere, suitsOperation, suitsQueue, operationAt, behaviourIn, suitsBehaviour, suitsSlot, AllMessages, WellMade, MadeSlot, HasShape}
+use Rattle.state.specs.Session.{Destination, outsider, waitingRow, Progress, undone, done, waits, received, taken, Progresses, Queued, Session, Slot, free, live, State}
+use Rattle.state.specs.Bytes.{zeros, joined, padded, u16Bytes, destinationBytes, replyKind, replyBytes, messageBytes, entryBytes, queueBytes, progressBytes, rowsBytes, treeBytes, headBytes, slotBytes, slotAt, stateBytes}
+use Rattle.state.specs.Shape.{isDestination, suitsReply, isUndone, undoneOrDone, undoneDoneOrWaits, undoneDoneOrReceived, undoneOrTaken, undoneDoneOrBody, branches, suits, quietElsewhere, suitsOperation, suitsQueue, operationAt, behaviourIn, suitsBehaviour, suitsSlot, AllMessages, WellMade, MadeSlot, HasShape}
 use Rattle.state.specs.PartLaws.{byte-zeros}
 use Rattle.state.specs.SizeLaws.{message-size, session-tree-size}
 use Rattle.state.specs.RowShape.{suitsRow, PartOf, InBranch, PartSuits}
@@ -80,8 +80,7 @@ pub record WithinLimits (N : Network) (rows : ℕ) : Type 0 where
 module _ {N : Network} {rows : ℕ} (w : WithinLimits N rows) where
   -- ---- where replies go
 
-  destination-octets : (to : ReplyTo) → isDestination N rows to ≡ true → Octets (replyBytes to)
-  destination-octets nobody h = octets-zeros 4
+  destination-octets : (d : Destination) → isDestination N rows d ≡ true → Octets (destinationBytes d)
   destination-octets (outsider k) h =
       let l : k < 4294967296 = ltb-true k 4294967296 h in
       octets-cons (omega arith) (octets-cons (omega arith) (octets-cons (omega arith) (octets-cons (omega arith) octets-nil)))
@@ -92,10 +91,10 @@ module _ {N : Network} {rows : ℕ} (w : WithinLimits N rows) where
       let c = ltb-true r rows (and-right (leb n 3) (ltb r rows) h′) in
       octets-cons (omega (arith, w .services)) (octets-cons (omega arith) (octets-u16 r (omega (arith, w .behaviours))))
 
-  kind-octet : (to : ReplyTo) → replyKind to < 256
-  kind-octet nobody = omega arith
-  kind-octet (outsider k) = omega arith
-  kind-octet (waitingRow q n r) = omega arith
+  kind-octet : (to : Optional Destination) → replyKind to < 256
+  kind-octet none = omega arith
+  kind-octet (some (outsider k)) = omega arith
+  kind-octet (some (waitingRow q n r)) = omega arith
 
   -- ---- the queue
 
@@ -105,11 +104,9 @@ module _ {N : Network} {rows : ℕ} (w : WithinLimits N rows) where
   operation-row (a ∷ l) zero o e = omega arith
   operation-row (a ∷ l) (suc k) o e = omega (arith, operation-row l k o e)
 
-  reply-octets : (twoWay : Bool) (to : ReplyTo) → pick twoWay (isDestination N rows to) (isNobody to) ≡ true → Octets (replyBytes to)
-  reply-octets true to h = destination-octets to h
-  reply-octets false nobody h = octets-zeros 4
-  reply-octets false (outsider k) h = absurd (let z : _≡_ {A = ℕ} 0 1 = cc in omega arith)
-  reply-octets false (waitingRow q n r) h = absurd (let z : _≡_ {A = ℕ} 0 1 = cc in omega arith)
+  reply-octets : (twoWay : Bool) (to : Optional Destination) → suitsReply N rows twoWay to ≡ true → Octets (replyBytes to)
+  reply-octets twoWay none h = octets-zeros 4
+  reply-octets twoWay (some d) h = destination-octets d (and-right twoWay (isDestination N rows d) h)
 
   entry-octets : (q : ℕ) (m : Queued) → WellFormed messageDeep messageMany (m .message)
       → suitsOperation N rows q (m .replyTo) (operationAt (N .operations) (m .operation)) ≡ true → Octets (entryBytes m)
@@ -120,7 +117,7 @@ module _ {N : Network} {rows : ℕ} (w : WithinLimits N rows) where
       by none e h = absurd (let z : _≡_ {A = ℕ} 0 1 = cc in omega arith)
       by (some o) e h =
           let l = messageBytes (m .message) in
-          let t = pick (o .twoWay) (isDestination N rows (m .replyTo)) (isNobody (m .replyTo)) in
+          let t = suitsReply N rows (o .twoWay) (m .replyTo) in
           let r = and-right (isInputOperation (o .direction)) t (and-right (eqb (o .service) q) (isInputOperation (o .direction) && t) h) in
           let k = operation-row (N .operations) (m .operation) o e in
           octets-cons (omega (arith, w .operations)) (octets-cons (kind-octet (m .replyTo))
@@ -211,7 +208,6 @@ module _ {N : Network} {rows : ℕ} (w : WithinLimits N rows) where
   progress-octets done h = octets-cons (omega arith) (octets-zeros 5)
   progress-octets waits h = octets-cons (omega arith) (octets-zeros 5)
   progress-octets (taken k) h = octets-cons (omega arith) (octets-cons h (octets-zeros 4))
-  progress-octets (received nobody) h = octets-cons (omega arith) (octets-cons (omega arith) (octets-zeros 4))
   progress-octets (received (outsider k)) h = octets-cons (omega arith) (octets-cons (omega arith) (destination-octets (outsider k) h))
   progress-octets (received (waitingRow q n r)) h = octets-cons (omega arith) (octets-cons (omega arith) (destination-octets (waitingRow q n r) h))
 

@@ -12,14 +12,14 @@ use lib.Dec.{eqb, ltb}
 use borrow.Author.Tests.{ne-eqb, lt-ltb, le-ltb}
 use Rattle.forest.specs.Forest.{Forest, Tree, tree, childrenOf}
 use Rattle.scalar.specs.Value.{Value, pick}
-use Rattle.syntax.specs.Syntax.{Network}
+use Rattle.syntax.specs.Syntax.{Optional, none, some, Network}
 use Rattle.wire.specs.Wire.{byteAt, u16At}
 use Rattle.tree.specs.Encode.{empty, WellFormed, messageDeep, messageMany, treeDeep, treeMany}
 use Rattle.tree.specs.Decode.{decode, decodeMessage}
 use Rattle.tree.specs.DecodeLaws.{decode-complete}
 use Rattle.state.specs.Places.{slotSize, headSize, treeRoom, messageRoom, entrySize, queueSize, rowSize, rowsSize, treePlace, queuePlace, rowsPlace, keptPlace, keptSize, slotStart}
-use Rattle.state.specs.Session.{ReplyTo, nobody, outsider, waitingRow, Progress, undone, done, waits, received, taken, Progresses, Queued, Session, sessionOf, Slot, free, live, State}
-use Rattle.state.specs.Bytes.{zeros, joined, padded, u16Bytes, u32Bytes, replyKind, replyBytes, messageBytes, entryBytes, queueBytes, progressBytes, rowsBytes, treeBytes, headBytes, slotBytes, slotAt, stateBytes, readReply, treeOr, readEntry, readQueue, readProgress, readRow, readSession, readSlot, readState}
+use Rattle.state.specs.Session.{Destination, outsider, waitingRow, Progress, undone, done, waits, received, taken, Progresses, Queued, Session, sessionOf, Slot, free, live, State}
+use Rattle.state.specs.Bytes.{zeros, joined, padded, u16Bytes, u32Bytes, destinationKind, destinationBytes, replyKind, replyBytes, messageBytes, entryBytes, queueBytes, progressBytes, rowsBytes, treeBytes, headBytes, slotBytes, slotAt, stateBytes, readDestination, readReply, treeOr, readEntry, readQueue, readProgress, readRow, readSession, readSlot, readState}
 use Rattle.state.specs.Shape.{AllMessages, WellMade, MadeSlot, HasShape, Stands}
 use Rattle.state.specs.PartLaws.{length-padded, Holds, holds-whole, holds-first, holds-rest, holds-part, holds-joined}
 use Rattle.state.specs.HoldLaws.{holds-head, holds-tail, holds-zeros, holds-u16, holds-u32}
@@ -28,31 +28,35 @@ use Rattle.state.specs.SizeLaws.{message-size, entry-size, reply-size, p
 
 -- ---- where replies go
 
-pub read-reply : {s : List ℕ} {at : ℕ} (to : ReplyTo) → Holds s at (replyBytes to) → readReply s (replyKind to) at ≡ to
-unfolding readReply
-read-reply nobody h = refl
-read-reply (outsider k) h = ap outsider (holds-u32 k h)
-read-reply (waitingRow q n r) h =
+pub read-destination : {s : List ℕ} {at : ℕ} (d : Destination) → Holds s at (destinationBytes d) → readDestination s (destinationKind d) at ≡ d
+unfolding readDestination
+read-destination (outsider k) h = ap outsider (holds-u32 k h)
+read-destination (waitingRow q n r) h =
     let t = holds-tail h in
     rw (holds-head h, holds-head t, holds-u16 r (holds-rest (q ∷ n ∷ []) (u16Bytes r) 2 refl h))
+
+pub read-reply : {s : List ℕ} {at : ℕ} (to : Optional Destination) → Holds s at (replyBytes to) → readReply s (replyKind to) at ≡ to
+unfolding readReply
+read-reply none h = refl
+read-reply (some (outsider k)) h = ap some (read-destination (outsider k) h)
+read-reply (some (waitingRow q n r)) h = ap some (read-destination (waitingRow q n r) h)
 
 -- ---- a row's progress
 
 pub read-progress : {s : List ℕ} {at : ℕ} (p : Progress) → Holds s at (progressBytes p) → readProgress s at ≡ p
-unfolding readProgress progressBytes readReply
+unfolding readProgress progressBytes
 read-progress undone h = rw (holds-zeros (omega arith) h)
 read-progress done h = rw (holds-head h)
 read-progress waits h = rw (holds-head h)
 read-progress (taken k) h = rw (holds-head h, holds-head (holds-tail h))
-read-progress (received nobody) h = rw (holds-head h)
-read-progress {s} {at} (received (outsider k)) h =
-    rw (holds-head h) (ap received (read-reply (outsider k) (holds-rest (4 ∷ 0 ∷ []) (u32Bytes k) 2 refl h)))
+read-progress (received (outsider k)) h =
+    rw (holds-head h) (ap received (read-destination (outsider k) (holds-rest (4 ∷ 0 ∷ []) (u32Bytes k) 2 refl h)))
 read-progress (received (waitingRow q n r)) h =
-    rw (holds-head h) (ap received (read-reply (waitingRow q n r) (holds-rest (5 ∷ 0 ∷ []) (q ∷ n ∷ u16Bytes r) 2 refl h)))
+    rw (holds-head h) (ap received (read-destination (waitingRow q n r) (holds-rest (5 ∷ 0 ∷ []) (q ∷ n ∷ u16Bytes r) 2 refl h)))
 
 -- ---- an entry of the queue, and the queue
 
-same-queued : (m : Queued) {o : ℕ} {t : Tree Value} {to : ReplyTo} → o ≡ m .operation → t ≡ m .message → to ≡ m .replyTo
+same-queued : (m : Queued) {o : ℕ} {t : Tree Value} {to : Optional Destination} → o ≡ m .operation → t ≡ m .message → to ≡ m .replyTo
     → record { operation = o; message = t; replyTo = to } ≡ m
 same-queued m e f g = λ i. record { operation = e i; message = f i; replyTo = g i }
 

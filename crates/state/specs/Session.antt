@@ -5,21 +5,19 @@ use Prim.Native.Nat.{ℕ}
 use lib.Dec.{eqb}
 use Rattle.forest.specs.Forest.{Forest, end, Tree}
 use Rattle.scalar.specs.Value.{Value, pick}
-use Rattle.syntax.specs.Syntax.{Behaviour}
+use Rattle.syntax.specs.Syntax.{Optional, Behaviour}
 use Rattle.syntax.specs.Rows.{hasRow}
 
--- Where the reply to a message goes: nowhere, if its operation is one-way; to an outsider, under the reply number it gave; or
--- to a waiting row, by its service, session and B row.
-pub data ReplyTo : Type 0 where
-  nobody : ReplyTo
-  outsider : ℕ → ReplyTo
-  waitingRow : ℕ → ℕ → ℕ → ReplyTo
+-- Where a reply goes: to an outsider, under the reply number it gave; or to a waiting row, by its service, session and B row.
+pub data Destination : Type 0 where
+  outsider : ℕ → Destination
+  waitingRow : ℕ → ℕ → ℕ → Destination
 
 -- The progress of a row. A request-response that was received holds where its reply goes. `taken` is a chosen part: of an if
 -- 0 for then and 1 for else, of a while 0 for its body, of a choice the branch, counted from 0.
 pub data Progress : Type 0 where
   undone done waits : Progress
-  received : ReplyTo → Progress
+  received : Destination → Progress
   taken : ℕ → Progress
 
 -- The progress of every row.
@@ -34,11 +32,11 @@ advance p r s = λ i. pick (eqb i r) s (p i)
 abbrev pub reopen : Progresses → Behaviour → Progresses
 reopen p b = λ i. pick (hasRow i b) undone (p i)
 
--- A queued message: the O row of its operation, the message, and where its reply goes.
+-- A queued message: the O row of its operation, the message, and where its reply goes (none exactly if its operation is one-way).
 pub record Queued : Type 0 where
   pub operation : ℕ
   pub message : Tree Value
-  pub replyTo : ReplyTo
+  pub replyTo : Optional Destination
 
 -- A live session: 01's "A session that isn't free is *live*". The tree is written without its void root; the queue has the
 -- oldest message first.

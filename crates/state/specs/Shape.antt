@@ -2,7 +2,7 @@
 -- a tree, a queue of up to four messages, the progress of rows and where replies go"; 14: "The state bytes stand for no state of
 -- this file's shape." Types and reachability are no part of the shape: "each, ill typed too, has one byte form".
 use mathlib.Core.Path.{_≡_}
-use mathlib.Core.Bool.{Bool, true, false, _&&_, _||_}
+use mathlib.Core.Bool.{Bool, true, false, not, _&&_, _||_}
 use mathlib.Core.List.{List, [], _∷_}
 use mathlib.Core.Logic.{_⊎_}
 use Prim.Native.Nat.{ℕ, zero, suc, _≤_, _<_}
@@ -14,7 +14,7 @@ use Rattle.syntax.specs.Syntax.{Optional, none, some, Service, Network, Operati
 use Rattle.syntax.specs.Syntax.{ifThenElse, whileDo, sequence, parallel, assign, choice, waiting, answering, Branches, lastBranch, branch}
 use Rattle.syntax.specs.Rows.{hasRow, entry, isInputOperation}
 use Rattle.tree.specs.Encode.{WellFormed, empty, messageDeep, messageMany, treeDeep, treeMany}
-use Rattle.state.specs.Session.{ReplyTo, nobody, outsider, waitingRow, Progress, undone, done, waits, received, taken, Progresses}
+use Rattle.state.specs.Session.{Destination, outsider, waitingRow, Progress, undone, done, waits, received, taken, Progresses}
 use Rattle.state.specs.Session.{Queued, Session, Slot, free, live, State, newSession}
 use Rattle.state.specs.Bytes.{stateBytes, readState}
 
@@ -39,21 +39,19 @@ abbrev pub operationAt : List Operation → ℕ → Optional Operation
 operationAt l w = entry w l
 
 -- Where a reply goes: "where replies go", with the services, sessions and B rows that there are.
-abbrev pub isDestination : Network → ℕ → ReplyTo → Bool
-isDestination N rows nobody = false
+abbrev pub isDestination : Network → ℕ → Destination → Bool
 isDestination N rows (outsider k) = ltb k 0x100000000
 isDestination N rows (waitingRow q n r) = ltb q (length (N .services)) && (leb n 3 && ltb r rows)
 
-abbrev pub isNobody : ReplyTo → Bool
-isNobody nobody = true
-isNobody (outsider k) = false
-isNobody (waitingRow q n r) = false
+-- A message has a destination exactly if its operation is two-way.
+abbrev pub suitsReply : Network → ℕ → Bool → Optional Destination → Bool
+suitsReply N rows twoWay none = not twoWay
+suitsReply N rows twoWay (some d) = twoWay && isDestination N rows d
 
--- A queued message is of an input of its service, and has a destination exactly if that is two-way.
-abbrev pub suitsOperation : Network → ℕ → ℕ → ReplyTo → Optional Operation → Bool
+-- A queued message is of an input of its service, and where its reply goes suits that.
+abbrev pub suitsOperation : Network → ℕ → ℕ → Optional Destination → Optional Operation → Bool
 suitsOperation N rows q to none = false
-suitsOperation N rows q to (some o) =
-    eqb (o .service) q && (isInputOperation (o .direction) && pick (o .twoWay) (isDestination N rows to) (isNobody to))
+suitsOperation N rows q to (some o) = eqb (o .service) q && (isInputOperation (o .direction) && suitsReply N rows (o .twoWay) to)
 
 unfoldable pub suitsQueue : Network → ℕ → ℕ → List Queued → Bool
 suitsQueue N rows q [] = true

@@ -10,12 +10,12 @@ use lib.ListN.{length, length-append}
 use Rattle.forest.specs.Forest.{Forest, end, node, Tree, tree, measure, nodes}
 use Rattle.scalar.specs.Value.{Value, value}
 use Rattle.scalar.specs.ValueLaws.{value-size}
-use Rattle.syntax.specs.Syntax.{Network}
+use Rattle.syntax.specs.Syntax.{Optional, none, some, Network}
 use Rattle.tree.specs.Encode.{encode, rooted, empty, Sound, WellFormed, messageDeep, messageMany, treeDeep, treeMany}
 use Rattle.tree.specs.EncodeLaws.{length-node}
 use Rattle.state.specs.Places.{slotSize, treeRoom, messageRoom, entrySize, queueSize, rowsSize, rowSize}
-use Rattle.state.specs.Session.{ReplyTo, nobody, outsider, waitingRow, Progress, undone, done, waits, received, taken, Progresses, Queued, Session, Slot, free, live, State}
-use Rattle.state.specs.Bytes.{zeros, padded, replyBytes, messageBytes, entryBytes, queueBytes, progressBytes, rowsBytes, treeBytes, slotBytes, slotAt, stateBytes}
+use Rattle.state.specs.Session.{Destination, outsider, waitingRow, Progress, undone, done, waits, received, taken, Progresses, Queued, Session, Slot, free, live, State}
+use Rattle.state.specs.Bytes.{zeros, padded, destinationBytes, replyBytes, messageBytes, entryBytes, queueBytes, progressBytes, rowsBytes, treeBytes, slotBytes, slotAt, stateBytes}
 use Rattle.state.specs.Shape.{AllMessages, WellMade, MadeSlot, HasShape}
 use Rattle.state.specs.PartLaws.{length-zeros, length-padded, length-joined}
 use Rattle.state.specs.HeadLaws.{head-size}
@@ -41,10 +41,13 @@ session-tree-size F w = omega (arith, tree-size treeDeep treeMany 6 [] F w)
 
 -- ---- an entry of the queue
 
-pub reply-size : (to : ReplyTo) → length (replyBytes to) ≡ 4
-reply-size nobody = length-zeros 4
-reply-size (outsider k) = refl
-reply-size (waitingRow q n r) = refl
+pub destination-size : (d : Destination) → length (destinationBytes d) ≡ 4
+destination-size (outsider k) = refl
+destination-size (waitingRow q n r) = refl
+
+pub reply-size : (to : Optional Destination) → length (replyBytes to) ≡ 4
+reply-size none = length-zeros 4
+reply-size (some d) = destination-size d
 
 pub entry-size : (m : Queued) → length (messageBytes (m .message)) ≤ messageRoom → length (entryBytes m) ≡ entrySize
 unfolding entryBytes
@@ -68,7 +71,7 @@ unfolding progressBytes
 progress-size undone = length-zeros rowSize
 progress-size done = ap suc (length-zeros 5)
 progress-size waits = ap suc (length-zeros 5)
-progress-size (received to) = ap (λ (n : ℕ). suc (suc n)) (reply-size to)
+progress-size (received d) = ap (λ (n : ℕ). suc (suc n)) (destination-size d)
 progress-size (taken k) = ap (λ (n : ℕ). suc (suc n)) (length-zeros 4)
 
 pub rows-size : (p : Progresses) → length (rowsBytes p) ≡ rowsSize

@@ -98,13 +98,13 @@ module _ (s : List ℕ) (at k : ℕ) (e : k ≡ byteAt s at) where
   unfolding progressForm
   form-received t b f g h i = rw (sym e, ne-eqb k 3 f, sym g ∙ h, i)
 
-  pub form-unknown : (t : Bool) → (k ≡ 3 → ⊥) → t ≡ (eqb k 4 || eqb k 5) → t ≡ false → 6 < k → false ≡ progressForm s at
+  pub form-unknown : (t : Bool) → (k ≡ 3 → ⊥) → t ≡ (eqb k 4 || eqb k 5) → t ≡ false → 5 < k → false ≡ progressForm s at
   unfolding progressForm
-  form-unknown t f g h i = rw (sym e, ne-eqb k 3 f, sym g ∙ h, lt-leb k 6 i)
+  form-unknown t f g h i = rw (sym e, ne-eqb k 3 f, sym g ∙ h, lt-leb k 5 i)
 
-  pub form-plain : (t r : Bool) → (k ≡ 3 → ⊥) → t ≡ (eqb k 4 || eqb k 5) → t ≡ false → k ≤ 6 → r ≡ allZero s (at + 1) 5 → r ≡ progressForm s at
+  pub form-plain : (t r : Bool) → (k ≡ 3 → ⊥) → t ≡ (eqb k 4 || eqb k 5) → t ≡ false → k ≤ 5 → r ≡ allZero s (at + 1) 5 → r ≡ progressForm s at
   unfolding progressForm
-  form-plain t r f g h i j = j ∙ rw (sym e, ne-eqb k 3 f, sym g ∙ h, le-leb k 6 i)
+  form-plain t r f g h i j = j ∙ rw (sym e, ne-eqb k 3 f, sym g ∙ h, le-leb k 5 i)
 
 pub ruleset progress-laws = (form-taken, form-received, form-unknown, form-plain)
 

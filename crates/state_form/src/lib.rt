@@ -58,7 +58,7 @@ pub fn progress_form(s: &[u8], at: usize) -> bool
     if layout::either(kind == 4, kind == 5) {
         return wire::byte_at(s, at + 1) == 0;
     }
-    if 6 < kind {
+    if 5 < kind {
         return false;
     }
     all_zero(s, at + 1, 5)

@@ -5,21 +5,24 @@ use mathlib.Core.Bool.{Bool, true, false, not, _&&_}
 use Prim.Native.Nat.{ℕ, suc, _+_, _-_, _*_, _≤_, _<_}
 use native.Mathlib.Omega.{arith}
 use lib.ListN.{getD}
-use lib.Dec.{eqb, leb, ltb}
+use lib.Dec.{leb, ltb}
 use borrow.Author.Tests.{eq-eqb, ne-eqb, lt-ltb, not-true, not-false}
-use Rattle.scalar.specs.Value.{pick}
-use Rattle.syntax.specs.Syntax.{Network}
-use Rattle.wire.specs.Wire.{byteAt, u16At, u32At}
-use Rattle.tree.specs.Encode.{Octets}
+use Rattle.wire.specs.Wire.{byteAt}
 use Rattle.network.specs.Layout.{behaviourCount, serviceCount}
 use Rattle.network.specs.Decode.{networkOf}
 use Rattle.network.specs.NetworkLaws.{service-length}
 use Rattle.rows.specs.declared.BehaviourRow.{BehaviourRow}
 use Rattle.rows.specs.Readers.{behaviourRowOf}
-use Rattle.state.specs.Session.{nobody, undone, received}
-use Rattle.state.specs.Bytes.{readReply, readProgress}
+use Rattle.state.specs.Session.{Progress}
+use Rattle.state.specs.Bytes.{readProgress}
 use Rattle.state.specs.Shape.{isDestination}
 use Rattle.state.specs.Places.{rowSize}
+use Rattle.destinations.specs.declared.Destination.{Destination}
+use Rattle.destinations.specs.declared.Destination.the-variants.{Outsider, WaitingRow}
+use Rattle.destinations.specs.Meaning.{destinationOf}
+use Rattle.progress.specs.declared.Progress as coded
+use Rattle.progress.specs.declared.Progress.the-variants.{Undone, Done, Waits, Taken, Received}
+use Rattle.progress.specs.Meaning.{meaning}
 use Rattle.state_rows.specs.declared.Allowed.{Allowed}
 use Rattle.state_rows.specs.Marks.{marked}
 use Rattle.state_rows.specs.Allowed.{allowedBy, allowedAt, nothing, permits, permitted}
@@ -44,74 +47,44 @@ pub ruleset allowed-laws = (allowed-unmarked, allowed-marked)
 
 -- ---- destinations
 
-small-u32 : (s : List ℕ) → Octets s → (at : ℕ) → u32At s at < 0x100000000
-unfolding u32At u16At
-small-u32 s o at =
-    let a = o .small at in
-    let b = o .small (at + 1) in
-    let c = o .small (at + 2) in
-    let d = o .small (at + 2 + 1) in
-    omega arith
+module _ (file : List ℕ) (d : Destination) where
+  pub to-outsider : {v : ℕ} → d ≡ Outsider v → v < 0x100000000 → true ≡ isDestination (networkOf file) (behaviourCount file) (destinationOf d)
+  to-outsider {v} e h = rw (e, lt-ltb v 0x100000000 h)
 
-module _ (file s : List ℕ) (k at : ℕ) where
-  pub to-outsider : Octets s → k ≡ 1 → true ≡ isDestination (networkOf file) (behaviourCount file) (readReply s k at)
-  unfolding readReply
-  to-outsider o e = rw (e, lt-ltb (u32At s at) 0x100000000 (small-u32 s o at))
+  pub to-row : {q n r : ℕ} (v m rows : ℕ) (x y : Bool) → d ≡ WaitingRow q n r → v ≡ q → m ≡ serviceCount file → rows ≡ behaviourCount file
+      → x ≡ (leb n 3 && ltb r rows) → y ≡ (ltb v m && x) → y ≡ isDestination (networkOf file) (behaviourCount file) (destinationOf d)
+  to-row v m rows x y e g h l o p = p ∙ rw (o, e, service-length file, g, h, l)
 
-  pub to-nobody : (k ≡ 1 → ⊥) → (k ≡ 2 → ⊥) → false ≡ isDestination (networkOf file) (behaviourCount file) (readReply s k at)
-  unfolding readReply
-  to-nobody e f = rw (ne-eqb k 1 e, ne-eqb k 2 f)
-
-  pub to-row : (q v m n r rows : ℕ) (x y : Bool) → k ≡ 2 → q ≡ byteAt s at → v ≡ q → m ≡ serviceCount file → n ≡ byteAt s (at + 1) → r ≡ u16At s (at + 2)
-      → rows ≡ behaviourCount file → x ≡ (leb n 3 && ltb r rows) → y ≡ (ltb v m && x)
-      → y ≡ isDestination (networkOf file) (behaviourCount file) (readReply s k at)
-  unfolding readReply
-  to-row q v m n r rows x y e f g h i j l o p = p ∙ rw (o, e, service-length file, g, h, f, i, j, l)
-
-pub ruleset destination-laws = (to-outsider, to-nobody, to-row)
+pub ruleset destination-laws = (to-outsider, to-row)
 
 -- ---- a row's progress
 
-module _ (file s : List ℕ) (a : Allowed) (at k : ℕ) (e : k ≡ byteAt s at) where
-  abbrev N : Network
-  N = networkOf file
+module _ (file : List ℕ) (a : Allowed) (x : coded.Progress) (p : Progress) (e : meaning x ≡ p) where
+  abbrev permitted-by : Progress → Bool
+  permitted-by p = permits (networkOf file) (behaviourCount file) a p
 
-  abbrev n : ℕ
-  n = behaviourCount file
+  pub permits-undone : x ≡ Undone → true ≡ permitted-by p
+  unfolding permits
+  permits-undone f = rw (sym e, f)
 
-  pub permits-done : k ≡ 1 → a .done ≡ permits N n a (readProgress s at)
-  unfolding permits readProgress
+  pub permits-done : x ≡ Done → a .done ≡ permitted-by p
+  unfolding permits
   permits-done f = rw (sym e, f)
 
-  pub permits-waits : k ≡ 2 → a .waits ≡ permits N n a (readProgress s at)
-  unfolding permits readProgress
+  pub permits-waits : x ≡ Waits → a .waits ≡ permitted-by p
+  unfolding permits
   permits-waits f = rw (sym e, f)
 
-  pub permits-part : (p q : ℕ) → k ≡ 3 → p ≡ byteAt s (at + 1) → q ≡ p → ltb q (a .parts) ≡ permits N n a (readProgress s at)
-  unfolding permits readProgress
-  permits-part p q f g h = rw (sym e, f, h, g)
+  pub permits-part : {k : ℕ} (q : ℕ) → x ≡ Taken k → q ≡ k → ltb q (a .parts) ≡ permitted-by p
+  unfolding permits
+  permits-part q f g = rw (sym e, f, g)
 
-  pub permits-outsider : (x y : Bool) → k ≡ 4 → x ≡ isDestination N n (readReply s 1 (at + 2)) → y ≡ (a .received && x) → y ≡ permits N n a (readProgress s at)
-  unfolding permits readProgress
-  permits-outsider x y f g h = h ∙ rw (g, sym e, f)
+  pub permits-received : {d : Destination} (y z : Bool) → x ≡ Received d → y ≡ isDestination (networkOf file) (behaviourCount file) (destinationOf d)
+      → z ≡ (a .received && y) → z ≡ permitted-by p
+  unfolding permits
+  permits-received y z f g h = h ∙ rw (sym e, f, g)
 
-  pub permits-row : (x y : Bool) → k ≡ 5 → x ≡ isDestination N n (readReply s 2 (at + 2)) → y ≡ (a .received && x) → y ≡ permits N n a (readProgress s at)
-  unfolding permits readProgress
-  permits-row x y f g h = h ∙ rw (g, sym e, f)
-
-  pub permits-other : (k ≡ 1 → ⊥) → (k ≡ 2 → ⊥) → (k ≡ 3 → ⊥) → (k ≡ 4 → ⊥) → (k ≡ 5 → ⊥) → not (eqb k 6) ≡ permits N n a (readProgress s at)
-  unfolding permits readProgress
-  permits-other f g h i j = rw (sym e, ne-eqb k 1 f, ne-eqb k 2 g, ne-eqb k 3 h, ne-eqb k 4 i, ne-eqb k 5 j) (by (eqb k 6))
-    where
-      and-false : (t : Bool) → false ≡ (t && false)
-      and-false true = refl
-      and-false false = refl
-
-      by : (t : Bool) → not t ≡ permits N n a (pick t (received nobody) undone)
-      by true = and-false (a .received)
-      by false = refl
-
-pub ruleset permit-laws = (permits-done, permits-waits, permits-part, permits-outsider, permits-row, permits-other)
+pub ruleset permit-laws = (permits-undone, permits-done, permits-waits, permits-part, permits-received)
 
 module _ (file marks s : List ℕ) (at i v : ℕ) (e : v ≡ i) where
   pub row-untouched : (b : ℕ) → b ≡ byteAt s (at + rowSize * v) → b ≡ 0

@@ -5,11 +5,14 @@ ghost use Prim.Native.Nat.{_+_, _*_, _≤_, _<_};
 ghost use Rattle.network.specs.Layout.{behaviourCount};
 ghost use Rattle.network.specs.Decode.{networkOf};
 ghost use Rattle.state.specs.Places.{rowSize, rowsSize};
-ghost use Rattle.state.specs.Bytes.{readReply, readProgress};
+ghost use Rattle.state.specs.Bytes.{readProgress};
 ghost use Rattle.state.specs.Shape.{isDestination};
+ghost use Rattle.destinations.specs.Meaning.{destinationOf};
 ghost use Rattle.row_parts.specs.RowSets.{itselfRow, rowsTo};
 ghost use Rattle.state_rows.specs.Marks.{Adds, AddsBranches, RowsOf};
 ghost use Rattle.state_rows.specs.Allowed.{allowing, allowedBy, allowedAt, permits, permitted};
+use destinations::Destination;
+use progress::Progress;
 use row_parts::Subs;
 use rows::BehaviourRow;
 
@@ -129,22 +132,18 @@ fn allowed_at(file: &[u8], marks: &[u8; 256], i: u16) -> Allowed
     allowed_by(rows::behaviour_row(file, i))
 }
 
-// Is what stands at `at`, of the kind, a destination of replies in this file?
-pub fn is_destination(file: &[u8], s: &[u8], kind: u8, at: usize) -> bool
-    requires { ⌜ at + 4 ≤ 0x100000000 ⌝ }
-    ensures { λ x. ⌜ x ≡ isDestination (networkOf (now (file .entry))) (behaviourCount (now (file .entry))) (readReply (now (s .entry)) kind at) ⌝ }
+// Is it a destination of replies in this file?
+pub fn is_destination(file: &[u8], d: Destination) -> bool
+    ensures { λ x. ⌜ x ≡ isDestination (networkOf (now (file .entry))) (behaviourCount (now (file .entry))) (destinationOf d) ⌝ }
 {
-    tree::octets(s);
-    if kind == 1 {
-        return true;
+    match d {
+        Destination::Outsider(_number) => true,
+        Destination::WaitingRow(q, n, r) => {
+            let service = wire::byte_to_u16(q) < layout::service_count(file);
+            let row = r < layout::behaviour_count(file);
+            layout::both(service, layout::both(n <= 3, row))
+        }
     }
-    if kind != 2 {
-        return false;
-    }
-    let service = wire::byte_to_u16(wire::byte_at(s, at)) < layout::service_count(file);
-    let session = wire::byte_at(s, at + 1) <= 3;
-    let row = wire::u16_at(s, at + 2) < layout::behaviour_count(file);
-    layout::both(service, layout::both(session, row))
 }
 
 // Is the progress that stands at `at` one of those?
@@ -152,23 +151,13 @@ fn permits(file: &[u8], s: &[u8], a: Allowed, at: usize) -> bool
     requires { ⌜ at + rowSize ≤ 0x100000000 ⌝ }
     ensures { λ x. ⌜ x ≡ permits (networkOf (now (file .entry))) (behaviourCount (now (file .entry))) a (readProgress (now (s .entry)) at) ⌝ }
 {
-    let code = wire::byte_at(s, at);
-    if code == 1 {
-        return a.done;
+    match progress::progress_at(s, at) {
+        Progress::Undone => true,
+        Progress::Done => a.done,
+        Progress::Waits => a.waits,
+        Progress::Taken(k) => wire::byte_to_u16(k) < a.parts,
+        Progress::Received(d) => layout::both(a.received, is_destination(file, d)),
     }
-    if code == 2 {
-        return a.waits;
-    }
-    if code == 3 {
-        return wire::byte_to_u16(wire::byte_at(s, at + 1)) < a.parts;
-    }
-    if code == 4 {
-        return layout::both(a.received, is_destination(file, s, 1, at + 2));
-    }
-    if code == 5 {
-        return layout::both(a.received, is_destination(file, s, 2, at + 2));
-    }
-    code != 6
 }
 
 // Does the progress of row i suit a session that runs the marked rows?

@@ -8,34 +8,36 @@ use native.Mathlib.Omega.{arith}
 use lib.Dec.{eqb}
 use borrow.Author.Tests.{eq-eqb, ne-eqb, not-true, not-false}
 use Rattle.scalar.specs.Value.{pick}
-use Rattle.syntax.specs.Syntax.{none, some, input, output, Operation}
-use Rattle.wire.specs.Wire.{byteAt, u16At}
+use Rattle.syntax.specs.Syntax.{Optional, none, some, input, output, Operation}
+use Rattle.wire.specs.Wire.{byteAt}
 use Rattle.network.specs.Layout.{behaviourCount, operationCount}
 use Rattle.network.specs.Rows.{operationService, operationDirection, operationTwoWay}
 use Rattle.network.specs.Decode.{operationOf, rowsFrom, networkOf}
 use Rattle.state.specs.Places.{entrySize}
-use Rattle.state.specs.Session.{ReplyTo, nobody, waitingRow}
+use Rattle.state.specs.Session.{Destination}
 use Rattle.state.specs.Bytes.{readReply, readEntry, readQueue}
-use Rattle.state.specs.Shape.{operationAt, isDestination, isNobody, suitsQueue}
+use Rattle.state.specs.Shape.{operationAt, isDestination, suitsReply, suitsQueue}
+use Rattle.destinations.specs.declared.Destination as coded
+use Rattle.destinations.specs.declared.ReplyTo.{ReplyTo}
+use Rattle.destinations.specs.declared.ReplyTo.the-variants.{Nobody, To}
+use Rattle.destinations.specs.Meaning.{destinationOf, replyOf}
 use Rattle.syntax.specs.Rows.{isInputOperation, entry}
 use Rattle.state_shape.specs.Stands.{suitsEntry}
 
--- ---- nowhere
+-- ---- where a reply goes
 
-module _ (s : List ℕ) (k at : ℕ) where
-  pub an-outsider : k ≡ 1 → false ≡ isNobody (readReply s k at)
-  unfolding readReply
-  an-outsider e = rw e
+module _ (file : List ℕ) (twoway : Bool) (to : ReplyTo) where
+  abbrev suited-by : Bool
+  suited-by = suitsReply (networkOf file) (behaviourCount file) twoway (replyOf to)
 
-  pub no-outsider : (k ≡ 1 → ⊥) → not (eqb k 2) ≡ isNobody (readReply s k at)
-  unfolding readReply
-  no-outsider e = rw (ne-eqb k 1 e) (by (eqb k 2))
-    where
-      by : (t : Bool) → not t ≡ isNobody (pick t (waitingRow (byteAt s at) (byteAt s (at + 1)) (u16At s (at + 2))) nobody)
-      by true = refl
-      by false = refl
+  pub to-nobody : to ≡ Nobody → not twoway ≡ suited-by
+  to-nobody e = rw e
 
-pub ruleset nobody-laws = (an-outsider, no-outsider)
+  pub to-destination : {d : coded.Destination} (x y : Bool) → to ≡ To d → x ≡ isDestination (networkOf file) (behaviourCount file) (destinationOf d)
+      → y ≡ (twoway && x) → y ≡ suited-by
+  to-destination x y e f g = g ∙ rw (e, f)
+
+pub ruleset reply-laws = (to-nobody, to-destination)
 
 -- ---- an entry
 
@@ -57,18 +59,18 @@ module _ (file s : List ℕ) (q w at m : ℕ) (e : m ≡ operationCount file) wh
   entry-none h = rw (no-operation (operationOf file) (operationCount file) 0 w (omega arith))
 
   module _ (h : w < m) (v : ℕ) (f : v ≡ operationService file w) where
-    abbrev to : ReplyTo
+    abbrev to : Optional Destination
     to = readReply s (byteAt s (at + 1)) (at + 4)
 
-    entry-is : suitsEntry file s q w at ≡ (eqb v q && (eqb (operationDirection file w) 0 &&
-        pick (eqb (operationTwoWay file w) 1) (isDestination (networkOf file) (behaviourCount file) to) (isNobody to)))
+    abbrev reply : Bool
+    reply = suitsReply (networkOf file) (behaviourCount file) (eqb (operationTwoWay file w) 1) to
+
+    entry-is : suitsEntry file s q w at ≡ (eqb v q && (eqb (operationDirection file w) 0 && reply))
     unfolding suitsEntry networkOf operationOf
     entry-is =
         rw (operation-row (operationOf file) (operationCount file) 0 w (omega arith), zero-add w, sym f) (by (eqb (operationDirection file w) 0))
       where
-        by : (t : Bool) → (eqb v q && (isInputOperation (pick t input output) &&
-            pick (eqb (operationTwoWay file w) 1) (isDestination (networkOf file) (behaviourCount file) to) (isNobody to)))
-            ≡ (eqb v q && (t && pick (eqb (operationTwoWay file w) 1) (isDestination (networkOf file) (behaviourCount file) to) (isNobody to)))
+        by : (t : Bool) → (eqb v q && (isInputOperation (pick t input output) && reply)) ≡ (eqb v q && (t && reply))
         by true = refl
         by false = refl
 
@@ -79,14 +81,13 @@ module _ (file s : List ℕ) (q w at m : ℕ) (e : m ≡ operationCount file) wh
       pub entry-output : (d ≡ 0 → ⊥) → false ≡ suitsEntry file s q w at
       entry-output j = sym (entry-is ∙ rw (eq-eqb v q i, sym g, ne-eqb d 0 j))
 
-      module _ (j : d ≡ 0) (k t : ℕ) (x : Bool) (l : k ≡ byteAt s (at + 1)) (o : t ≡ operationTwoWay file w) where
-        pub entry-two-way : t ≡ 1 → x ≡ isDestination (networkOf file) (behaviourCount file) (readReply s k (at + 4)) → x ≡ suitsEntry file s q w at
-        entry-two-way p y = y ∙ sym (entry-is ∙ rw (eq-eqb v q i, sym g, eq-eqb d 0 j, sym o, eq-eqb t 1 p, sym l))
+      pub entry-input : (k t : ℕ) (r : ReplyTo) (x : Bool) → d ≡ 0 → k ≡ byteAt s (at + 1) → replyOf r ≡ readReply s k (at + 4) → t ≡ operationTwoWay file w
+          → x ≡ suitsReply (networkOf file) (behaviourCount file) (eqb t 1) (replyOf r) → x ≡ suitsEntry file s q w at
+      entry-input k t r x j l m o y =
+          let z : x ≡ reply = y ∙ rw (o, m, l) refl in
+          z ∙ sym (entry-is ∙ rw (eq-eqb v q i, sym g, eq-eqb d 0 j))
 
-        pub entry-one-way : (t ≡ 1 → ⊥) → x ≡ isNobody (readReply s k (at + 4)) → x ≡ suitsEntry file s q w at
-        entry-one-way p y = y ∙ sym (entry-is ∙ rw (eq-eqb v q i, sym g, eq-eqb d 0 j, sym o, ne-eqb t 1 p, sym l))
-
-pub ruleset entry-laws = (entry-none, entry-elsewhere, entry-output, entry-two-way, entry-one-way)
+pub ruleset entry-laws = (entry-none, entry-elsewhere, entry-output, entry-input)
 
 -- ---- the queue
 

@@ -4,18 +4,20 @@ ghost use Prim.Native.Nat.{_+_, _*_, _≤_, _<_};
 ghost use Rattle.network.specs.Layout.{behaviourCount};
 ghost use Rattle.network.specs.Decode.{networkOf};
 ghost use Rattle.state.specs.Places.{slotSize, entrySize};
-ghost use Rattle.state.specs.Bytes.{readReply, readQueue};
-ghost use Rattle.state.specs.Shape.{suitsQueue, isNobody};
+ghost use Rattle.state.specs.Bytes.{readQueue};
+ghost use Rattle.state.specs.Shape.{suitsReply, suitsQueue};
+ghost use Rattle.destinations.specs.Meaning.{replyOf};
 ghost use Rattle.state_shape.specs.Stands.{suitsEntry, TopRow, SessionTells, SlotTells, Tells};
+use destinations::ReplyTo;
 
-// Does the reply, by its kind, go nowhere?
-fn is_nobody(s: &[u8], kind: u8, at: usize) -> bool
-    ensures { λ x. ⌜ x ≡ isNobody (readReply (now (s .entry)) kind at) ⌝ }
+// Has a message a destination of this file exactly if its operation is two-way?
+fn reply_suits(file: &[u8], twoway: bool, to: ReplyTo) -> bool
+    ensures { λ x. ⌜ x ≡ suitsReply (networkOf (now (file .entry))) (behaviourCount (now (file .entry))) twoway (replyOf to) ⌝ }
 {
-    if kind == 1 {
-        return false;
+    match to {
+        ReplyTo::Nobody => !twoway,
+        ReplyTo::To(d) => layout::both(twoway, state_rows::is_destination(file, d)),
     }
-    kind != 2
 }
 
 // Is a queued message, whose entry starts at `at`, of an input of the service q, with a destination exactly if that is two-way?
@@ -33,11 +35,8 @@ fn entry_suits(file: &[u8], s: &[u8], q: u8, row: u16, at: usize) -> bool
     if rows::operation_direction(file, row) != 0 {
         return false;
     }
-    let kind = wire::byte_at(s, at + 1);
-    if rows::operation_two_way(file, row) == 1 {
-        return state_rows::is_destination(file, s, kind, at + 4);
-    }
-    is_nobody(s, kind, at + 4)
+    let to = destinations::read_reply(s, wire::byte_at(s, at + 1), at + 4);
+    reply_suits(file, rows::operation_two_way(file, row) == 1, to)
 }
 
 // Do the queued messages, of up to n entries from `at` on, suit the service q?

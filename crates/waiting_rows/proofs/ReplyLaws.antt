@@ -1,14 +1,14 @@
 -- A reply taken, at each of the ways out of the code.
-use mathlib.Core.Path.{_≡_, sym, ap, subst, _∙_}
+use mathlib.Core.Path.{_≡_, refl, sym, ap, subst, _∙_}
 use mathlib.Core.Bool.{Bool, true, false}
 use mathlib.Core.List.{List, []}
-use Prim.Native.Nat.{ℕ, _<_}
+use Prim.Native.Nat.{ℕ, _≤_, _<_}
+use lib.ListN.{length}
 use native.Mathlib.Omega.{arith}
 use Rattle.forest.specs.Forest.{Forest, Tree}
-use Rattle.forest.specs.Path.{Path, replaceAt}
+use Rattle.forest.specs.Path.{replaceAt}
 use Rattle.scalar.specs.Value.{Value}
 use Rattle.tree.specs.Encode.{Message}
-use Rattle.tree.specs.Ids.{isPath}
 use Rattle.tree.specs.Ids as ids
 use Rattle.refusal.specs.declared.Refusal.the-variants.{Stuck}
 use Rattle.refusal.specs.declared.Outcome.{Outcome}
@@ -17,22 +17,26 @@ use Rattle.wire.specs.Wire.{withPart}
 use Rattle.network.specs.Form.{WellFormed}
 use Rattle.network.specs.Layout.{pathCount}
 use Rattle.network.specs.Decode.{pathOf}
-use Rattle.rows.specs.Readers.{pathIds}
 use Rattle.typing.specs.Environment.{within}
+use Rattle.state.specs.Places.{treeRoom}
 use Rattle.state.specs.Session.{done, Session, withTree, Slot, live, State, setSlot}
 use Rattle.state.specs.Bytes.{slotBytes, stateBytes}
 use Rattle.state.specs.Shape.{WellMade}
 use Rattle.state.specs.KeepLaws.{made-tree, made-row}
 use Rattle.moves.specs.Moves.{moved, require, voidValue, onLive, saveWithin, takeReply}
 use Rattle.moves.specs.Step.{finish}
-use Rattle.slots.specs.SlotLaws.{row-set, tree-set, living-set, set-again, stands-set}
+use Rattle.slots.specs.SlotLaws.{row-set, tree-set, living-set, set-again}
 use Rattle.slots.specs.Living.{Living}
 use Rattle.slots.specs.Slots.{treeStored}
 use Rattle.session_trees.specs.declared.Change.{Change}
-use Rattle.session_trees.specs.Changing.{KeptTree, ChangedTo, Replaces}
-use Rattle.moving.specs.Made.{InSession}
-use Rattle.row_parts.specs.PathLaws.{ids-path, path-is}
-use Rattle.waiting_rows.specs.Waiting.{replied, PutsReply, TakesReply}
+use Rattle.session_trees.specs.Changing.{ChangedTo, keptBytes, ReplacesAt}
+use Rattle.moving.specs.Made.{StateOf}
+use Rattle.moving.specs.MadeLaws.{refused-step}
+use Rattle.moving.specs.Holding.{Holding}
+use Rattle.moving.specs.HoldingLaws.{stands-holding, holding-bytes, holding-living, gone-holding, gone-live}
+use Rattle.progress.specs.StateLaws.{row-stored-length}
+use Rattle.waiting_rows.specs.declared.Sender.{Sender}
+use Rattle.waiting_rows.specs.Waiting.{replied, PutsReply, SenderInside, settled, Settled, TakesReply}
 use Rattle.progress.specs.Stored.{rowStored}
 
 -- ---- `put_reply`
@@ -53,50 +57,80 @@ reply-put s t slot r n {s₁} {s₂} l a b = record {
 
 pub ruleset put-laws = (reply-put)
 
+-- ---- `settle`
+
+pub settle-none : (s : List ℕ) {x : Sender} → x ≡ Sender.Outsider → s ≡ settled s x
+settle-none s e = ap (settled s) (sym e)
+
+pub settle-row : (s : List ℕ) {s′ : List ℕ} {x : Sender} {slot r : ℕ} → x ≡ Sender.Row slot r → s′ ≡ rowStored s slot r done → s′ ≡ settled s x
+settle-row s e f = f ∙ ap (settled s) (sym e)
+
+pub settle-room : (size : ℕ) {x y : Sender} → SenderInside size x → x ≡ y → SenderInside size y
+settle-room size h e = subst (SenderInside size) e h
+
+pub settled-length : (s : List ℕ) (x : Sender) → SenderInside (length s) x → length (settled s x) ≡ length s
+settled-length s Sender.Outsider h = refl
+settled-length s (Sender.Row slot r) h = row-stored-length s slot r done (h .0) (h .1)
+
+pub ruleset settle-laws = (settle-none, settle-row)
+
+-- There is room for the tree.
+pub kept-room : {file s m o : List ℕ} {p slot n : ℕ} {x : Change} → ReplacesAt file p s slot m o x → x ≡ Change.Kept n → n ≤ treeRoom
+kept-room h e = subst (λ (y : Change). keptBytes y ≤ treeRoom) e (h .small)
+
+-- The state that those bytes hold; the waiting session is live in it, with the same tree.
+settled-holds : (file s : List ℕ) (G gone : State) (x : Sender) → SenderInside (length s) x → StateOf file s G → Settled file s G x gone → Holding (settled s x) gone
+settled-holds file s G gone Sender.Outsider u st e = subst (Holding s) (sym e) (stands-holding st)
+settled-holds file s G gone (Sender.Row slot r) u st (q, n, b, (h, e)) = subst (Holding (rowStored s slot r done)) (sym e) (gone-holding h r done st (u .1) refl)
+
+settled-live : (file s : List ℕ) (G gone : State) (x : Sender) → Settled file s G x gone → (q n : ℕ) (S : Session) → G q n ≡ live S
+    → (T : Session) × (gone q n ≡ live T) × (T .tree ≡ S .tree)
+settled-live file s G gone Sender.Outsider e q n S l = (S, ap (λ (X : State). X q n) e ∙ l, refl)
+settled-live file s G gone (Sender.Row slot r) (q2, n2, b, (h, e)) q n S l =
+    let z = gone-live h r done q n S l in
+    (z .0, ap (λ (X : State). X q n) e ∙ z .1, z .2)
+
 -- ---- `take_reply`
 
-module _ (file s : List ℕ) (slot r p : ℕ) (m : List ℕ) {is o : List ℕ} {x : Change} (d : is ≡ pathIds file p) (c : Replaces s slot is m o x) where
+module _ (file s : List ℕ) (x : Sender) (slot r p : ℕ) (m : List ℕ) {o : List ℕ} {y : Change} (c : ReplacesAt file p s slot m o y) where
   abbrev changedTree : Session → Tree Value → Forest Value
   changedTree S t = replaceAt voidValue (pathOf file p) t (S .tree)
 
-  changed : WellFormed file → p < pathCount file → (S : Session) → Living s slot S → (t : Tree Value) → Message m t → ChangedTo o x (changedTree S t)
-  changed w l S h t g =
-      subst (λ (y : Path). ChangedTo o x (replaceAt voidValue y t (S .tree))) (ap ids.pathOf d ∙ path-is file p)
-      (c .tells S t h (ap isPath d ∙ ids-path file w p l) g)
+  changed : {z : Change} → y ≡ z → WellFormed file → p < pathCount file → (S T : Session) → Living s slot S → T .tree ≡ S .tree → (t : Tree Value)
+      → Message m t → ChangedTo o z (changedTree T t)
+  changed {z} e w l S T h u t g =
+      subst (λ (F : Forest Value). ChangedTo o z (replaceAt voidValue (pathOf file p) t F)) (sym u)
+      (subst (λ (z : Change). ChangedTo o z (changedTree S t)) e (c .tells w l S t h g))
 
   -- The definition, in a live session.
-  taking : {G : State} {q n b : ℕ} (h : InSession file s G q n slot b) (t : Tree Value) (f : Bool) → within (changedTree (h .session) t) ≡ f
-      → takeReply G q n r (pathOf file p) t ≡ require f Stuck (moved (setSlot G q n (live (replied (h .session) r (changedTree (h .session) t)))) [])
-  taking {G} {q} {n} h t f e =
-      ap (λ (y : Slot). onLive y (λ S. saveWithin G q n (replied S r (changedTree S t)) [])) (h .isLive)
-      ∙ ap (λ (y : Bool). require y Stuck (moved (setSlot G q n (live (replied (h .session) r (changedTree (h .session) t)))) [])) e
+  taking : (gone : State) (q n : ℕ) (T : Session) → gone q n ≡ live T → (t : Tree Value) (f : Bool) → within (changedTree T t) ≡ f
+      → takeReply gone q n r (pathOf file p) t ≡ require f Stuck (moved (setSlot gone q n (live (replied T r (changedTree T t)))) [])
+  taking gone q n T e t f g =
+      ap (λ (y : Slot). onLive y (λ S. saveWithin gone q n (replied S r (changedTree S t)) [])) e
+      ∙ ap (λ (y : Bool). require y Stuck (moved (setSlot gone q n (live (replied T r (changedTree T t)))) [])) g
 
-  pub reply-large : {a : Outcome} → x ≡ Change.TooLarge → a ≡ refusedBy Stuck → TakesReply file s slot r p m s a
+  pub reply-large : {a : Outcome} → y ≡ Change.TooLarge → a ≡ refusedBy Stuck → TakesReply file s x slot r p m s a
   reply-large e f = record {
-    tells = λ w l G st q n b h t g out.
-        ap (λ (y : Outcome). record { outcome = y; state = s; out = out }) f
-        ∙ ap (finish s out)
-        (sym (taking h t false (subst (λ (y : Change). ChangedTo o y (changedTree (h .session) t)) e (changed w l (h .session) (h .living) t g))));
+    tells = λ w l G st gone d q n b h t g out.
+        let T = settled-live file s G gone x d q n (h .session) (h .isLive) in
+        refused-step f (taking gone q n (T .0) (T .1) t false (changed e w l (h .session) (T .0) (h .living) (T .2) t g));
   }
 
-  module _ {n : ℕ} (e : x ≡ Change.Kept n) where
-    kept : WellFormed file → p < pathCount file → (S : Session) → Living s slot S → (t : Tree Value) → Message m t → KeptTree o n (changedTree S t)
-    kept w l S h t g = subst (λ (y : Change). ChangedTo o y (changedTree S t)) e (changed w l S h t g)
+  pub reply-taken : {n : ℕ} {s₁ s₂ : List ℕ} {a : Outcome} → y ≡ Change.Kept n → SenderInside (length s) x → s₁ ≡ settled s x → PutsReply s₁ slot r o n s₂
+      → a ≡ doneWith 0 → TakesReply file s x slot r p m s₂ a
+  reply-taken {n} {s₁} {s₂} {a} e i k v f = record {
+    tells = λ w l G st gone d q j b h t g out.
+        let T = settled-live file s G gone x d q j (h .session) (h .isLive) in
+        let F = changedTree (T .0) t in
+        let z = changed e w l (h .session) (T .0) (h .living) (T .2) t g in
+        let held : Holding s₁ gone = subst (λ (u : List ℕ). Holding u gone) (sym k) (settled-holds file s G gone x i st d) in
+        let put = v .tells (T .0) F (holding-living held q j slot (h .service) (h .number) (h .place) (T .1)) z in
+        let R = live (replied (T .0) r F) in
+        let bytes : s₂ ≡ stateBytes (setSlot gone q j R) =
+        put .0 ∙ (ap (λ (u : ℕ). withPart s₁ u (slotBytes R)) (h .place) ∙ holding-bytes held q j R (h .service) (h .number) (put .1)) in
+        ap (λ (u : Outcome). record { outcome = u; state = s₂; out = out }) f
+        ∙ (ap (λ (u : List ℕ). record { outcome = doneWith 0; state = u; out = out }) bytes
+        ∙ ap (finish s out) (sym (taking gone q j (T .0) (T .1) t true (z .fits))));
+  }
 
-    pub reply-long : {a : Outcome} → 1024 < n → TakesReply file s slot r p m s a
-    reply-long k = record { tells = λ w l G st q i b h t g out. absurd (omega (arith, k, kept w l (h .session) (h .living) t g .small)) }
-
-    pub reply-taken : {s₂ : List ℕ} {a : Outcome} → PutsReply s slot r o n s₂ → a ≡ doneWith 0 → TakesReply file s slot r p m s₂ a
-    reply-taken {s₂} {a} k f = record {
-      tells = λ w l G st q i b h t g out.
-          let S = h .session in
-          let y = kept w l S (h .living) t g in
-          let z = k .tells S (changedTree S t) (h .living) y in
-          let R = replied S r (changedTree S t) in
-          let u : s₂ ≡ stateBytes (setSlot G q i (live R)) =
-          z .0 ∙ (ap (λ (j : ℕ). withPart s j (slotBytes (live R))) (h .place) ∙ stands-set st q i (live R) (h .service) (h .number) (z .1)) in
-          ap (λ (v : Outcome). record { outcome = v; state = s₂; out = out }) f
-          ∙ (ap (λ (v : List ℕ). record { outcome = doneWith 0; state = v; out = out }) u ∙ ap (finish s out) (sym (taking h t true (y .fits))));
-    }
-
-pub ruleset reply-laws = (reply-large, reply-long, reply-taken)
+pub ruleset reply-laws = (reply-large, reply-taken)

@@ -118,17 +118,15 @@ module _ (file s : List ℕ) (slot b q r : ℕ) {t : Bool} (h : HasRow file b r 
       solicits : (f : Operation → Path → Result) → asks file q S r row f ≡ ifWaiting (meaning p) (Next f)
       solicits f = ap (λ (z : OutputRow). asks file q S r z f) g ∙ ap (λ (z : Progress). ifWaiting z (Next f)) (sym m)
 
-      pub no-waits : OneOf (0 ∷ 1 ∷ 3 ∷ 4 ∷ 5 ∷ 6 ∷ []) (tagOf progress.the-type p) → WaitsAt file s slot b q r Waiting.NotAllowed
+      pub no-waits : OneOf (0 ∷ 1 ∷ 3 ∷ 4 ∷ []) (tagOf progress.the-type p) → WaitsAt file s slot b q r Waiting.NotAllowed
       no-waits k = not-allowed (λ f. solicits f ∙ other p (Next f) k)
         where
-          other : (p : coded.Progress) (z : Result) → OneOf (0 ∷ 1 ∷ 3 ∷ 4 ∷ 5 ∷ 6 ∷ []) (tagOf progress.the-type p) → ifWaiting (meaning p) z ≡ notAllowed
+          other : (p : coded.Progress) (z : Result) → OneOf (0 ∷ 1 ∷ 3 ∷ 4 ∷ []) (tagOf progress.the-type p) → ifWaiting (meaning p) z ≡ notAllowed
           other coded.Progress.Undone z k = refl
           other coded.Progress.Done z k = refl
-          other coded.Progress.Waits z k = absurd (miss (0 ∷ 1 ∷ 3 ∷ 4 ∷ 5 ∷ 6 ∷ []) 2 tt k)
+          other coded.Progress.Waits z k = absurd (miss (0 ∷ 1 ∷ 3 ∷ 4 ∷ []) 2 tt k)
           other (coded.Progress.Taken n) z k = refl
-          other (coded.Progress.FromOutsider v) z k = refl
-          other (coded.Progress.FromRow a b c) z k = refl
-          other coded.Progress.FromNobody z k = refl
+          other (coded.Progress.Received d) z k = refl
 
       module _ (k : p ≡ coded.Progress.Waits) {v : Bool} (z : v ≡ permits q (directionOf false) true (operationOf file o)) where
         waiting : (f : Operation → Path → Result) → asks file q S r row f ≡ require v MoveNotAllowed (f (operationOf file o) (pathOf file x))

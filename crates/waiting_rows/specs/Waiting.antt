@@ -3,7 +3,7 @@
 use mathlib.Core.Path.{_≡_}
 use mathlib.Core.Bool.{Bool, true}
 use mathlib.Core.List.{List}
-use Prim.Native.Nat.{ℕ, _<_}
+use Prim.Native.Nat.{ℕ, _+_, _<_, _≤_}
 use Rattle.forest.specs.Forest.{Forest, Tree}
 use Rattle.forest.specs.Path.{Path}
 use Rattle.scalar.specs.Value.{Value}
@@ -15,15 +15,18 @@ use Rattle.syntax.specs.Rows.{hasRow, atRow}
 use Rattle.network.specs.Form.{WellFormed}
 use Rattle.network.specs.Layout.{pathCount, behaviourCount, operationCount}
 use Rattle.network.specs.Decode.{pathOf, operationOf, behaviourOf}
+use Rattle.state.specs.Places.{slotSize}
 use Rattle.state.specs.Session.{done, advance, Session, withTree, withProgress, live, State}
 use Rattle.state.specs.Bytes.{slotBytes, readSession}
 use Rattle.state.specs.Shape.{WellMade}
-use Rattle.moves.specs.Moves.{Result, notAllowed, onWaitingRow, takeReply}
+use Rattle.moves.specs.Moves.{Result, notAllowed, onWaitingRow, goneOn, takeReply}
 use Rattle.moves.specs.Step.{Step, finish}
 use Rattle.session_trees.specs.Changing.{KeptTree}
 use Rattle.moving.specs.Made.{StateOf, InSession}
 use Rattle.slots.specs.Living.{Living}
+use Rattle.progress.specs.Stored.{rowStored}
 use Rattle.waiting_rows.specs.declared.Waiting.{Waiting}
+use Rattle.waiting_rows.specs.declared.Sender.{Sender}
 
 -- x tells whether row r is one of the behaviour of B row b.
 pub record HasRow (file : List ℕ) (b r : ℕ) (x : Bool) : Type 0 where
@@ -56,8 +59,24 @@ pub record PutsReply (s : List ℕ) (slot r : ℕ) (t : List ℕ) (n : ℕ) (s�
   pub tells : (S : Session) (F : Forest Value) → Living s slot S → KeptTree t n F
       → (s′ ≡ withPart s slot (slotBytes (live (replied S r F)))) × WellMade (replied S r F)
 
--- The waiting row r of a live session takes the message of m as its reply.
-pub record TakesReply (file s : List ℕ) (slot r path : ℕ) (m s′ : List ℕ) (o : Outcome) : Type 0 where
-  pub tells : WellFormed file → path < pathCount file → (G : State) → StateOf file s G → (q n b : ℕ) → InSession file s G q n slot b
-      → (t : Tree Value) → Message m t → (out : List ℕ)
-      → _≡_ {A = Step} (record { outcome = o; state = s′; out = out }) (finish s out (takeReply G q n r (pathOf file path) t))
+-- Its row is one of the state's.
+abbrev pub SenderInside : ℕ → Sender → Type 0
+SenderInside size Sender.Outsider = Unit {0}
+SenderInside size (Sender.Row slot r) = (slot + slotSize ≤ size) × (r < 256)
+
+-- The bytes with that row done.
+abbrev pub settled : List ℕ → Sender → List ℕ
+settled s Sender.Outsider = s
+settled s (Sender.Row slot r) = rowStored s slot r done
+
+-- The state in which that row is done.
+abbrev pub Settled : List ℕ → List ℕ → State → Sender → State → Type 0
+Settled file s G Sender.Outsider gone = gone ≡ G
+Settled file s G (Sender.Row slot r) gone =
+    (q : ℕ) × (n : ℕ) × (b : ℕ) × ((h : InSession file s G q n slot b) × (gone ≡ goneOn G q n (h .session) r done))
+
+-- The waiting row r of a live session takes the message of m as its reply, in the state in which the row that replies is done.
+pub record TakesReply (file s : List ℕ) (from : Sender) (slot r path : ℕ) (m s′ : List ℕ) (o : Outcome) : Type 0 where
+  pub tells : WellFormed file → path < pathCount file → (G : State) → StateOf file s G → (gone : State) → Settled file s G from gone → (q n b : ℕ)
+      → InSession file s G q n slot b → (t : Tree Value) → Message m t → (out : List ℕ)
+      → _≡_ {A = Step} (record { outcome = o; state = s′; out = out }) (finish s out (takeReply gone q n r (pathOf file path) t))

@@ -1,8 +1,9 @@
 // Rows that wait for their replies. 01, Moves: "A solicit-response then waits"; a reply goes to "its waiting row", where it "replaces the
 // subtree", and an outer reply is "bytes for a row waiting on an outside location".
+ghost use mathlib.Core.Path.{_≡_};
 ghost use Prim.Native.Nat.{_+_, _≤_, _<_};
 ghost use lib.ListN.{length};
-ghost use Rattle.waiting_rows.specs.Waiting.{HasRow, WaitsAt, PutsReply, TakesReply};
+ghost use Rattle.waiting_rows.specs.Waiting.{HasRow, WaitsAt, SenderInside, settled, PutsReply, TakesReply};
 ghost use Rattle.state.specs.Places.{slotSize, treeRoom};
 use progress::Progress;
 use refusal::Outcome;
@@ -14,6 +15,12 @@ use session_trees::Change;
 pub enum Waiting {
     NotAllowed,
     Row(u16, u16),
+}
+
+// Who replies: an outsider, or row r of the session in a slot.
+pub enum Sender {
+    Outsider,
+    Row(usize, u16),
 }
 
 // Is row r one of the behaviour of B row b?
@@ -49,7 +56,7 @@ pub fn waiting_at(file: &[u8], state: &[u8], slot: usize, b: u16, q: u16, r: u16
 }
 
 // Stores the first n bytes of `tree` as the session's tree, and its row r as done.
-pub fn put_reply(state: &mut [u8], slot: usize, r: u16, tree: &[u8], n: u16)
+fn put_reply(state: &mut [u8], slot: usize, r: u16, tree: &[u8], n: u16)
     requires { ⌜ (slot + slotSize ≤ length (now state)) × (r < 256) × (n ≤ treeRoom) × (n ≤ length (now tree)) ⌝ }
     ensures { λ _. ⌜ PutsReply (now (state .entry)) slot r (now (tree .entry)) n (now (state .exit)) ⌝ }
 {
@@ -57,27 +64,39 @@ pub fn put_reply(state: &mut [u8], slot: usize, r: u16, tree: &[u8], n: u16)
     progress::put_row(state, slot, r, Progress::Done);
 }
 
-// The waiting row r of the session in the slot takes the message as its reply, at the path of P row `path`; 18 where the tree would pass its
-// limits.
+// The row that replies is done.
+fn settle(state: &mut [u8], from: Sender)
+    requires { ⌜ SenderInside (length (now state)) from ⌝ }
+    ensures { λ _. ⌜ now (state .exit) ≡ settled (now (state .entry)) from ⌝ }
+{
+    match from {
+        Sender::Outsider => {}
+        Sender::Row(at, r) => {
+            progress::put_row(state, at, r, Progress::Done);
+        }
+    }
+}
+
+// The waiting row r of the session in the slot takes the message as its reply, at the path of P row `path`, and the row that replies is done; 18
+// where the tree would pass its limits.
 pub fn take_reply(
     file: &[u8],
     state: &mut [u8],
+    from: Sender,
     slot: usize,
     r: u16,
     path: u16,
     message: &[u8],
 ) -> Outcome
-    requires { ⌜ (slot + slotSize ≤ length (now state)) × (r < 256) ⌝ }
-    ensures { λ o. ⌜ TakesReply (now (file .entry)) (now (state .entry)) slot r path (now (message .entry)) (now (state .exit)) o ⌝ }
+    requires { ⌜ SenderInside (length (now state)) from × (slot + slotSize ≤ length (now state)) × (r < 256) ⌝ }
+    ensures { λ o. ⌜ TakesReply (now (file .entry)) (now (state .entry)) from slot r path (now (message .entry)) (now (state .exit)) o ⌝ }
 {
     let mut tree = [0u8; 2304];
-    let ids = rows::path_row(file, path);
-    let Change::Kept(n) = session_trees::replace(&mut tree, state, slot, ids, message) else {
+    let x = session_trees::replace_at(&mut tree, file, path, state, slot, message);
+    let Change::Kept(n) = x else {
         return refusal::refused(Refusal::Stuck);
     };
-    if 1024 < n {
-        return refusal::refused(Refusal::Stuck);
-    }
+    settle(state, from);
     put_reply(state, slot, r, &tree, n);
     refusal::done(0)
 }

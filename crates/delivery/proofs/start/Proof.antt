@@ -4,10 +4,6 @@ use Rattle.delivery.proofs.start.Statement.{statement}
 use Rattle.delivery.proofs.start.Tie as tie
 use Rattle.delivery.proofs.start.Reads as reads
 use Rattle.delivery.proofs.start.Lts as lts
-use Rattle.delivery.proofs.received.Reads as received-reads
-use Rattle.delivery.proofs.start_by.Reads as start-by-reads
-use Rattle.refusal.proofs.refused.Reads as refused-reads
-use Rattle.rows.proofs.input_of.Reads as input-of-reads
 
 input-of-requires : tie.Need-input-of-requires
 input-of-requires c κs = search needs
@@ -21,17 +17,11 @@ start-by-requires c κs = search needs
 enum-known-p-2 : tie.Need-enum-known-p-2
 enum-known-p-2 c = search needs
 
-received-requires : tie.Need-received-requires
-received-requires c κs = search needs
-
 start-by-requires-2 : tie.Need-start-by-requires-2
 start-by-requires-2 c κs = search needs
 
 enum-told : tie.Need-enum-told
 enum-told c = search needs
-
-refused-requires : tie.Need-refused-requires
-refused-requires c κs = search needs
 
 same-length : tie.Need-same-length
 same-length c = search needs
@@ -56,10 +46,8 @@ start-spec =
     enum-known-p
     start-by-requires
     enum-known-p-2
-    received-requires
     start-by-requires-2
     enum-told
-    refused-requires
     same-length
     returns
     same-length-2

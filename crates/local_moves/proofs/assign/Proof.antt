@@ -6,7 +6,7 @@ use Rattle.local_moves.proofs.assign.Reads as reads
 use Rattle.local_moves.proofs.assign.Lts as lts
 use Rattle.evaluation.proofs.evaluate.Reads as evaluate-reads
 use Rattle.local_moves.proofs.assign_value.Reads as assign-value-reads
-use Rattle.local_moves.proofs.is_undone.Reads as is-undone-reads
+use Rattle.progress.proofs.is_undone.Reads as is-undone-reads
 use Rattle.local_moves.proofs.not_allowed.Reads as not-allowed-reads
 use Rattle.refusal.proofs.refused.Reads as refused-reads
 use Rattle.slots.proofs.tree_of.Reads as tree-of-reads

@@ -5,7 +5,7 @@ use Rattle.local_moves.proofs.decide.Tie as tie
 use Rattle.local_moves.proofs.decide.Reads as reads
 use Rattle.local_moves.proofs.decide.Lts as lts
 use Rattle.local_moves.proofs.condition_at.Reads as condition-at-reads
-use Rattle.local_moves.proofs.is_undone.Reads as is-undone-reads
+use Rattle.progress.proofs.is_undone.Reads as is-undone-reads
 use Rattle.local_moves.proofs.not_allowed.Reads as not-allowed-reads
 use Rattle.local_moves.proofs.settle.Reads as settle-reads
 use Rattle.refusal.proofs.refused.Reads as refused-reads

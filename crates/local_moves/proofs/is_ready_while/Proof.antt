@@ -28,12 +28,6 @@ is-done-requires c κs = search needs
 enum-told-5 : tie.Need-enum-told-5
 enum-told-5 c = search needs
 
-enum-told-6 : tie.Need-enum-told-6
-enum-told-6 c = search needs
-
-enum-told-7 : tie.Need-enum-told-7
-enum-told-7 c = search needs
-
 returns : tie.Need-returns
 returns c = search ready-laws depth 12
 
@@ -49,12 +43,6 @@ returns-4 c = search ready-laws depth 12
 returns-5 : tie.Need-returns-5
 returns-5 c = search ready-laws depth 12
 
-returns-6 : tie.Need-returns-6
-returns-6 c = search ready-laws depth 12
-
-returns-7 : tie.Need-returns-7
-returns-7 c = search ready-laws depth 12
-
 pub is-ready-while-spec : {M : Type 1} → statement M
 is-ready-while-spec =
     tie.close
@@ -66,12 +54,8 @@ is-ready-while-spec =
     enum-told-4
     is-done-requires
     enum-told-5
-    enum-told-6
-    enum-told-7
     returns
     returns-2
     returns-3
     returns-4
-    returns-5
-    returns-6
-    returns-7)
+    returns-5)

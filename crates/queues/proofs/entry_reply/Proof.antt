@@ -4,7 +4,7 @@ use Rattle.queues.proofs.entry_reply.Statement.{statement}
 use Rattle.queues.proofs.entry_reply.Tie as tie
 use Rattle.queues.proofs.entry_reply.Reads as reads
 use Rattle.queues.proofs.entry_reply.Lts as lts
-use Rattle.queues.proofs.reply_at.Reads as reply-at-reads
+use Rattle.destinations.proofs.read_reply.Reads as read-reply-reads
 use Rattle.state.proofs.entry_start.Reads as entry-start-reads
 use Rattle.wire.proofs.byte_at.Reads as byte-at-reads
 
@@ -17,11 +17,11 @@ add-byte-at c = search needs
 byte-at-requires : tie.Need-byte-at-requires
 byte-at-requires c κs = search needs
 
-add-reply-at : tie.Need-add-reply-at
-add-reply-at c = search needs
+add-read-reply : tie.Need-add-read-reply
+add-read-reply c = search needs
 
-reply-at-requires : tie.Need-reply-at-requires
-reply-at-requires c κs = search needs
+read-reply-requires : tie.Need-read-reply-requires
+read-reply-requires c κs = search needs
 
 returns : tie.Need-returns
 returns c = search (entry-reply-goes, needs) depth 12
@@ -33,6 +33,6 @@ entry-reply-spec =
     entry-start-requires
     add-byte-at
     byte-at-requires
-    add-reply-at
-    reply-at-requires
+    add-read-reply
+    read-reply-requires
     returns)

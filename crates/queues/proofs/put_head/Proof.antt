@@ -4,10 +4,10 @@ use Rattle.queues.proofs.put_head.Statement.{statement}
 use Rattle.queues.proofs.put_head.Tie as tie
 use Rattle.queues.proofs.put_head.Reads as reads
 use Rattle.queues.proofs.put_head.Lts as lts
+use Rattle.destinations.proofs.reply_kind.Reads as reply-kind-reads
+use Rattle.destinations.proofs.write_reply.Reads as write-reply-reads
 use Rattle.queues.proofs.put.Reads as put-reads
 use Rattle.queues.proofs.put_number.Reads as put-number-reads
-use Rattle.queues.proofs.put_reply.Reads as put-reply-reads
-use Rattle.queues.proofs.reply_kind.Reads as reply-kind-reads
 
 add-put : tie.Need-add-put
 add-put c = search needs
@@ -33,11 +33,11 @@ add-put-number c = search needs
 put-number-requires : tie.Need-put-number-requires
 put-number-requires c κs = search needs
 
-add-put-reply : tie.Need-add-put-reply
-add-put-reply c = search needs
+add-write-reply : tie.Need-add-write-reply
+add-write-reply c = search needs
 
-put-reply-requires : tie.Need-put-reply-requires
-put-reply-requires c κs = search needs
+write-reply-requires : tie.Need-write-reply-requires
+write-reply-requires c κs = search needs
 
 same-length : tie.Need-same-length
 same-length c = search needs
@@ -57,7 +57,7 @@ put-head-spec =
     put-requires-2
     add-put-number
     put-number-requires
-    add-put-reply
-    put-reply-requires
+    add-write-reply
+    write-reply-requires
     same-length
     returns)

@@ -6,7 +6,7 @@ use Rattle.receive_moves.proofs.receive_input.Tie as tie
 use Rattle.receive_moves.proofs.receive_input.Reads as reads
 use Rattle.receive_moves.proofs.receive_input.Lts as lts
 use Rattle.operations.proofs.permits.Reads as permits-reads
-use Rattle.receive_moves.proofs.is_undone.Reads as is-undone-reads
+use Rattle.progress.proofs.is_undone.Reads as is-undone-reads
 use Rattle.receive_moves.proofs.progress_after.Reads as progress-after-reads
 use Rattle.receive_moves.proofs.store.Reads as store-reads
 use Rattle.receive_moves.proofs.take.Reads as take-reads

@@ -1,4 +1,5 @@
 use native.Mathlib.Omega.{arith}
+use Rattle.moving.specs.MadeLaws.{slot-inside}
 use Rattle.reply_moves.proofs.AnswerLaws.{move-nothing, move-not-allowed, move-outside, move-inside, move-not-received, replying-small}
 use borrow.Author.Needs.{needs}
 use Rattle.reply_moves.proofs.reply_move.Statement.{statement}
@@ -6,7 +7,6 @@ use Rattle.reply_moves.proofs.reply_move.Tie as tie
 use Rattle.reply_moves.proofs.reply_move.Reads as reads
 use Rattle.reply_moves.proofs.reply_move.Lts as lts
 use Rattle.moving.proofs.session_at.Reads as session-at-reads
-use Rattle.moving.specs.MadeLaws.{slot-inside}
 use Rattle.progress.proofs.row_progress.Reads as row-progress-reads
 use Rattle.refusal.proofs.refused.Reads as refused-reads
 use Rattle.reply_moves.proofs.reply_inside.Reads as reply-inside-reads
@@ -31,11 +31,15 @@ same-length c = search needs
 
 returns : tie.Need-returns
 returns c =
-    move-nothing (c .before .before .before .before .before .before .before .before .args .file .now) (c .before .before .before .before .before .before .before .before .args .state .now) (c .before .before .before .before .before .before .before .before .args .out .now) (c .before .before .before .before .before .before .before .before .args .q) (c .before .before .before .before .before .before .before .before .args .n) (c .before .before .before .before .before .before .before .before .args .r) (c .before .before .before .session-at .ensures) (c .before .enum-told .given .1) (c .refused .ensures)
+    let h = c .before .before .before in
+    let a = h .before .before .before .before .before .args in
+    move-nothing (a .file .now) (a .state .now) (a .out .now) (a .q) (a .n) (a .r)
+    (h .session-at .ensures) (c .before .enum-told .given .1) (c .refused .ensures)
 
 replying-at-requires : tie.Need-replying-at-requires
 replying-at-requires c κs =
-    let h = slot-inside (c .before .before .before .before .session-at .ensures) (c .before .before .slot .given .1) in omega (arith, h)
+    let h = slot-inside (c .before .before .before .before .session-at .ensures) (c .before .before .slot .given .1) in
+    omega (arith, h)
 
 enum-known-o : tie.Need-enum-known-o
 enum-known-o c = search needs
@@ -51,22 +55,46 @@ same-length-2 c = search needs
 
 returns-2 : tie.Need-returns-2
 returns-2 c =
-    move-not-allowed (c .before .before .before .before .before .before .before .before .before .before .before .before .before .args .file .now) (c .before .before .before .before .before .before .before .before .before .before .before .before .before .args .state .now) (c .before .before .before .before .before .before .before .before .before .before .before .before .before .args .out .now) (c .before .before .before .before .before .before .before .before .before .before .before .before .before .args .q) (c .before .before .before .before .before .before .before .before .before .before .before .before .before .args .n) (c .before .before .before .before .before .before .before .before .before .before .before .before .before .args .r) (c .before .before .before .before .before .before .before .before .session-at .ensures) (c .before .before .before .before .before .before .slot .given .1) (c .before .before .before .replying-at .ensures) (c .before .enum-told2 .given .1) (c .refused2 .ensures)
+    let h = c .before .before .before .before .before .before .before .before in
+    let a = h .before .before .before .before .before .args in
+    move-not-allowed (a .file .now) (a .state .now) (a .out .now) (a .q) (a .n) (a .r)
+    (h .session-at .ensures) (c .before .before .before .before .before .before .slot .given .1) (c .before .before .before .replying-at .ensures) (c .before .enum-told2 .given .1) (c .refused2 .ensures)
 
 row-progress-requires : tie.Need-row-progress-requires
 row-progress-requires c κs =
-    let h = slot-inside (c .before .before .before .before .before .before .before .before .before .session-at .ensures) (c .before .before .before .before .before .before .before .slot .given .1) in omega (arith, h)
+    let h = slot-inside (c .before .before .before .before .before .before .before .before .before .session-at .ensures) (c .before .before .before .before .before .before .before .slot .given .1) in
+    omega (arith, h)
 
-enum-known-number : tie.Need-enum-known-number
-enum-known-number c = search needs
+enum-known-d : tie.Need-enum-known-d
+enum-known-d c = search needs
+
+refused-requires-3 : tie.Need-refused-requires-3
+refused-requires-3 c κs = search needs
+
+same-length-3 : tie.Need-same-length-3
+same-length-3 c = search needs
+
+returns-3 : tie.Need-returns-3
+returns-3 c =
+    let p = c .before .before in
+    let y = p .before .before .before .before .before in
+    let h = y .before .before .before .before .before in
+    let a = h .before .before .before .before .before .args in
+    move-not-received (a .file .now) (a .state .now) (a .out .now) (a .q) (a .n) (a .r)
+    (h .session-at .ensures) (y .before .before .before .slot .given .1) (y .replying-at .ensures) (p .before .before .before .o .given .1)
+    (p .row-progress .result) (p .row-progress .ensures) (c .before .match3 .keys2) (c .refused3 .ensures)
+
+enum-known-d-2 : tie.Need-enum-known-d-2
+enum-known-d-2 c = search needs
 
 reply-outside-requires : tie.Need-reply-outside-requires
 reply-outside-requires c κs =
-    let h = slot-inside (c .before .before .before .before .before .before .before .before .before .before .before .before .before .before .before .session-at .ensures) (c .before .before .before .before .before .before .before .before .before .before .before .before .before .slot .given .1) in
-    (omega (arith, h), replying-small (c .before .before .before .before .before .before .before .before .before .before .replying-at .ensures) (c .before .before .before .before .before .before .before .before .o .given .1))
+    let y = c .before .before .before .before .before .before .before .before .before .before .before .before .before in
+    let h = slot-inside (y .before .before .before .before .before .session-at .ensures) (y .before .before .before .slot .given .1) in
+    (omega (arith, h), replying-small (y .replying-at .ensures) (c .before .before .before .before .before .before .before .before .before .before .before .o .given .1))
 
-enum-known-q2 : tie.Need-enum-known-q2
-enum-known-q2 c = search needs
+enum-known-d-3 : tie.Need-enum-known-d-3
+enum-known-d-3 c = search needs
 
 byte-to-u16-requires : tie.Need-byte-to-u16-requires
 byte-to-u16-requires c κs = search needs
@@ -76,38 +104,39 @@ byte-to-u16-requires-2 c κs = search needs
 
 reply-inside-requires : tie.Need-reply-inside-requires
 reply-inside-requires c κs =
-    let h = slot-inside (c .before .before .before .before .before .before .before .before .before .before .before .before .before .before .before .before .session-at .ensures) (c .before .before .before .before .before .before .before .before .before .before .before .before .before .before .slot .given .1) in
-    (search needs, h, replying-small (c .before .before .before .before .before .before .before .before .before .before .before .replying-at .ensures) (c .before .before .before .before .before .before .before .before .before .o .given .1))
-
-refused-requires-3 : tie.Need-refused-requires-3
-refused-requires-3 c κs = search needs
-
-same-length-3 : tie.Need-same-length-3
-same-length-3 c = search needs
+    let y = c .before .before .before .before .before .before .before .before .before .before .before .before .before .before in
+    let h = slot-inside (y .before .before .before .before .before .session-at .ensures) (y .before .before .before .slot .given .1) in
+    (search needs, h, replying-small (y .replying-at .ensures) (c .before .before .before .before .before .before .before .before .before .before .before .before .o .given .1))
 
 same-length-4 : tie.Need-same-length-4
 same-length-4 c = search needs
-
-returns-3 : tie.Need-returns-3
-returns-3 c =
-    move-outside (c .before .before .before .before .before .before .before .before .before .before .before .before .before .before .before .before .before .before .before .before .before .before .before .before .before .args .file .now) (c .before .before .before .before .before .before .before .before .before .before .before .before .before .before .before .before .before .before .before .before .before .before .before .before .before .args .state .now) (c .before .before .before .before .before .before .before .before .before .before .before .before .before .before .before .before .before .before .before .before .before .before .before .before .before .args .out .now) (c .before .before .before .before .before .before .before .before .before .before .before .before .before .before .before .before .before .before .before .before .before .before .before .before .before .args .q) (c .before .before .before .before .before .before .before .before .before .before .before .before .before .before .before .before .before .before .before .before .before .before .before .before .before .args .n) (c .before .before .before .before .before .before .before .before .before .before .before .before .before .before .before .before .before .before .before .before .before .before .before .before .before .args .r) (c .before .before .before .before .before .before .before .before .before .before .before .before .before .before .before .before .before .before .before .before .session-at .ensures) (c .before .before .before .before .before .before .before .before .before .before .before .before .before .before .before .before .before .before .slot .given .1) (c .before .before .before .before .before .before .before .before .before .before .before .before .before .before .before .replying-at .ensures) (c .before .before .before .before .before .before .before .before .before .before .before .before .before .o .given .1)
-    _ (c .before .before .before .before .before .before .before .before .before .before .row-progress .ensures) (c .before .before .before .before .before .before .before .before .number .given .1) (c .before .before .before .before .reply-outside .ensures)
 
 same-length-5 : tie.Need-same-length-5
 same-length-5 c = search needs
 
 returns-4 : tie.Need-returns-4
 returns-4 c =
-    move-inside (c .before .before .before .before .before .before .before .before .before .before .before .before .before .before .before .before .before .before .before .before .before .before .before .before .args .file .now) (c .before .before .before .before .before .before .before .before .before .before .before .before .before .before .before .before .before .before .before .before .before .before .before .before .args .state .now) (c .before .before .before .before .before .before .before .before .before .before .before .before .before .before .before .before .before .before .before .before .before .before .before .before .args .out .now) (c .before .before .before .before .before .before .before .before .before .before .before .before .before .before .before .before .before .before .before .before .before .before .before .before .args .q) (c .before .before .before .before .before .before .before .before .before .before .before .before .before .before .before .before .before .before .before .before .before .before .before .before .args .n) (c .before .before .before .before .before .before .before .before .before .before .before .before .before .before .before .before .before .before .before .before .before .before .before .before .args .r) (c .before .before .before .before .before .before .before .before .before .before .before .before .before .before .before .before .before .before .before .session-at .ensures) (c .before .before .before .before .before .before .before .before .before .before .before .before .before .before .before .before .before .slot .given .1) (c .before .before .before .before .before .before .before .before .before .before .before .before .before .before .replying-at .ensures) (c .before .before .before .before .before .before .before .before .before .before .before .before .o .given .1)
-    _ (c .before .before .before .before .before .before .before .before .before .row-progress .ensures) (c .before .before .before .before .before .before .before .q2 .given .1) (c .before .before .before .before .byte-to-u16 .ensures .0) (c .before .before .before .byte-to-u162 .ensures .0) (c .before .before .reply-inside .ensures)
+    let p = c .before .before .before .before .before .before .before .before .before .before .before .before .before in
+    let y = p .before .before .before .before .before in
+    let h = y .before .before .before .before .before in
+    let a = h .before .before .before .before .before .args in
+    move-outside (a .file .now) (a .state .now) (a .out .now) (a .q) (a .n) (a .r)
+    (h .session-at .ensures) (y .before .before .before .slot .given .1) (y .replying-at .ensures) (p .before .before .before .o .given .1)
+    _ (p .row-progress .ensures) (c .before .before .before .before .before .before .before .before .before .before .before .d .given .1) (c .before .before .before .before .before .before .before .before .d2 .given .1) (c .before .before .before .before .reply-outside .ensures)
 
 same-length-6 : tie.Need-same-length-6
 same-length-6 c = search needs
 
 returns-5 : tie.Need-returns-5
 returns-5 c =
-    move-not-received (c .before .before .before .before .before .before .before .before .before .before .before .before .before .before .before .before .before .args .file .now) (c .before .before .before .before .before .before .before .before .before .before .before .before .before .before .before .before .before .args .state .now) (c .before .before .before .before .before .before .before .before .before .before .before .before .before .before .before .before .before .args .out .now) (c .before .before .before .before .before .before .before .before .before .before .before .before .before .before .before .before .before .args .q) (c .before .before .before .before .before .before .before .before .before .before .before .before .before .before .before .before .before .args .n) (c .before .before .before .before .before .before .before .before .before .before .before .before .before .before .before .before .before .args .r) (c .before .before .before .before .before .before .before .before .before .before .before .before .session-at .ensures) (c .before .before .before .before .before .before .before .before .before .before .slot .given .1) (c .before .before .before .before .before .before .before .replying-at .ensures) (c .before .before .before .before .before .o .given .1)
-    (c .before .before .row-progress .result) (c .before .before .row-progress .ensures) (c .before .match3 .keys3) (c .refused3 .ensures)
+    let p = c .before .before .before .before .before .before .before .before .before .before .before .before in
+    let y = p .before .before .before .before .before in
+    let h = y .before .before .before .before .before in
+    let a = h .before .before .before .before .before .args in
+    move-inside (a .file .now) (a .state .now) (a .out .now) (a .q) (a .n) (a .r)
+    (h .session-at .ensures) (y .before .before .before .slot .given .1) (y .replying-at .ensures) (p .before .before .before .o .given .1)
+    _ (p .row-progress .ensures) (c .before .before .before .before .before .before .before .before .before .before .d .given .1) (c .before .before .before .before .before .before .before .d3 .given .1) (c .before .before .before .before .byte-to-u16 .ensures .0) (c .before .before .before .byte-to-u162 .ensures .0)
+    (c .before .before .reply-inside .ensures)
 
 pub reply-move-spec : {M : Type 1} → statement M
 reply-move-spec =
@@ -126,16 +155,17 @@ reply-move-spec =
     same-length-2
     returns-2
     row-progress-requires
-    enum-known-number
+    enum-known-d
+    refused-requires-3
+    same-length-3
+    returns-3
+    enum-known-d-2
     reply-outside-requires
-    enum-known-q2
+    enum-known-d-3
     byte-to-u16-requires
     byte-to-u16-requires-2
     reply-inside-requires
-    refused-requires-3
-    same-length-3
     same-length-4
-    returns-3
     same-length-5
     returns-4
     same-length-6

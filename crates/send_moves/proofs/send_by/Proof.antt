@@ -1,5 +1,5 @@
 use Rattle.progress.specs.Meaning.{meaning}
-use Rattle.queues.specs.Queue.{replyOf}
+use Rattle.destinations.specs.Meaning.{replyOf}
 use Rattle.send_moves.proofs.MakingLaws.{by-outside, by-nothing, by-inside}
 use borrow.Author.Needs.{needs}
 use Rattle.send_moves.proofs.send_by.Statement.{statement}

@@ -4,12 +4,12 @@ use Rattle.state_shape.proofs.entry_suits.Statement.{statement}
 use Rattle.state_shape.proofs.entry_suits.Tie as tie
 use Rattle.state_shape.proofs.entry_suits.Reads as reads
 use Rattle.state_shape.proofs.entry_suits.Lts as lts
+use Rattle.destinations.proofs.read_reply.Reads as read-reply-reads
 use Rattle.layout.proofs.operation_count.Reads as operation-count-reads
 use Rattle.rows.proofs.operation_direction.Reads as operation-direction-reads
 use Rattle.rows.proofs.operation_service.Reads as operation-service-reads
 use Rattle.rows.proofs.operation_two_way.Reads as operation-two-way-reads
-use Rattle.state_rows.proofs.is_destination.Reads as is-destination-reads
-use Rattle.state_shape.proofs.is_nobody.Reads as is-nobody-reads
+use Rattle.state_shape.proofs.reply_suits.Reads as reply-suits-reads
 use Rattle.wire.proofs.byte_at.Reads as byte-at-reads
 
 operation-count-requires : tie.Need-operation-count-requires
@@ -36,26 +36,20 @@ add-byte-at c = search needs
 byte-at-requires : tie.Need-byte-at-requires
 byte-at-requires c κs = search needs
 
+add-read-reply : tie.Need-add-read-reply
+add-read-reply c = search needs
+
+read-reply-requires : tie.Need-read-reply-requires
+read-reply-requires c κs = search needs
+
 operation-two-way-requires : tie.Need-operation-two-way-requires
 operation-two-way-requires c κs = search needs
 
-add-is-destination : tie.Need-add-is-destination
-add-is-destination c = search needs
-
-is-destination-requires : tie.Need-is-destination-requires
-is-destination-requires c κs = search needs
+reply-suits-requires : tie.Need-reply-suits-requires
+reply-suits-requires c κs = search needs
 
 returns-4 : tie.Need-returns-4
 returns-4 c = search entry-laws depth 12
-
-add-is-nobody : tie.Need-add-is-nobody
-add-is-nobody c = search needs
-
-is-nobody-requires : tie.Need-is-nobody-requires
-is-nobody-requires c κs = search needs
-
-returns-5 : tie.Need-returns-5
-returns-5 c = search entry-laws depth 12
 
 pub entry-suits-spec : {M : Type 1} → statement M
 entry-suits-spec =
@@ -69,10 +63,8 @@ entry-suits-spec =
     returns-3
     add-byte-at
     byte-at-requires
+    add-read-reply
+    read-reply-requires
     operation-two-way-requires
-    add-is-destination
-    is-destination-requires
-    returns-4
-    add-is-nobody
-    is-nobody-requires
-    returns-5)
+    reply-suits-requires
+    returns-4)

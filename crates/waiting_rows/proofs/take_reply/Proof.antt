@@ -1,26 +1,22 @@
-use Rattle.waiting_rows.proofs.ReplyLaws.{reply-laws}
+use native.Mathlib.Omega.{arith}
+use mathlib.Core.Path.{ap, subst, _∙_}
+use lib.ListN.{length}
+use Rattle.session_trees.specs.declared.Change.{Change}
+use Rattle.waiting_rows.proofs.ReplyLaws.{settled-length, kept-room, reply-large, reply-taken}
 use borrow.Author.Needs.{needs}
 use Rattle.waiting_rows.proofs.take_reply.Statement.{statement}
 use Rattle.waiting_rows.proofs.take_reply.Tie as tie
 use Rattle.waiting_rows.proofs.take_reply.Reads as reads
 use Rattle.waiting_rows.proofs.take_reply.Lts as lts
-use Rattle.refusal.proofs.done.Reads as done-reads
-use Rattle.refusal.proofs.refused.Reads as refused-reads
-use Rattle.rows.proofs.path_row.Reads as path-row-reads
-use Rattle.session_trees.proofs.replace.Reads as replace-reads
-use Rattle.waiting_rows.proofs.put_reply.Reads as put-reply-reads
 
-path-row-requires : tie.Need-path-row-requires
-path-row-requires c κs = search needs
+slice-aggregate-replace-at : tie.Need-slice-aggregate-replace-at
+slice-aggregate-replace-at c = search needs
 
-slice-aggregate-replace : tie.Need-slice-aggregate-replace
-slice-aggregate-replace c = search needs
+replace-at-requires : tie.Need-replace-at-requires
+replace-at-requires c κs = search needs
 
-replace-requires : tie.Need-replace-requires
-replace-requires c κs = search needs
-
-enum-known-n : tie.Need-enum-known-n
-enum-known-n c = search needs
+enum-known-x : tie.Need-enum-known-x
+enum-known-x c = search needs
 
 enum-told : tie.Need-enum-told
 enum-told c = search needs
@@ -32,49 +28,54 @@ same-length : tie.Need-same-length
 same-length c = search needs
 
 returns : tie.Need-returns
-returns c = search (reply-laws, needs) depth 12
+returns c =
+    let p1 = c .before .before .before .before .before .before .before .before in
+    let a = p1 .before .before .args in
+    reply-large (a .file .now) (a .state .now) (a .from) (a .slot) (a .r) (a .path) (a .message .now) (c .before .before .before .before .replace-at .ensures) (c .before .enum-told .given .1) (c .refused .ensures)
 
-refused-requires-2 : tie.Need-refused-requires-2
-refused-requires-2 c κs = search needs
-
-same-length-2 : tie.Need-same-length-2
-same-length-2 c = search needs
-
-returns-2 : tie.Need-returns-2
-returns-2 c = search (reply-laws, needs) depth 12
+settle-requires : tie.Need-settle-requires
+settle-requires c κs = search needs
 
 slice-aggregate-put-reply : tie.Need-slice-aggregate-put-reply
 slice-aggregate-put-reply c = search needs
 
 put-reply-requires : tie.Need-put-reply-requires
-put-reply-requires c κs = search needs
+put-reply-requires c κs =
+    let p1 = c .before .before .before .before .before .before .before .before in
+    let p2 = p1 .before .before .before .before .before .before .before .before in
+    let a = p2 in
+    let l = ap length (c .before .before .before .before .settle .ensures) ∙ settled-length (a .args .state .now) (a .args .from) (a .pre .0) in
+    let k = kept-room (p1 .before .before .replace-at .ensures) (c .before .before .before .before .before .before .before .x .given .1) in
+    (omega (arith, l, a .pre .1), a .pre .2, k, omega (arith, k))
 
 done-requires : tie.Need-done-requires
 done-requires c κs = search needs
 
-same-length-3 : tie.Need-same-length-3
-same-length-3 c = search needs
+same-length-2 : tie.Need-same-length-2
+same-length-2 c = search needs
 
-returns-3 : tie.Need-returns-3
-returns-3 c = search (reply-laws, needs) depth 12
+returns-2 : tie.Need-returns-2
+returns-2 c =
+    let p1 = c .before .before .before .before .before .before .before .before in
+    let p2 = p1 .before .before .before .before .before .before .before .before in
+    let a = p2 .before .before .before .before .args in
+    reply-taken (a .file .now) (a .state .now) (a .from) (a .slot) (a .r) (a .path) (a .message .now) (p1 .before .before .before .before .before .before .replace-at .ensures) (p1 .before .before .before .x .given .1)
+    (p2 .before .before .before .before .pre .0) (p1 .settle .ensures) (c .before .before .before .put-reply .ensures) (c .done .ensures)
 
 pub take-reply-spec : {M : Type 1} → statement M
 take-reply-spec =
     tie.close
     (tie.spec
-    path-row-requires
-    slice-aggregate-replace
-    replace-requires
-    enum-known-n
+    slice-aggregate-replace-at
+    replace-at-requires
+    enum-known-x
     enum-told
     refused-requires
     same-length
     returns
-    refused-requires-2
-    same-length-2
-    returns-2
+    settle-requires
     slice-aggregate-put-reply
     put-reply-requires
     done-requires
-    same-length-3
-    returns-3)
+    same-length-2
+    returns-2)
