@@ -1,8 +1,8 @@
 // A measurement, to be timed from outside. The first argument is how many times each network file that the others name is checked; prints
 // for each file its name and the sum of the refusals' numbers and places and of the environments' bytes. Before each time the last byte of
 // D changes, so that no answer stands for another.
-use checker::Answer;
-use checker::Pair;
+use check_network::Pair;
+use controller::Answer;
 use libc::STDOUT_FILENO;
 use refusal::Verdict;
 
@@ -46,7 +46,7 @@ fn repeat(s: &mut [u8], times: u32) -> u64 {
     let mut i: u32 = 0;
     while i < times {
         touch(s, (i % 2) as u8);
-        sum = std::num::wrapping_add_u64(sum, number(checker::check(s)));
+        sum = std::num::wrapping_add_u64(sum, number(controller::check(s)));
         i += 1;
     }
     sum

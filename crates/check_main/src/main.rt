@@ -11,6 +11,6 @@ fn main() {
     }
     let n = file.len;
     let mut ok = true;
-    let status = report::answer(&mut ok, checker::check(&buf[..n]));
+    let status = report::answer(&mut ok, controller::check(&buf[..n]));
     console::finish(ok, status);
 }

@@ -23,7 +23,7 @@ fn repeat(s: &mut [u8]) -> u64 {
     let mut i: u32 = 0;
     while i < 1000 {
         touch(s, (i % 2) as u8);
-        sum = std::num::wrapping_add_u64(sum, number(form::form_of(s)));
+        sum = std::num::wrapping_add_u64(sum, number(network_form::form_of(s)));
         i += 1;
     }
     sum

@@ -11,7 +11,7 @@ fn print(number: u64, place: usize) {
 }
 
 fn answer(s: &[u8]) {
-    let v = form::form_of(s);
+    let v = network_form::form_of(s);
     match v {
         Verdict::Done => print(0, 0),
         Verdict::Refused(why) => print(refusal::number_of(why) as u64, refusal::place_of(why)),

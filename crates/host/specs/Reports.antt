@@ -1,16 +1,25 @@
 -- What C is given of an outcome, and of a move on a file, a state, an out buffer and outside bytes. 01: "A move's result is a number and the
--- bytes written out."
+-- bytes written out." Of a move besides: property 3 at this call.
 use mathlib.Core.Path.{_≡_}
 use mathlib.Core.List.{List}
 use Prim.Native.Nat.{ℕ}
 use Rattle.refusal.specs.declared.Outcome.{Outcome}
-use Rattle.refusal.specs.Refusal.{number, place}
-use Rattle.moves.specs.Step.{Step}
+use Rattle.refusal.specs.Refusal.{outcomeNumber, outcomePlace}
+use Rattle.move_rules.specs.Moves.{Move}
+use Rattle.move_rules.specs.Step.{Step, step}
+use Rattle.soundness.specs.Calls.{SoundCall}
 
 -- Number and place.
 abbrev pub Says : Outcome → ℕ → ℕ → Type 0
-Says o n at = (n ≡ number o) × (at ≡ place o)
+Says o n at = (n ≡ outcomeNumber o) × (at ≡ outcomePlace o)
 
 -- The same of a move, with the count of the bytes written out and what it leaves in the state and the out buffer.
 abbrev pub Leaves : Step → ℕ → ℕ → ℕ → List ℕ → List ℕ → Type 0
-Leaves S n bytes at state out = Says (S .outcome) n at × (bytes ≡ S .outcome .bytes) × (state ≡ S .state) × (out ≡ S .out)
+Leaves S n bytes at state out =
+    Says (S .outcome) n at × (bytes ≡ S .outcome .bytes) × (state ≡ S .state) × (out ≡ S .out)
+
+-- A move by the definition, and that it keeps what property 3 promises.
+abbrev pub RunsCall : List ℕ → List ℕ → List ℕ → Move → List ℕ → ℕ → ℕ → ℕ → List ℕ → List ℕ → Type 0
+RunsCall file s out m outside n bytes at s′ out′ =
+    Leaves (step file s out m outside) n bytes at s′ out′
+    × SoundCall file s (record { move = m; bytes = outside; out = out }) n s′

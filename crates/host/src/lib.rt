@@ -2,17 +2,16 @@
 // include/pokhveti.h has the declarations.
 ghost use mathlib.Core.Path.{_≡_};
 ghost use mathlib.Core.List.{[], _∷_};
-ghost use Rattle.checking.specs.FileChecker.{checkFile};
-ghost use Rattle.listing.specs.Listed.{listedNumber, listedCount, listedBytes};
-ghost use Rattle.part_span.specs.Span.{spanOf};
-ghost use Rattle.typing.specs.Result.{refusalNumber, refusalPlace};
-ghost use Rattle.moves.specs.Fresh.{fresh};
-ghost use Rattle.moves.specs.Moves as definition;
-ghost use Rattle.moves.specs.Moves.{local, receive, send, reply, outsideReply, close};
-ghost use Rattle.moves.specs.Step.{step};
-ghost use Rattle.host.specs.Reports.{Says, Leaves};
-use refusal::Outcome;
-use stepping::Move;
+ghost use Rattle.check_files.specs.FileChecker.{checkFile};
+ghost use Rattle.check_listing.specs.Listed.{listedNumber, listedCount, listedBytes};
+ghost use Rattle.tree_part.specs.Span.{spanOf};
+ghost use Rattle.check_typing.specs.Result.{refusalNumber, refusalPlace};
+ghost use Rattle.move_rules.specs.Fresh.{fresh};
+ghost use Rattle.move_rules.specs.Moves as definition;
+ghost use Rattle.move_rules.specs.Moves.{local, receive, send, reply, outerReply, close};
+ghost use Rattle.host.specs.Reports.{Says, RunsCall};
+use controller::Move;
+use controller::Outcome;
 
 // Checks a network file: 0 for an accepted one, otherwise the refusal's number; the place is written to `place`.
 #[no_mangle]
@@ -20,7 +19,7 @@ pub extern "C" fn pokhveti_check(file: &[u8], place: &mut usize) -> u32
     ensures { λ n. ⌜ n ≡ refusalNumber (checkFile (now (file .entry))) ⌝ }
     ensures { λ _. ⌜ now (place .exit) ≡ refusalPlace (checkFile (now (file .entry))) ⌝ }
 {
-    let x = checker::check(file);
+    let x = controller::check(file);
     let v = x.verdict;
     let answer = Outcome {
         bytes: 0,
@@ -38,7 +37,7 @@ pub extern "C" fn pokhveti_environments(file: &[u8], nodes: &mut [u8], count: &m
     ensures { λ _. ⌜ now (count .exit) ≡ listedCount (checkFile (now (file .entry))) ⌝ }
     ensures { λ _. ⌜ now (nodes .exit) ≡ listedBytes (checkFile (now (file .entry))) (now (nodes .entry)) ⌝ }
 {
-    let answer = listing::list(file, nodes);
+    let answer = controller::environments(file, nodes);
     *count = answer.count;
     answer.number as u32
 }
@@ -56,7 +55,7 @@ pub extern "C" fn pokhveti_part(
     ensures { λ n. ⌜ n ≡ spanOf (now (message .entry)) (first ∷ second ∷ third ∷ fourth ∷ []) .len ⌝ }
     ensures { λ _. ⌜ now (start .exit) ≡ spanOf (now (message .entry)) (first ∷ second ∷ third ∷ fourth ∷ []) .start ⌝ }
 {
-    let span = part_span::span_of(message, [first, second, third, fourth]);
+    let span = controller::part_span(message, [first, second, third, fourth]);
     *start = span.start;
     span.len
 }
@@ -67,7 +66,7 @@ pub extern "C" fn pokhveti_fresh(file: &[u8], state: &mut [u8], place: &mut usiz
     ensures { λ n. ⌜ Says (fresh (now (file .entry)) (now (state .entry)) .outcome) n (now (place .exit)) ⌝ }
     ensures { λ _. ⌜ now (state .exit) ≡ fresh (now (file .entry)) (now (state .entry)) .state ⌝ }
 {
-    let answer = fresh_state::fresh(file, state);
+    let answer = controller::fresh(file, state);
     *place = refusal::place(answer);
     refusal::number(answer) as u32
 }
@@ -94,10 +93,10 @@ pub extern "C" fn pokhveti_local(
     bytes: &mut usize,
     place: &mut usize,
 ) -> u32
-    ensures { λ n. ⌜ Leaves (step (now (file .entry)) (now (state .entry)) (now (out .entry)) (local service session row) []) n (now (bytes .exit)) (now (place .exit)) (now (state .exit)) (now (out .exit)) ⌝ }
+    ensures { λ n. ⌜ RunsCall (now (file .entry)) (now (state .entry)) (now (out .entry)) (local service session row) [] n (now (bytes .exit)) (now (place .exit)) (now (state .exit)) (now (out .exit)) ⌝ }
 {
     let m = Move::Local(service, session, row);
-    report(stepping::step(file, state, out, m, &[]), bytes, place)
+    report(controller::step(file, state, out, m, &[]), bytes, place)
 }
 
 // A ready input takes the oldest message of its operation.
@@ -112,10 +111,10 @@ pub extern "C" fn pokhveti_receive(
     bytes: &mut usize,
     place: &mut usize,
 ) -> u32
-    ensures { λ n. ⌜ Leaves (step (now (file .entry)) (now (state .entry)) (now (out .entry)) (receive service session row) []) n (now (bytes .exit)) (now (place .exit)) (now (state .exit)) (now (out .exit)) ⌝ }
+    ensures { λ n. ⌜ RunsCall (now (file .entry)) (now (state .entry)) (now (out .entry)) (receive service session row) [] n (now (bytes .exit)) (now (place .exit)) (now (state .exit)) (now (out .exit)) ⌝ }
 {
     let m = Move::Receive(service, session, row);
-    report(stepping::step(file, state, out, m, &[]), bytes, place)
+    report(controller::step(file, state, out, m, &[]), bytes, place)
 }
 
 // A ready output sends its message to the target session, or out.
@@ -131,10 +130,10 @@ pub extern "C" fn pokhveti_send(
     bytes: &mut usize,
     place: &mut usize,
 ) -> u32
-    ensures { λ n. ⌜ Leaves (step (now (file .entry)) (now (state .entry)) (now (out .entry)) (send service session row target) []) n (now (bytes .exit)) (now (place .exit)) (now (state .exit)) (now (out .exit)) ⌝ }
+    ensures { λ n. ⌜ RunsCall (now (file .entry)) (now (state .entry)) (now (out .entry)) (send service session row target) [] n (now (bytes .exit)) (now (place .exit)) (now (state .exit)) (now (out .exit)) ⌝ }
 {
     let m = Move::Send(service, session, row, target);
-    report(stepping::step(file, state, out, m, &[]), bytes, place)
+    report(controller::step(file, state, out, m, &[]), bytes, place)
 }
 
 // A request-response whose body is done answers.
@@ -149,10 +148,10 @@ pub extern "C" fn pokhveti_reply(
     bytes: &mut usize,
     place: &mut usize,
 ) -> u32
-    ensures { λ n. ⌜ Leaves (step (now (file .entry)) (now (state .entry)) (now (out .entry)) (reply service session row) []) n (now (bytes .exit)) (now (place .exit)) (now (state .exit)) (now (out .exit)) ⌝ }
+    ensures { λ n. ⌜ RunsCall (now (file .entry)) (now (state .entry)) (now (out .entry)) (reply service session row) [] n (now (bytes .exit)) (now (place .exit)) (now (state .exit)) (now (out .exit)) ⌝ }
 {
     let m = Move::Reply(service, session, row);
-    report(stepping::step(file, state, out, m, &[]), bytes, place)
+    report(controller::step(file, state, out, m, &[]), bytes, place)
 }
 
 // A message from outside to the operation of that id.
@@ -169,10 +168,10 @@ pub extern "C" fn pokhveti_outer_message(
     bytes: &mut usize,
     place: &mut usize,
 ) -> u32
-    ensures { λ n. ⌜ Leaves (step (now (file .entry)) (now (state .entry)) (now (out .entry)) (definition.outside service id target number) (now (outside .entry))) n (now (bytes .exit)) (now (place .exit)) (now (state .exit)) (now (out .exit)) ⌝ }
+    ensures { λ n. ⌜ RunsCall (now (file .entry)) (now (state .entry)) (now (out .entry)) (definition.outerMessage service id target number) (now (outside .entry)) n (now (bytes .exit)) (now (place .exit)) (now (state .exit)) (now (out .exit)) ⌝ }
 {
-    let m = Move::Outside(service, id, target, number);
-    report(stepping::step(file, state, out, m, outside), bytes, place)
+    let m = Move::OuterMessage(service, id, target, number);
+    report(controller::step(file, state, out, m, outside), bytes, place)
 }
 
 // A reply from outside to a waiting row.
@@ -188,10 +187,10 @@ pub extern "C" fn pokhveti_outer_reply(
     bytes: &mut usize,
     place: &mut usize,
 ) -> u32
-    ensures { λ n. ⌜ Leaves (step (now (file .entry)) (now (state .entry)) (now (out .entry)) (outsideReply service session row) (now (outside .entry))) n (now (bytes .exit)) (now (place .exit)) (now (state .exit)) (now (out .exit)) ⌝ }
+    ensures { λ n. ⌜ RunsCall (now (file .entry)) (now (state .entry)) (now (out .entry)) (outerReply service session row) (now (outside .entry)) n (now (bytes .exit)) (now (place .exit)) (now (state .exit)) (now (out .exit)) ⌝ }
 {
-    let m = Move::OutsideReply(service, session, row);
-    report(stepping::step(file, state, out, m, outside), bytes, place)
+    let m = Move::OuterReply(service, session, row);
+    report(controller::step(file, state, out, m, outside), bytes, place)
 }
 
 // A done session becomes free.
@@ -205,8 +204,8 @@ pub extern "C" fn pokhveti_close(
     bytes: &mut usize,
     place: &mut usize,
 ) -> u32
-    ensures { λ n. ⌜ Leaves (step (now (file .entry)) (now (state .entry)) (now (out .entry)) (close service session) []) n (now (bytes .exit)) (now (place .exit)) (now (state .exit)) (now (out .exit)) ⌝ }
+    ensures { λ n. ⌜ RunsCall (now (file .entry)) (now (state .entry)) (now (out .entry)) (close service session) [] n (now (bytes .exit)) (now (place .exit)) (now (state .exit)) (now (out .exit)) ⌝ }
 {
     let m = Move::Close(service, session);
-    report(stepping::step(file, state, out, m, &[]), bytes, place)
+    report(controller::step(file, state, out, m, &[]), bytes, place)
 }

@@ -12,7 +12,8 @@ use borrow.Author.Tests.{ltb-true, ltb-false, lt-ltb, leb-true, le-leb}
 use mir.Syntax.{Width}
 use mir.Val.{bits, hbits, toZ, ofZ, SFits}
 use mir.ValLaws.{toZ-pos, toZ-neg, toZ-ofZ, pow-bits}
-use Rattle.integer.specs.Wrap.{modulo, pattern, wrap, fits, moved}
+use Rattle.basics.specs.TestLaws.{agree}
+use Rattle.integer.specs.Wrap.{modulo, pattern, wrap, inWidth, wrappedOnce}
 use Rattle.integer.specs.WrapLaws.{wrap-exact}
 
 abbrev pub P : ℤ → ℕ
@@ -50,11 +51,6 @@ same (negsuc a) (pos b) e = absurd (omega arith)
 same (negsuc a) (negsuc b) e = ap negsuc (omega arith)
 
 -- ---- tests
-
-pub agree : (s t : Bool) → (s ≡ true → t ≡ true) → (t ≡ true → s ≡ true) → s ≡ t
-agree true t f g = sym (f refl)
-agree false true f g = g refl
-agree false false f g = refl
 
 pub at-most : (a b : ℤ) → leZ a b ≡ true → P a + N b ≤ P b + N a
 at-most (pos a) (pos b) e = omega (arith, leb-true a b e)
@@ -95,12 +91,12 @@ module _ (w : Width) where
   within (pos n) h k = record { sfits = omega arith }
   within (negsuc n) h k = record { sfits = omega arith }
 
-  pub fits-true : (z : ℤ) → fits w z ≡ true → SFits w z
-  unfolding fits
+  pub fits-true : (z : ℤ) → inWidth w z ≡ true → SFits w z
+  unfolding inWidth
   fits-true z e = record { sfits = ltb-true _ _ e }
 
-  pub is-fit : (z : ℤ) → SFits w z → fits w z ≡ true
-  unfolding fits
+  pub is-fit : (z : ℤ) → SFits w z → inWidth w z ≡ true
+  unfolding inWidth
   is-fit z f = lt-ltb _ _ (f .sfits)
 
   -- ---- does a + d fit? For d not negative a is at most greatest - d, for d not positive least - d is at most a.
@@ -109,7 +105,7 @@ module _ (w : Width) where
     pub below-fits : N d ≡ 0 → P d ≤ 2 ^ hbits w → SFits w (greatest +ℤ e)
     below-fits n h = let p = bounds a fa in within _ (omega (arith, sum greatest e)) (omega (arith, sum greatest e))
 
-    pub below : N d ≡ 0 → P d ≤ 2 ^ hbits w → leZ a (greatest +ℤ e) ≡ fits w (a +ℤ d)
+    pub below : N d ≡ 0 → P d ≤ 2 ^ hbits w → leZ a (greatest +ℤ e) ≡ inWidth w (a +ℤ d)
     below n h =
         let p = bounds a fa in
         agree _ _
@@ -119,7 +115,7 @@ module _ (w : Width) where
     pub above-fits : P d ≡ 0 → N d ≤ 2 ^ hbits w → SFits w (least +ℤ e)
     above-fits n h = let p = bounds a fa in within _ (omega (arith, sum least e)) (omega (arith, sum least e))
 
-    pub above : P d ≡ 0 → N d ≤ 2 ^ hbits w → leZ (least +ℤ e) a ≡ fits w (a +ℤ d)
+    pub above : P d ≡ 0 → N d ≤ 2 ^ hbits w → leZ (least +ℤ e) a ≡ inWidth w (a +ℤ d)
     above n h =
         let p = bounds a fa in
         agree _ _
@@ -132,7 +128,7 @@ module _ (w : Width) where
     pub fit : SFits w y
     pub is : wrap w z ≡ y
 
-  pub exact : (z : ℤ) → fits w z ≡ true → Wraps z z
+  pub exact : (z : ℤ) → inWidth w z ≡ true → Wraps z z
   exact z e = record { fit = fits-true z e; is = wrap-exact w z (fits-true z e) }
 
   -- from above: y is z less the range
@@ -166,27 +162,27 @@ module _ (w : Width) where
 
   -- ---- a number moved to the other sign
 
-  pub moved-fits : (x : ℤ) → SFits w x → SFits w (moved w x)
-  unfolding moved
+  pub moved-fits : (x : ℤ) → SFits w x → SFits w (wrappedOnce w x)
+  unfolding wrappedOnce
   moved-fits (pos n) f = record { sfits = omega (arith, f .sfits) }
   moved-fits (negsuc n) f = record { sfits = omega (arith, f .sfits) }
 
-  pub moved-down : (x : ℤ) → SFits w x → N x ≡ 0 → x +ℤ least ≡ moved w x
-  unfolding moved
+  pub moved-down : (x : ℤ) → SFits w x → N x ≡ 0 → x +ℤ least ≡ wrappedOnce w x
+  unfolding wrappedOnce
   moved-down (pos n) f h = same _ _ (omega (arith, f .sfits, sum (pos n) least))
   moved-down (negsuc n) f h = absurd (omega arith)
 
-  pub moved-up : (x : ℤ) → SFits w x → P x ≡ 0 → 0 < N x → x -ℤ least ≡ moved w x
-  unfolding moved
+  pub moved-up : (x : ℤ) → SFits w x → P x ≡ 0 → 0 < N x → x -ℤ least ≡ wrappedOnce w x
+  unfolding wrappedOnce
   moved-up (pos n) f h k = absurd (omega arith)
   moved-up (negsuc n) f h k = same _ _ (omega (arith, f .sfits, sum (negsuc n) (negℤ least)))
 
-  unfit : (z : ℤ) → SFits w z → fits w z ≡ false → ⊥
+  unfit : (z : ℤ) → SFits w z → inWidth w z ≡ false → ⊥
   unfit z f e = let z : _≡_ {A = ℕ} 0 1 = cc (is-fit z f) in omega arith
 
   -- The law of `int_add` and `long_add` where the sum does not fit.
-  pub sum-wraps : (a b : ℤ) → SFits w a → SFits w b → fits w (a +ℤ b) ≡ false → Wraps (a +ℤ b) (moved w a +ℤ moved w b)
-  unfolding fits moved
+  pub sum-wraps : (a b : ℤ) → SFits w a → SFits w b → inWidth w (a +ℤ b) ≡ false → Wraps (a +ℤ b) (wrappedOnce w a +ℤ wrappedOnce w b)
+  unfolding inWidth wrappedOnce
   sum-wraps (pos m) (pos n) fa fb e =
       let h = ltb-false (m + n) (2 ^ hbits w) e in
       wraps-down _ _ (record { sfits = omega (arith, fa .sfits, fb .sfits) }) (omega (arith, fa .sfits, fb .sfits, pow-bits w))
@@ -201,17 +197,17 @@ module _ (w : Width) where
       absurd (unfit (negsuc m +ℤ pos n) (within (negsuc m +ℤ pos n) (omega (arith, fa .sfits, fb .sfits)) (omega (arith, fa .sfits, fb .sfits))) e)
 
   -- The law of `int_subtract` and `long_subtract` where the difference does not fit.
-  pub difference-wraps : (a b : ℤ) → SFits w a → SFits w b → fits w (a -ℤ b) ≡ false → Wraps (a -ℤ b) (moved w a -ℤ moved w b)
-  unfolding fits moved
+  pub difference-wraps : (a b : ℤ) → SFits w a → SFits w b → inWidth w (a -ℤ b) ≡ false → Wraps (a -ℤ b) (wrappedOnce w a -ℤ wrappedOnce w b)
+  unfolding inWidth wrappedOnce
   difference-wraps (pos m) (negsuc n) fa fb e =
       let h = ltb-false (m + suc n) (2 ^ hbits w) e in
       let k = sum (negsuc (2 ^ hbits w - suc m)) (negℤ (pos (2 ^ hbits w - suc n))) in
       let o = opposite (pos (2 ^ hbits w - suc n)) in
-      let f : SFits w (moved w (pos m) -ℤ moved w (negsuc n)) = within _ (omega (arith, fa .sfits, fb .sfits)) (omega (arith, fa .sfits, fb .sfits)) in
+      let f : SFits w (wrappedOnce w (pos m) -ℤ wrappedOnce w (negsuc n)) = within _ (omega (arith, fa .sfits, fb .sfits)) (omega (arith, fa .sfits, fb .sfits)) in
       wraps-down _ _ f (omega (arith, fa .sfits, fb .sfits, pow-bits w))
   difference-wraps (negsuc m) (pos (suc n)) fa fb e =
       let h = ltb-false (suc (m + n)) (2 ^ hbits w) e in
-      let f : SFits w (moved w (negsuc m) -ℤ moved w (pos (suc n))) = record { sfits = omega (arith, fa .sfits, fb .sfits) } in
+      let f : SFits w (wrappedOnce w (negsuc m) -ℤ wrappedOnce w (pos (suc n))) = record { sfits = omega (arith, fa .sfits, fb .sfits) } in
       wraps-up _ _ f (omega (arith, fa .sfits, fb .sfits, pow-bits w))
   difference-wraps (pos m) (pos n) fa fb e =
       let k = sum (pos m) (negℤ (pos n)) in
@@ -248,68 +244,68 @@ module _ (w : Width) where
   stored-so z {y} {x} h e = let f : SFits w x = rw e (h .fit) in (f, toZ-ofZ w x f ∙ e ∙ sym (h .is))
 
   module _ (a b : ℤ) (fa : SFits w a) (fb : SFits w b) where
-    pub negative-sum : ltZ (stored b) (pos 0) ≡ true → SFits w (least -ℤ stored b) × (leZ (stored (least -ℤ stored b)) (stored a) ≡ fits w (a +ℤ b))
+    pub negative-sum : ltZ (stored b) (pos 0) ≡ true → SFits w (least -ℤ stored b) × (leZ (stored (least -ℤ stored b)) (stored a) ≡ inWidth w (a +ℤ b))
     negative-sum t =
         let n = negative b (rw (toZ-ofZ w b fb) at t) .0 in
         let h = bounds b fb .1 in
         let f = above-fits a b (negℤ b) fa (opposite b .0) (opposite b .1) n h in
         rw (toZ-ofZ w a fa, toZ-ofZ w b fb, toZ-ofZ w (least -ℤ b) f) (f, above a b (negℤ b) fa (opposite b .0) (opposite b .1) n h)
 
-    pub natural-sum : ltZ (stored b) (pos 0) ≡ false → SFits w (greatest -ℤ stored b) × (leZ (stored a) (stored (greatest -ℤ stored b)) ≡ fits w (a +ℤ b))
+    pub natural-sum : ltZ (stored b) (pos 0) ≡ false → SFits w (greatest -ℤ stored b) × (leZ (stored a) (stored (greatest -ℤ stored b)) ≡ inWidth w (a +ℤ b))
     natural-sum t =
         let n = natural b (rw (toZ-ofZ w b fb) at t) in
         let h : P b ≤ 2 ^ hbits w = omega (arith, bounds b fb .0) in
         let f = below-fits a b (negℤ b) fa (opposite b .0) (opposite b .1) n h in
         rw (toZ-ofZ w a fa, toZ-ofZ w b fb, toZ-ofZ w (greatest -ℤ b) f) (f, below a b (negℤ b) fa (opposite b .0) (opposite b .1) n h)
 
-    pub negative-difference : ltZ (stored b) (pos 0) ≡ true → SFits w (greatest +ℤ stored b) × (leZ (stored a) (stored (greatest +ℤ stored b)) ≡ fits w (a -ℤ b))
+    pub negative-difference : ltZ (stored b) (pos 0) ≡ true → SFits w (greatest +ℤ stored b) × (leZ (stored a) (stored (greatest +ℤ stored b)) ≡ inWidth w (a -ℤ b))
     negative-difference t =
         let n = opposite b .1 ∙ negative b (rw (toZ-ofZ w b fb) at t) .0 in
         let h : P (negℤ b) ≤ 2 ^ hbits w = omega (arith, opposite b .0, bounds b fb .1) in
         let f = below-fits a (negℤ b) b fa (sym (opposite b .1)) (sym (opposite b .0)) n h in
         rw (toZ-ofZ w a fa, toZ-ofZ w b fb, toZ-ofZ w (greatest +ℤ b) f) (f, below a (negℤ b) b fa (sym (opposite b .1)) (sym (opposite b .0)) n h)
 
-    pub natural-difference : ltZ (stored b) (pos 0) ≡ false → SFits w (least +ℤ stored b) × (leZ (stored (least +ℤ stored b)) (stored a) ≡ fits w (a -ℤ b))
+    pub natural-difference : ltZ (stored b) (pos 0) ≡ false → SFits w (least +ℤ stored b) × (leZ (stored (least +ℤ stored b)) (stored a) ≡ inWidth w (a -ℤ b))
     natural-difference t =
         let n = opposite b .0 ∙ natural b (rw (toZ-ofZ w b fb) at t) in
         let h : N (negℤ b) ≤ 2 ^ hbits w = omega (arith, opposite b .1, bounds b fb .0) in
         let f = above-fits a (negℤ b) b fa (sym (opposite b .1)) (sym (opposite b .0)) n h in
         rw (toZ-ofZ w a fa, toZ-ofZ w b fb, toZ-ofZ w (least +ℤ b) f) (f, above a (negℤ b) b fa (sym (opposite b .1)) (sym (opposite b .0)) n h)
 
-    pub sum-exact : {t : Bool} → t ≡ fits w (stored a +ℤ stored b) → t ≡ true → Stored (a +ℤ b) (stored a +ℤ stored b)
+    pub sum-exact : {t : Bool} → t ≡ inWidth w (stored a +ℤ stored b) → t ≡ true → Stored (a +ℤ b) (stored a +ℤ stored b)
     sum-exact e t =
         let s : stored a +ℤ stored b ≡ a +ℤ b = rw (toZ-ofZ w a fa, toZ-ofZ w b fb) refl in
-        stored-so (a +ℤ b) (exact (a +ℤ b) (ap (fits w) (sym s) ∙ sym e ∙ t)) s
+        stored-so (a +ℤ b) (exact (a +ℤ b) (ap (inWidth w) (sym s) ∙ sym e ∙ t)) s
 
-    pub sum-past : {t : Bool} {x y : ℤ} → t ≡ fits w (stored a +ℤ stored b) → t ≡ false → SFits w x → SFits w y
-        → x ≡ moved w (stored a) → y ≡ moved w (stored b) → Stored (a +ℤ b) (stored x +ℤ stored y)
+    pub sum-past : {t : Bool} {x y : ℤ} → t ≡ inWidth w (stored a +ℤ stored b) → t ≡ false → SFits w x → SFits w y
+        → x ≡ wrappedOnce w (stored a) → y ≡ wrappedOnce w (stored b) → Stored (a +ℤ b) (stored x +ℤ stored y)
     sum-past {x = x} {y = y} e t fx fy p q =
         let s : stored a +ℤ stored b ≡ a +ℤ b = rw (toZ-ofZ w a fa, toZ-ofZ w b fb) refl in
-        let m : stored x +ℤ stored y ≡ moved w a +ℤ moved w b = rw (toZ-ofZ w x fx, toZ-ofZ w y fy, p, q, toZ-ofZ w a fa, toZ-ofZ w b fb) refl in
-        stored-so (a +ℤ b) (sum-wraps a b fa fb (ap (fits w) (sym s) ∙ sym e ∙ t)) m
+        let m : stored x +ℤ stored y ≡ wrappedOnce w a +ℤ wrappedOnce w b = rw (toZ-ofZ w x fx, toZ-ofZ w y fy, p, q, toZ-ofZ w a fa, toZ-ofZ w b fb) refl in
+        stored-so (a +ℤ b) (sum-wraps a b fa fb (ap (inWidth w) (sym s) ∙ sym e ∙ t)) m
 
-    pub difference-exact : {t : Bool} → t ≡ fits w (stored a -ℤ stored b) → t ≡ true → Stored (a -ℤ b) (stored a -ℤ stored b)
+    pub difference-exact : {t : Bool} → t ≡ inWidth w (stored a -ℤ stored b) → t ≡ true → Stored (a -ℤ b) (stored a -ℤ stored b)
     difference-exact e t =
         let s : stored a -ℤ stored b ≡ a -ℤ b = rw (toZ-ofZ w a fa, toZ-ofZ w b fb) refl in
-        stored-so (a -ℤ b) (exact (a -ℤ b) (ap (fits w) (sym s) ∙ sym e ∙ t)) s
+        stored-so (a -ℤ b) (exact (a -ℤ b) (ap (inWidth w) (sym s) ∙ sym e ∙ t)) s
 
-    pub difference-past : {t : Bool} {x y : ℤ} → t ≡ fits w (stored a -ℤ stored b) → t ≡ false → SFits w x → SFits w y
-        → x ≡ moved w (stored a) → y ≡ moved w (stored b) → Stored (a -ℤ b) (stored x -ℤ stored y)
+    pub difference-past : {t : Bool} {x y : ℤ} → t ≡ inWidth w (stored a -ℤ stored b) → t ≡ false → SFits w x → SFits w y
+        → x ≡ wrappedOnce w (stored a) → y ≡ wrappedOnce w (stored b) → Stored (a -ℤ b) (stored x -ℤ stored y)
     difference-past {x = x} {y = y} e t fx fy p q =
         let s : stored a -ℤ stored b ≡ a -ℤ b = rw (toZ-ofZ w a fa, toZ-ofZ w b fb) refl in
-        let m : stored x -ℤ stored y ≡ moved w a -ℤ moved w b = rw (toZ-ofZ w x fx, toZ-ofZ w y fy, p, q, toZ-ofZ w a fa, toZ-ofZ w b fb) refl in
-        stored-so (a -ℤ b) (difference-wraps a b fa fb (ap (fits w) (sym s) ∙ sym e ∙ t)) m
+        let m : stored x -ℤ stored y ≡ wrappedOnce w a -ℤ wrappedOnce w b = rw (toZ-ofZ w x fx, toZ-ofZ w y fy, p, q, toZ-ofZ w a fa, toZ-ofZ w b fb) refl in
+        stored-so (a -ℤ b) (difference-wraps a b fa fb (ap (inWidth w) (sym s) ∙ sym e ∙ t)) m
 
   module _ (x : ℤ) (f : SFits w x) where
-    pub moved-negative : ltZ (stored x) (pos 0) ≡ true → SFits w (stored x -ℤ least) × (stored (stored x -ℤ least) ≡ moved w x)
+    pub moved-negative : ltZ (stored x) (pos 0) ≡ true → SFits w (stored x -ℤ least) × (stored (stored x -ℤ least) ≡ wrappedOnce w x)
     moved-negative t =
         let n = negative x (rw (toZ-ofZ w x f) at t) in
-        rw (toZ-ofZ w x f, moved-up x f (n .0) (n .1), toZ-ofZ w (moved w x) (moved-fits x f)) (moved-fits x f, refl)
+        rw (toZ-ofZ w x f, moved-up x f (n .0) (n .1), toZ-ofZ w (wrappedOnce w x) (moved-fits x f)) (moved-fits x f, refl)
 
-    pub moved-natural : ltZ (stored x) (pos 0) ≡ false → SFits w (stored x +ℤ least) × (stored (stored x +ℤ least) ≡ moved w x)
+    pub moved-natural : ltZ (stored x) (pos 0) ≡ false → SFits w (stored x +ℤ least) × (stored (stored x +ℤ least) ≡ wrappedOnce w x)
     moved-natural t =
         let n = natural x (rw (toZ-ofZ w x f) at t) in
-        rw (toZ-ofZ w x f, moved-down x f n, toZ-ofZ w (moved w x) (moved-fits x f)) (moved-fits x f, refl)
+        rw (toZ-ofZ w x f, moved-down x f n, toZ-ofZ w (wrappedOnce w x) (moved-fits x f)) (moved-fits x f, refl)
 
     pub opposite-exact : ltZ least (stored x) ≡ true → Stored (negℤ x) (pos 0 -ℤ stored x)
     opposite-exact t =

@@ -23,10 +23,10 @@ unfoldable pub wrap : Width → ℤ → ℤ
 wrap w z = toZ w (pattern w z)
 
 -- Is the integer one of the width, from -2 ^ hbits w to 2 ^ hbits w - 1? `mag` is n both for n and for -1 - n.
-unfoldable pub fits : Width → ℤ → Bool
-fits w z = ltb (mag z) (2 ^ hbits w)
+unfoldable pub inWidth : Width → ℤ → Bool
+inWidth w z = ltb (mag z) (2 ^ hbits w)
 
 -- An integer of the width moved by half the range of the width, to the other sign.
-unfoldable pub moved : Width → ℤ → ℤ
-moved w (pos n) = negsuc (2 ^ hbits w - suc n)
-moved w (negsuc n) = pos (2 ^ hbits w - suc n)
+unfoldable pub wrappedOnce : Width → ℤ → ℤ
+wrappedOnce w (pos n) = negsuc (2 ^ hbits w - suc n)
+wrappedOnce w (negsuc n) = pos (2 ^ hbits w - suc n)

@@ -3,7 +3,7 @@ ghost use mathlib.Core.Path.{_≡_};
 ghost use mir.Syntax.{w32, w64};
 ghost use mir.Val.{toZ, ofZ};
 ghost use lib.IntN.{_+ℤ_, _-ℤ_, negℤ};
-ghost use Rattle.integer.specs.Wrap.{wrap, fits, moved};
+ghost use Rattle.integer.specs.Wrap.{wrap, inWidth, wrappedOnce};
 
 // The number whose pattern is n. A cast must fit, so the upper half goes through -1 - x.
 pub fn int_of(n: u32) -> i32
@@ -29,7 +29,7 @@ pub fn int_bits(x: i32) -> u32
 
 // Does the exact sum fit the width?
 fn int_sum_fits(a: i32, b: i32) -> bool
-    ensures { λ t. ⌜ t ≡ fits w32 (a +ℤ b) ⌝ }
+    ensures { λ t. ⌜ t ≡ inWidth w32 (a +ℤ b) ⌝ }
 {
     if b < 0 {
         -2147483648 - b <= a
@@ -40,7 +40,7 @@ fn int_sum_fits(a: i32, b: i32) -> bool
 
 // Does the exact difference fit the width?
 fn int_difference_fits(a: i32, b: i32) -> bool
-    ensures { λ t. ⌜ t ≡ fits w32 (a -ℤ b) ⌝ }
+    ensures { λ t. ⌜ t ≡ inWidth w32 (a -ℤ b) ⌝ }
 {
     if b < 0 {
         a <= 2147483647 + b
@@ -51,7 +51,7 @@ fn int_difference_fits(a: i32, b: i32) -> bool
 
 // x moved by half the range of the width, to the other sign.
 fn int_moved(x: i32) -> i32
-    ensures { λ r. ⌜ r ≡ moved w32 x ⌝ }
+    ensures { λ r. ⌜ r ≡ wrappedOnce w32 x ⌝ }
 {
     if x < 0 {
         x - -2147483648
@@ -113,7 +113,7 @@ pub fn long_bits(x: i64) -> u64
 
 // Does the exact sum fit the width?
 fn long_sum_fits(a: i64, b: i64) -> bool
-    ensures { λ t. ⌜ t ≡ fits w64 (a +ℤ b) ⌝ }
+    ensures { λ t. ⌜ t ≡ inWidth w64 (a +ℤ b) ⌝ }
 {
     if b < 0 {
         -9223372036854775808 - b <= a
@@ -124,7 +124,7 @@ fn long_sum_fits(a: i64, b: i64) -> bool
 
 // Does the exact difference fit the width?
 fn long_difference_fits(a: i64, b: i64) -> bool
-    ensures { λ t. ⌜ t ≡ fits w64 (a -ℤ b) ⌝ }
+    ensures { λ t. ⌜ t ≡ inWidth w64 (a -ℤ b) ⌝ }
 {
     if b < 0 {
         a <= 9223372036854775807 + b
@@ -135,7 +135,7 @@ fn long_difference_fits(a: i64, b: i64) -> bool
 
 // x moved by half the range of the width, to the other sign.
 fn long_moved(x: i64) -> i64
-    ensures { λ r. ⌜ r ≡ moved w64 x ⌝ }
+    ensures { λ r. ⌜ r ≡ wrappedOnce w64 x ⌝ }
 {
     if x < 0 {
         x - -9223372036854775808

@@ -33,7 +33,7 @@ abbrev pub blank : ℕ → Bool
 blank x = cond (eqb x 32) true (eqb x 9)
 
 -- The first `r` elements of s, and no more, are all blanks, or all other bytes.
-pub record Run (s : List ℕ) (blanks : Bool) (r : ℕ) : Type 0 where
+pub record TextRun (s : List ℕ) (blanks : Bool) (r : ℕ) : Type 0 where
   pub within : r ≤ length s
   pub same : (k : ℕ) → k < r → blank (getD s k 0) ≡ blanks
   pub other : r < length s → blank (getD s r 0) ≡ blanks → ⊥

@@ -3,7 +3,7 @@ ghost use Prim.Native.Nat.{_+_, _≤_, _<_};
 ghost use mathlib.Core.Path.{_≡_};
 ghost use mathlib.Core.Bool.{true, false};
 ghost use lib.ListN.{length};
-ghost use Rattle.lines.specs.Text.{HexDigit, HexPair, Longer, Run, blank};
+ghost use Rattle.lines.specs.Text.{HexDigit, HexPair, Longer, TextRun, blank};
 
 // Why a line is no line of its program.
 pub enum Fault {
@@ -46,7 +46,7 @@ fn is_blank(x: u8) -> bool
 
 // How many bytes at the start are all blanks, or all others.
 fn run(s: &[u8], blanks: bool) -> usize
-    ensures { λ r. ⌜ Run (now (s .entry)) blanks r ⌝ }
+    ensures { λ r. ⌜ TextRun (now (s .entry)) blanks r ⌝ }
 {
     let mut i: usize = 0;
     while i < s.len() {
@@ -60,14 +60,14 @@ fn run(s: &[u8], blanks: bool) -> usize
 
 // How many blanks are at the start.
 pub fn blanks(s: &[u8]) -> usize
-    ensures { λ r. ⌜ Run (now (s .entry)) true r ⌝ }
+    ensures { λ r. ⌜ TextRun (now (s .entry)) true r ⌝ }
 {
     run(s, true)
 }
 
 // The length of the word at the start.
 pub fn word(s: &[u8]) -> usize
-    ensures { λ r. ⌜ Run (now (s .entry)) false r ⌝ }
+    ensures { λ r. ⌜ TextRun (now (s .entry)) false r ⌝ }
 {
     run(s, false)
 }

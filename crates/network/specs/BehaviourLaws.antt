@@ -7,19 +7,19 @@ use mathlib.Core.Bool.{Bool, true, false, not, _&&_, _||_}
 use mathlib.Core.Logic.{_⊎_, inl, inr, ⊎-elim}
 use native.Mathlib.Omega.{arith}
 use lib.Dec.{T, eqb, eqb→eq, eqb-refl}
-use Rattle.forest.specs.Compare.{Compare, lt, eq, gt, compare, T-of}
-use Rattle.syntax.specs.Syntax.{Behaviour, choice}
+use Rattle.basics.specs.TestLaws.{apart}
+use Rattle.tree_forest.specs.Compare.{Compare, lt, eq, gt, compare}
+use Rattle.network_syntax.specs.Syntax.{Behaviour, choice}
 use Rattle.network.specs.declared.BehaviourKind.{BehaviourKind}
 use Rattle.network.specs.Layout.{behaviourCount, behaviourAt}
-use Rattle.network.specs.Rows.{fieldA, fieldB, fieldC, fieldD, kindAt, isBranch, isChoice, isInput}
+use Rattle.network.specs.Rows.{fieldA, fieldB, fieldC, fieldD, kindAt, isBranchKind, isChoiceKind, isInputKind}
 use Rattle.network.specs.Form.{WellFormed}
 use Rattle.network.specs.Decode.{branchesFrom, behaviourFrom, behaviourTo, behaviourOf, rowOperation}
-use Rattle.syntax.specs.Rows.{hasRow, rowOf}
+use Rattle.network_syntax.specs.Rows.{hasRow, rowOf}
 use Rattle.network.specs.Shapes.{BehaviourShape, BranchesShape}
 use Rattle.network.specs.Shapes.{isInputBehaviour, isChoiceBehaviour, AsInFile, BranchesInFile, OperationsBy, BranchOperationsBy}
 use Rattle.network.specs.DecodeLaws.{path-shape, expression-shape, operation-shape}
 use Rattle.network.specs.UseLaws.{Uses, one-user, Child, SubKept, InputKept, BranchKept, RowKept, behaviour-kept, branch-kept, choice-kind}
-use Rattle.network.specs.TestLaws.{apart}
 
 -- The n branches from row a on, of the choice r.
 abbrev pub BranchesKept : List ℕ → ℕ → ℕ → ℕ → Type 0
@@ -157,7 +157,7 @@ behaviour-shape s w r l = shape-to s w (behaviourCount s) r l
 
 -- What is said of B row r of kind k as a part of the file.
 abbrev InFile : BehaviourKind → Behaviour → Type 0
-InFile k b = (isBranch k ≡ false → AsInFile b) × (isInput k ≡ true → T (isInputBehaviour b) × AsInFile b)
+InFile k b = (isBranchKind k ≡ false → AsInFile b) × (isInputKind k ≡ true → T (isInputBehaviour b) × AsInFile b)
 
 branches-in : (s : List ℕ) → WellFormed s → (r : ℕ) (f : ℕ → Behaviour) → Later s r (λ j. InFile (kindAt s j) (f j))
     → (n a : ℕ) → 1 ≤ n → BranchesKept s r a n → BranchesInFile (branchesFrom s f a n)
@@ -228,13 +228,13 @@ in-to s w zero r l h = absurd (omega arith)
 in-to s w (suc d) r l h = row-in s w r (behaviourAt s r) (behaviourTo s d) (λ j x y. in-to s w d j y (omega arith)) (kindAt s r)
     (behaviour-kept s w r l)
 
-pub behaviour-in-file : (s : List ℕ) → WellFormed s → (r : ℕ) → r < behaviourCount s → isBranch (kindAt s r) ≡ false
+pub behaviour-in-file : (s : List ℕ) → WellFormed s → (r : ℕ) → r < behaviourCount s → isBranchKind (kindAt s r) ≡ false
     → AsInFile (behaviourOf s r)
 unfolding behaviourOf
 behaviour-in-file s w r l e = in-to s w (behaviourCount s) r l (omega arith) .0 e
 
 -- A row of kind choice becomes a choice.
-pub choice-row : (s : List ℕ) → WellFormed s → (r : ℕ) → r < behaviourCount s → isChoice (kindAt s r) ≡ true → T (isChoiceBehaviour (behaviourOf s r))
+pub choice-row : (s : List ℕ) → WellFormed s → (r : ℕ) → r < behaviourCount s → isChoiceKind (kindAt s r) ≡ true → T (isChoiceBehaviour (behaviourOf s r))
 unfolding behaviourFrom
 choice-row s w r l e =
     let f : behaviourOf s r ≡ behaviourFrom s (behaviourOf s) r (behaviourAt s r) BehaviourKind.Choice =

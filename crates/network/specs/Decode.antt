@@ -4,14 +4,15 @@ use Prim.Native.Nat.{ℕ, zero, suc, _+_}
 use mathlib.Core.List.{List, [], _∷_}
 use mathlib.Core.Bool.{Bool, true, false}
 use lib.Dec.{eqb}
-use Rattle.forest.specs.Forest.{Forest, end, Tree, tree, nodeOf}
-use Rattle.forest.specs.Path.{Path, path}
+use Rattle.tree_forest.specs.Forest.{Forest, end, Tree, tree, nodeOf}
+use Rattle.tree_forest.specs.Path.{Path, path}
 use Rattle.scalar.specs.Basic.{void}
-use Rattle.scalar.specs.Value.{Value, value, pick}
-use Rattle.syntax.specs.Syntax.{Mark, mark, Types, MessageType, Unary, logicalNot, negate, Binary, add, subtract, less, equal, logicalAnd, Expression}
-use Rattle.syntax.specs.Syntax.{constant, valueAt, presence, unary, binary, Direction, input, output, Operation, Behaviour, nil, oneWay}
-use Rattle.syntax.specs.Syntax.{requestResponse, notification, solicitResponse, ifThenElse, whileDo, sequence, parallel, assign, choice}
-use Rattle.syntax.specs.Syntax.{Branches, lastBranch, branch, Optional, none, some, Service, Network}
+use Rattle.scalar.specs.Value.{Value, value}
+use Rattle.basics.specs.Choice.{pick}
+use Rattle.network_syntax.specs.Syntax.{Mark, mark, Types, MessageType, Unary, logicalNot, negate, Binary, add, subtract, less, equal, logicalAnd, Expression}
+use Rattle.network_syntax.specs.Syntax.{constant, valueAt, presence, unary, binary, Direction, input, output, Operation, Behaviour, nil, oneWay}
+use Rattle.network_syntax.specs.Syntax.{requestResponse, notification, solicitResponse, ifThenElse, whileDo, sequence, parallel, assign, choice}
+use Rattle.network_syntax.specs.Syntax.{Branches, lastBranch, branch, Optional, none, some, Service, Network}
 use Rattle.network.specs.declared.ExpressionKind.{ExpressionKind}
 use Rattle.network.specs.declared.BehaviourKind.{BehaviourKind}
 use Rattle.wire.specs.Wire.{byteAt, u16At}
@@ -53,7 +54,8 @@ typeOf s r = writtenOut s typeLevels r
 -- E row r, its operands given by `operand`: "Kinds: 0 constant (basic; a start in D, b length), 1 path a, 2 is path a present,
 -- 3 not, 4 negate, 5 add, 6 subtract, 7 less, 8 equal, 9 and. Operands a, b are earlier rows."
 unfoldable pub expressionFrom : List ℕ → (ℕ → Expression) → ℕ → ExpressionKind → Expression
-expressionFrom s operand at ExpressionKind.Constant = constant (value (byteAt s (at + 1)) (dataPart s (fieldA s at) (fieldB s at)))
+expressionFrom s operand at ExpressionKind.Constant =
+    constant (value (byteAt s (at + 1)) (dataPart s (fieldA s at) (fieldB s at)))
 expressionFrom s operand at ExpressionKind.ValueAt = valueAt (pathOf s (fieldA s at))
 expressionFrom s operand at ExpressionKind.Presence = presence (pathOf s (fieldA s at))
 expressionFrom s operand at ExpressionKind.Not = unary logicalNot (operand (fieldA s at))
@@ -78,7 +80,7 @@ expressionOf s r = expressionTo s expressionLevels r
 abbrev pub noReply : MessageType
 noReply = tree (mark true void) end
 
--- O: "service row u8, direction u8 (0 in, 1 out), two-way u8 (0, 1), 0, id u16, location u16, request type u16, reply type u16".
+-- O: "service row u8, direction u8 (0 in, 1 out), two-way u8 (0, 1), 0, id u16, location u16 .., request type u16, reply type u16 ..".
 unfoldable pub operationOf : List ℕ → ℕ → Operation
 operationOf s r = record {
   row = r;
@@ -106,11 +108,14 @@ unfoldable pub behaviourFrom : List ℕ → (ℕ → Behaviour) → ℕ → ℕ 
 behaviourFrom s sub r at BehaviourKind.Nil = nil r
 behaviourFrom s sub r at BehaviourKind.OneWay = oneWay r (operationOf s (fieldA s at)) (pathOf s (fieldB s at))
 behaviourFrom s sub r at BehaviourKind.RequestResponse =
-    requestResponse r (operationOf s (fieldA s at)) (pathOf s (fieldB s at)) (pathOf s (fieldC s at)) (sub (fieldD s at))
-behaviourFrom s sub r at BehaviourKind.Notification = notification r (operationOf s (fieldA s at)) (expressionOf s (fieldB s at))
+    requestResponse r (operationOf s (fieldA s at))
+    (pathOf s (fieldB s at)) (pathOf s (fieldC s at)) (sub (fieldD s at))
+behaviourFrom s sub r at BehaviourKind.Notification =
+    notification r (operationOf s (fieldA s at)) (expressionOf s (fieldB s at))
 behaviourFrom s sub r at BehaviourKind.SolicitResponse =
     solicitResponse r (operationOf s (fieldA s at)) (expressionOf s (fieldB s at)) (pathOf s (fieldC s at))
-behaviourFrom s sub r at BehaviourKind.If = ifThenElse r (expressionOf s (fieldA s at)) (sub (fieldB s at)) (sub (fieldC s at))
+behaviourFrom s sub r at BehaviourKind.If =
+    ifThenElse r (expressionOf s (fieldA s at)) (sub (fieldB s at)) (sub (fieldC s at))
 behaviourFrom s sub r at BehaviourKind.While = whileDo r (expressionOf s (fieldA s at)) (sub (fieldB s at))
 behaviourFrom s sub r at BehaviourKind.Sequence = sequence r (sub (fieldA s at)) (sub (fieldB s at))
 behaviourFrom s sub r at BehaviourKind.Parallel = parallel r (sub (fieldA s at)) (sub (fieldB s at))

@@ -9,14 +9,16 @@ use native.Mathlib.Omega.{arith}
 use lib.ListN.{length}
 use lib.Dec.{T, eqb, leb, ltb}
 use native.Mathlib.Numerals.{add-one}
-use Rattle.forest.specs.Compare.{Compare, lt, eq, gt, compare}
-use Rattle.forest.specs.Forest.{Forest, end, node, Tree, tree, nodeOf, Above, Rising, RisingTree, measure, nodes, levels}
-use Rattle.forest.specs.Path.{Path, path}
+use Rattle.tree_forest.specs.Compare.{Compare, lt, eq, gt, compare}
+use Rattle.tree_forest.specs.Forest.{Forest, end, node, Tree, tree, nodeOf, Above, Rising, RisingTree, measure, nodes, levels}
+use Rattle.tree_forest.specs.Path.{Path, path}
 use Rattle.scalar.specs.Basic.{lastBasic, void}
-use Rattle.scalar.specs.Value.{Value, value, isValue, basicOf, bytesOf, pick}
+use Rattle.scalar.specs.Value.{Value, value, isValue, basicOf, bytesOf}
+use Rattle.basics.specs.Choice.{pick}
+use Rattle.basics.specs.TestLaws.{and-of, clash, eq-of, le-of, lt-of, ne-of, of-eq, one-less, positive}
 use Rattle.wire.specs.Wire.{byteAt, u16At}
-use Rattle.syntax.specs.Syntax.{Mark, mark, mandatory, basic, Types, MessageType, Unary, logicalNot, negate, Binary, add, subtract, less, equal}
-use Rattle.syntax.specs.Syntax.{logicalAnd, Expression, constant, valueAt, presence, unary, binary, Direction, input, output, Operation}
+use Rattle.network_syntax.specs.Syntax.{Mark, mark, mandatory, basic, Types, MessageType, Unary, logicalNot, negate, Binary, add, subtract, less, equal}
+use Rattle.network_syntax.specs.Syntax.{logicalAnd, Expression, constant, valueAt, presence, unary, binary, Direction, input, output, Operation}
 use Rattle.network.specs.declared.Broken.{Broken}
 use Rattle.network.specs.declared.Broken.the-variants.{At, Nowhere}
 use Rattle.network.specs.declared.ExpressionKind.{ExpressionKind}
@@ -34,15 +36,10 @@ use Rattle.network.specs.Decode.{operationOf, rowsFrom}
 use Rattle.network.specs.Shapes.{AllPositive, PathShape, NodesShape, TreeNodesShape, treeNodes, treeLevels, rootMark, TypeShape}
 use Rattle.network.specs.Shapes.{MessageTypeShape, depth, PartsShape, ExpressionShape, LocationShape, OperationShape}
 use Rattle.network.specs.LeastLaws.{rule-kept}
-use Rattle.network.specs.TestLaws.{lt-of, le-of, eq-of, of-eq, and-of, not-true, clash, ne-of, one-less}
 use Rattle.network.specs.RowLaws.{Unbroken, unbroken, PathKept, path-kept, TypeKept, type-kept, RootKept, type-size, expression-size}
 use Rattle.network.specs.RowLaws.{OperationKept, operation-kept}
 
 -- ---- paths
-
-pub positive : (i : ℕ) → (i ≡ 0 → ⊥) → 0 < i
-positive zero h = absurd (h refl)
-positive (suc n) h = omega arith
 
 until-positive : (l : List ℕ) → AllPositive (untilZero l)
 unfolding AllPositive untilZero

@@ -7,14 +7,14 @@ use mathlib.Core.Bool.{Bool, true, false, not, _&&_, _||_}
 use native.Mathlib.Nat.{min-comm, min-eq-left, min-eq-right}
 use native.Mathlib.Omega.{arith}
 use lib.Dec.{eqb, ltb}
-use Rattle.scalar.specs.Value.{pick}
+use Rattle.basics.specs.Choice.{pick}
+use Rattle.basics.specs.TestLaws.{lt-not, lt-of}
 use Rattle.network.specs.declared.Broken.{Broken}
 use Rattle.network.specs.declared.Broken.the-variants.{At, Nowhere}
 use Rattle.network.specs.Least.{least, rule, leastOver}
 use Rattle.network.specs.Layout.{behaviourCount, serviceCount, typeAt, behaviourAt}
-use Rattle.network.specs.Rows.{inRun, idBefore, typeId, childRule, fieldA, fieldB, kindAt, isBranch, branchRule}
+use Rattle.network.specs.Rows.{inRun, idBefore, typeId, childRule, fieldA, fieldB, kindAt, isBranchKind, branchRule}
 use Rattle.network.specs.Uses.{used, rowUseRule, serviceUseRule, usesRow, usesRows}
-use Rattle.network.specs.TestLaws.{lt-of, lt-not}
 
 -- ---- the lower of two places
 
@@ -105,7 +105,7 @@ pub branch-outside : (s : List ℕ) (at j : ℕ) → inRun (fieldA s at) (fieldB
 unfolding branchRule rule least
 branch-outside s at j e = go (inRun (fieldA s at) (fieldB s at) j) e
   where
-    go : (t : Bool) → t ≡ false → rule (not t || isBranch (kindAt s j)) (at + 2) Nowhere ≡ Nowhere
+    go : (t : Bool) → t ≡ false → rule (not t || isBranchKind (kindAt s j)) (at + 2) Nowhere ≡ Nowhere
     go true h = let z : _≡_ {A = ℕ} 0 1 = cc in absurd (omega arith)
     go false h = refl
 

@@ -2,7 +2,7 @@
 use Prim.Native.Nat.{ℕ}
 use mathlib.Core.List.{List}
 use mathlib.Core.Path.{_≡_}
-use Rattle.scalar.specs.Value.{pick}
+use Rattle.basics.specs.Choice.{pick}
 use Rattle.refusal.specs.declared.Refusal.{Refusal}
 use Rattle.refusal.specs.declared.Refusal.the-variants.{FileLayout, SectionCount, BrokenField, TooLarge}
 use Rattle.refusal.specs.declared.Verdict.{Verdict}
@@ -25,7 +25,12 @@ afterFields (At p) sizes = Refused (BrokenField p)
 
 -- What refusals 2 to 5 say of a file.
 unfoldable pub formOf : List ℕ → Verdict
-formOf s = pick (laidOut s) (pick (counted s) (afterFields (broken s) (large s)) (Refused SectionCount)) (Refused FileLayout)
+formOf s =
+    pick (laidOut s)
+    (pick (counted s)
+    (afterFields (broken s) (large s))  -- 4, 5
+    (Refused SectionCount))  -- 3
+    (Refused FileLayout)  -- 2
 
 -- A file that none of 2 to 5 refuses: the hypothesis of all that is said about what its rows become.
 abbrev pub WellFormed : List ℕ → Type 0

@@ -1,11 +1,11 @@
 -- The kinds of E and B rows, and what each kind's fields are: 01's items E and B as tables.
 use Prim.Native.Nat.{ℕ}
 use lib.Dec.{eqb}
-use Rattle.scalar.specs.Value.{pick}
+use Rattle.basics.specs.Choice.{pick}
 use Rattle.network.specs.declared.ExpressionKind.{ExpressionKind}
 use Rattle.network.specs.declared.BehaviourKind.{BehaviourKind}
 use Rattle.network.specs.declared.FieldSort.{FieldSort}
-use Rattle.network.specs.declared.FieldSort.the-variants.{Free, Unused, PathRow, EarlierRow, ExpressionRow, OperationRow, LaterRow, InputRow}
+use Rattle.network.specs.declared.FieldSort.the-variants.{Unruled, Unused, PathRow, EarlierRow, ExpressionRow, OperationRow, LaterRow, InputRow}
 use Rattle.network.specs.declared.FieldSort.the-variants.{BranchRun, BranchCount, ConstantPart}
 use Rattle.network.specs.declared.Fields.{Fields}
 
@@ -40,7 +40,7 @@ behaviourKind n =
     (pick (eqb n 10) BehaviourKind.Choice
     (pick (eqb n 11) BehaviourKind.Branch BehaviourKind.Unknown)))))))))))
 
--- The sorts of fields: `Free` has no rule of its own, `Unused` is 0 ("Unused fields are 0"), `PathRow`, `ExpressionRow` and
+-- The sorts of fields: `Unruled` has no rule of its own, `Unused` is 0 ("Unused fields are 0"), `PathRow`, `ExpressionRow` and
 -- `OperationRow` name a row of that section, `EarlierRow` an operand ("Operands a, b are earlier rows"), `LaterRow` a
 -- sub-behaviour ("A sub-behaviour is a later row"), `InputRow` a branch's input, `BranchRun` and `BranchCount` a choice's
 -- first row and count, `ConstantPart` a constant's start in D, whose length is the field after it.
@@ -49,17 +49,17 @@ fields w x y z = record { a = w; b = x; c = y; d = z }
 
 -- 01, E: what the fields a, b, c are; there is no d. A row of unknown kind has no fields to judge.
 unfoldable pub expressionFields : ExpressionKind → Fields
-expressionFields ExpressionKind.Constant = fields ConstantPart Free Unused Free
-expressionFields ExpressionKind.ValueAt = fields PathRow Unused Unused Free
-expressionFields ExpressionKind.Presence = fields PathRow Unused Unused Free
-expressionFields ExpressionKind.Not = fields EarlierRow Unused Unused Free
-expressionFields ExpressionKind.Negate = fields EarlierRow Unused Unused Free
-expressionFields ExpressionKind.Add = fields EarlierRow EarlierRow Unused Free
-expressionFields ExpressionKind.Subtract = fields EarlierRow EarlierRow Unused Free
-expressionFields ExpressionKind.Less = fields EarlierRow EarlierRow Unused Free
-expressionFields ExpressionKind.Equal = fields EarlierRow EarlierRow Unused Free
-expressionFields ExpressionKind.And = fields EarlierRow EarlierRow Unused Free
-expressionFields ExpressionKind.Unknown = fields Free Free Free Free
+expressionFields ExpressionKind.Constant = fields ConstantPart Unruled Unused Unruled
+expressionFields ExpressionKind.ValueAt = fields PathRow Unused Unused Unruled
+expressionFields ExpressionKind.Presence = fields PathRow Unused Unused Unruled
+expressionFields ExpressionKind.Not = fields EarlierRow Unused Unused Unruled
+expressionFields ExpressionKind.Negate = fields EarlierRow Unused Unused Unruled
+expressionFields ExpressionKind.Add = fields EarlierRow EarlierRow Unused Unruled
+expressionFields ExpressionKind.Subtract = fields EarlierRow EarlierRow Unused Unruled
+expressionFields ExpressionKind.Less = fields EarlierRow EarlierRow Unused Unruled
+expressionFields ExpressionKind.Equal = fields EarlierRow EarlierRow Unused Unruled
+expressionFields ExpressionKind.And = fields EarlierRow EarlierRow Unused Unruled
+expressionFields ExpressionKind.Unknown = fields Unruled Unruled Unruled Unruled
 
 -- 01, B: what the fields a, b, c, d are. A row of unknown kind has no fields to judge, and uses nothing.
 unfoldable pub behaviourFields : BehaviourKind → Fields
@@ -75,4 +75,4 @@ behaviourFields BehaviourKind.Parallel = fields LaterRow LaterRow Unused Unused
 behaviourFields BehaviourKind.Assign = fields PathRow ExpressionRow Unused Unused
 behaviourFields BehaviourKind.Choice = fields BranchRun BranchCount Unused Unused
 behaviourFields BehaviourKind.Branch = fields InputRow LaterRow Unused Unused
-behaviourFields BehaviourKind.Unknown = fields Free Free Free Free
+behaviourFields BehaviourKind.Unknown = fields Unruled Unruled Unruled Unruled

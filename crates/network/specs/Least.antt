@@ -3,7 +3,7 @@
 use Prim.Native.Nat.{ℕ, zero, suc, _+_}
 use mathlib.Core.Bool.{Bool, true, false}
 use lib.Dec.{ltb}
-use Rattle.scalar.specs.Value.{pick}
+use Rattle.basics.specs.Choice.{pick}
 use Rattle.network.specs.declared.Broken.{Broken}
 use Rattle.network.specs.declared.Broken.the-variants.{At, Nowhere}
 

@@ -7,8 +7,8 @@ use mathlib.Core.Logic.{_⊎_, inl, inr, ⊎-elim}
 use native.Mathlib.Nat.{not-suc-le-zero, le-of-suc-le-suc, eq-or-lt-of-le}
 use native.Mathlib.Omega.{arith}
 use lib.Dec.{ltb, ltb→lt, nltb→le}
-use Rattle.forest.specs.Compare.{T-of, T-of-false}
-use Rattle.scalar.specs.Value.{pick}
+use Rattle.basics.specs.Choice.{pick}
+use Rattle.basics.specs.TestLaws.{T-of, T-of-false}
 use Rattle.network.specs.declared.Broken.{Broken}
 use Rattle.network.specs.declared.Broken.the-variants.{At, Nowhere}
 use Rattle.network.specs.Least.{least, rule, leastOver, sumOver}

@@ -11,7 +11,6 @@ pub mod Shapes
 pub mod LeastLaws
 pub mod LowestLaws
 pub mod FoldLaws
-pub mod TestLaws
 pub mod RowLaws
 pub mod UseLaws
 pub mod DecodeLaws

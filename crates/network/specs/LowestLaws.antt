@@ -6,7 +6,7 @@ use mathlib.Core.Bool.{Bool, true, false}
 use mathlib.Core.Logic.{_⊎_, inl, inr, ⊎-elim}
 use native.Mathlib.Nat.{le-refl}
 use native.Mathlib.Omega.{arith}
-use Rattle.scalar.specs.Value.{pick}
+use Rattle.basics.specs.Choice.{pick}
 use Rattle.refusal.specs.declared.Verdict.{Verdict}
 use Rattle.refusal.specs.declared.Verdict.the-variants.{Done, Refused}
 use Rattle.refusal.specs.declared.Refusal.{Refusal}
@@ -16,9 +16,9 @@ use Rattle.network.specs.declared.Broken.the-variants.{At, Nowhere}
 use Rattle.network.specs.Least.{least, rule, leastOver}
 use Rattle.network.specs.LeastLaws.{AtOrBelow, least-hit, rule-hit, over-hit, least-below, rule-below, over-below}
 use Rattle.network.specs.Layout.{pathCount, typeCount, expressionCount, behaviourCount, operationCount, serviceCount, behaviourAt, laidOut, counted}
-use Rattle.network.specs.Rows.{pathRow, typeRow, childRule, childIds, fieldsRule, expressionRow, behaviourHead, branchRule, branchRows, choiceRun}
+use Rattle.network.specs.Rows.{pathRow, typeRow, childRule, childIds, fieldsRule, expressionRow, behaviourHead, branchRule, branchRowRule, choiceRun}
 use Rattle.network.specs.Rows.{behaviourRow, operationFields, operationLinks, repeatRule, operationRow, locationRule, serviceRow, pathRows, typeRows}
-use Rattle.network.specs.Rows.{expressionRows, behaviourRows, operationRows, serviceRows, kindAt, isChoice, firstChild, childCount}
+use Rattle.network.specs.Rows.{expressionRows, behaviourRows, operationRows, serviceRows, kindAt, isChoiceKind, firstChild, childCount}
 use Rattle.network.specs.Uses.{rowUseRule, serviceUseRule, usesRow, usesRows, broken}
 use Rattle.network.specs.Sizes.{typeLarge, expressionLarge, typeSizes, expressionSizes, large}
 use Rattle.network.specs.Form.{afterSizes, afterFields, formOf}
@@ -28,6 +28,7 @@ use Rattle.network.specs.Breaks.{behaviourA, behaviourB, behaviourC, beh
 use Rattle.network.specs.Breaks.{operationServiceRow, operationDirectionByte, operationTwoWayByte, operationUnused, operationIdZero}
 use Rattle.network.specs.Breaks.{operationPlace, operationRequest, operationReply, operationRepeated, serviceLocationZero, serviceStarter}
 use Rattle.network.specs.Breaks.{serviceClient, serviceUnused, serviceRepeated}
+use Rattle.network.specs.Breaks.{inPath, inType, inExpression, inBehaviour, inUse, inOperation, inService}
 use Rattle.network.specs.Breaks.{Breaks, TooLargeAt, largeType, largeExpression}
 
 -- A rule before others: the answer is its place or theirs; it is at or below its place, and theirs.
@@ -49,100 +50,100 @@ module _ (s : List ℕ) where
   pathRow-hit : (r : ℕ) → r < pathCount s → (p : ℕ) → pathRow s r ≡ At p → Breaks s p
   unfolding pathRow
   pathRow-hit r l p =
-      hit _ _ _ p (λ h q. subst (Breaks s) q (pathFirst r l h))
-      (hit _ _ _ p (λ h q. subst (Breaks s) q (pathSecond r l h))
-      (hit _ _ _ p (λ h q. subst (Breaks s) q (pathThird r l h))
-      (hit _ _ _ p (λ h q. subst (Breaks s) q (pathFourth r l h))
+      hit _ _ _ p (λ h q. subst (Breaks s) q (inPath r l (pathFirst h)))
+      (hit _ _ _ p (λ h q. subst (Breaks s) q (inPath r l (pathSecond h)))
+      (hit _ _ _ p (λ h q. subst (Breaks s) q (inPath r l (pathThird h)))
+      (hit _ _ _ p (λ h q. subst (Breaks s) q (inPath r l (pathFourth h)))
       (nothing p))))
 
   childRule-hit : (r : ℕ) → r < typeCount s → (j : ℕ) → j < typeCount s → (p : ℕ) → childRule s (firstChild s r) (childCount s r) j ≡ At p → Breaks s p
   unfolding childRule
-  childRule-hit r l j k p = hit _ _ _ p (λ h q. subst (Breaks s) q (childId r j l k h)) (nothing p)
+  childRule-hit r l j k p = hit _ _ _ p (λ h q. subst (Breaks s) q (inType r l (childId j k h))) (nothing p)
 
   typeRow-hit : (r : ℕ) → r < typeCount s → (p : ℕ) → typeRow s r ≡ At p → Breaks s p
   unfolding typeRow childIds
   typeRow-hit r l p =
-      hit _ _ _ p (λ h q. subst (Breaks s) q (typeCardinality r l h))
-      (hit _ _ _ p (λ h q. subst (Breaks s) q (typeBasicType r l h))
-      (hit _ _ _ p (λ h q. subst (Breaks s) q (typeChildren r l h))
+      hit _ _ _ p (λ h q. subst (Breaks s) q (inType r l (typeCardinality h)))
+      (hit _ _ _ p (λ h q. subst (Breaks s) q (inType r l (typeBasicType h)))
+      (hit _ _ _ p (λ h q. subst (Breaks s) q (inType r l (typeChildren h)))
       (λ e. let w = over-hit (childRule s (firstChild s r) (childCount s r)) (typeCount s) p e in childRule-hit r l (w .0) (w .1) p (w .2))))
 
   expressionRow-hit : (r : ℕ) → r < expressionCount s → (p : ℕ) → expressionRow s r ≡ At p → Breaks s p
   unfolding expressionRow fieldsRule
   expressionRow-hit r l p =
-      hit _ _ _ p (λ h q. subst (Breaks s) q (expressionKindByte r l h))
-      (hit _ _ _ p (λ h q. subst (Breaks s) q (expressionBasic r l h))
-      (hit _ _ _ p (λ h q. subst (Breaks s) q (expressionA r l h))
-      (hit _ _ _ p (λ h q. subst (Breaks s) q (expressionB r l h))
-      (hit _ _ _ p (λ h q. subst (Breaks s) q (expressionC r l h))
+      hit _ _ _ p (λ h q. subst (Breaks s) q (inExpression r l (expressionKindByte h)))
+      (hit _ _ _ p (λ h q. subst (Breaks s) q (inExpression r l (expressionBasic h)))
+      (hit _ _ _ p (λ h q. subst (Breaks s) q (inExpression r l (expressionA h)))
+      (hit _ _ _ p (λ h q. subst (Breaks s) q (inExpression r l (expressionB h)))
+      (hit _ _ _ p (λ h q. subst (Breaks s) q (inExpression r l (expressionC h)))
       (nothing p)))))
 
-  branch-hit : (r : ℕ) → r < behaviourCount s → isChoice (kindAt s r) ≡ true → (j : ℕ) → j < behaviourCount s → (p : ℕ)
+  branch-hit : (r : ℕ) → r < behaviourCount s → isChoiceKind (kindAt s r) ≡ true → (j : ℕ) → j < behaviourCount s → (p : ℕ)
       → branchRule s (behaviourAt s r) j ≡ At p → Breaks s p
   unfolding branchRule
-  branch-hit r l c j k p = hit _ _ _ p (λ h q. subst (Breaks s) q (choiceBranches r j l k c h)) (nothing p)
+  branch-hit r l c j k p = hit _ _ _ p (λ h q. subst (Breaks s) q (inBehaviour r l (choiceBranches j k c h))) (nothing p)
 
   choice-hit : (r : ℕ) → r < behaviourCount s → (p : ℕ) → choiceRun s r ≡ At p → Breaks s p
-  unfolding choiceRun branchRows
-  choice-hit r l p e = go (isChoice (kindAt s r)) refl e
+  unfolding choiceRun branchRowRule
+  choice-hit r l p e = go (isChoiceKind (kindAt s r)) refl e
     where
-      go : (c : Bool) → isChoice (kindAt s r) ≡ c → pick c (leastOver (behaviourCount s) (branchRule s (behaviourAt s r))) Nowhere ≡ At p → Breaks s p
+      go : (c : Bool) → isChoiceKind (kindAt s r) ≡ c → pick c (leastOver (behaviourCount s) (branchRule s (behaviourAt s r))) Nowhere ≡ At p → Breaks s p
       go true c e = let w = over-hit (branchRule s (behaviourAt s r)) (behaviourCount s) p e in branch-hit r l c (w .0) (w .1) p (w .2)
       go false c e = nothing p e
 
   behaviourRow-hit : (r : ℕ) → r < behaviourCount s → (p : ℕ) → behaviourRow s r ≡ At p → Breaks s p
   unfolding behaviourRow behaviourHead fieldsRule
   behaviourRow-hit r l p =
-      hit _ _ _ p (λ h q. subst (Breaks s) q (behaviourKindByte r l h))
-      (hit _ _ _ p (λ h q. subst (Breaks s) q (behaviourUnused r l h))
-      (hit _ _ _ p (λ h q. subst (Breaks s) q (behaviourA r l h))
-      (hit _ _ _ p (λ h q. subst (Breaks s) q (behaviourB r l h))
-      (hit _ _ _ p (λ h q. subst (Breaks s) q (behaviourC r l h))
-      (hit _ _ _ p (λ h q. subst (Breaks s) q (behaviourD r l h))
+      hit _ _ _ p (λ h q. subst (Breaks s) q (inBehaviour r l (behaviourKindByte h)))
+      (hit _ _ _ p (λ h q. subst (Breaks s) q (inBehaviour r l (behaviourUnused h)))
+      (hit _ _ _ p (λ h q. subst (Breaks s) q (inBehaviour r l (behaviourA h)))
+      (hit _ _ _ p (λ h q. subst (Breaks s) q (inBehaviour r l (behaviourB h)))
+      (hit _ _ _ p (λ h q. subst (Breaks s) q (inBehaviour r l (behaviourC h)))
+      (hit _ _ _ p (λ h q. subst (Breaks s) q (inBehaviour r l (behaviourD h)))
       (choice-hit r l p))))))
 
   repeatRule-hit : (r : ℕ) → r < operationCount s → (j : ℕ) → j < r → (p : ℕ) → repeatRule s r j ≡ At p → Breaks s p
   unfolding repeatRule
-  repeatRule-hit r l j k p = hit _ _ _ p (λ h q. subst (Breaks s) q (operationRepeated r j l k h)) (nothing p)
+  repeatRule-hit r l j k p = hit _ _ _ p (λ h q. subst (Breaks s) q (inOperation r l (operationRepeated j k h))) (nothing p)
 
   operationRow-hit : (r : ℕ) → r < operationCount s → (p : ℕ) → operationRow s r ≡ At p → Breaks s p
   unfolding operationRow operationFields operationLinks
   operationRow-hit r l p =
-      hit _ _ _ p (λ h q. subst (Breaks s) q (operationServiceRow r l h))
-      (hit _ _ _ p (λ h q. subst (Breaks s) q (operationDirectionByte r l h))
-      (hit _ _ _ p (λ h q. subst (Breaks s) q (operationTwoWayByte r l h))
-      (hit _ _ _ p (λ h q. subst (Breaks s) q (operationUnused r l h))
-      (hit _ _ _ p (λ h q. subst (Breaks s) q (operationIdZero r l h))
-      (hit _ _ _ p (λ h q. subst (Breaks s) q (operationPlace r l h))
-      (hit _ _ _ p (λ h q. subst (Breaks s) q (operationRequest r l h))
-      (hit _ _ _ p (λ h q. subst (Breaks s) q (operationReply r l h))
+      hit _ _ _ p (λ h q. subst (Breaks s) q (inOperation r l (operationServiceRow h)))
+      (hit _ _ _ p (λ h q. subst (Breaks s) q (inOperation r l (operationDirectionByte h)))
+      (hit _ _ _ p (λ h q. subst (Breaks s) q (inOperation r l (operationTwoWayByte h)))
+      (hit _ _ _ p (λ h q. subst (Breaks s) q (inOperation r l (operationUnused h)))
+      (hit _ _ _ p (λ h q. subst (Breaks s) q (inOperation r l (operationIdZero h)))
+      (hit _ _ _ p (λ h q. subst (Breaks s) q (inOperation r l (operationPlace h)))
+      (hit _ _ _ p (λ h q. subst (Breaks s) q (inOperation r l (operationRequest h)))
+      (hit _ _ _ p (λ h q. subst (Breaks s) q (inOperation r l (operationReply h)))
       (λ e. let w = over-hit (repeatRule s r) (r) p e in repeatRule-hit r l (w .0) (w .1) p (w .2)))))))))
 
   locationRule-hit : (r : ℕ) → r < serviceCount s → (j : ℕ) → j < r → (p : ℕ) → locationRule s r j ≡ At p → Breaks s p
   unfolding locationRule
-  locationRule-hit r l j k p = hit _ _ _ p (λ h q. subst (Breaks s) q (serviceRepeated r j l k h)) (nothing p)
+  locationRule-hit r l j k p = hit _ _ _ p (λ h q. subst (Breaks s) q (inService r l (serviceRepeated j k h))) (nothing p)
 
   serviceRow-hit : (r : ℕ) → r < serviceCount s → (p : ℕ) → serviceRow s r ≡ At p → Breaks s p
   unfolding serviceRow
   serviceRow-hit r l p =
-      hit _ _ _ p (λ h q. subst (Breaks s) q (serviceLocationZero r l h))
-      (hit _ _ _ p (λ h q. subst (Breaks s) q (serviceStarter r l h))
-      (hit _ _ _ p (λ h q. subst (Breaks s) q (serviceClient r l h))
-      (hit _ _ _ p (λ h q. subst (Breaks s) q (serviceUnused r l h))
+      hit _ _ _ p (λ h q. subst (Breaks s) q (inService r l (serviceLocationZero h)))
+      (hit _ _ _ p (λ h q. subst (Breaks s) q (inService r l (serviceStarter h)))
+      (hit _ _ _ p (λ h q. subst (Breaks s) q (inService r l (serviceClient h)))
+      (hit _ _ _ p (λ h q. subst (Breaks s) q (inService r l (serviceUnused h)))
       (λ e. let w = over-hit (locationRule s r) (r) p e in locationRule-hit r l (w .0) (w .1) p (w .2)))))
 
   rowUse-hit : (r : ℕ) → r < behaviourCount s → (j : ℕ) → j < behaviourCount s → (p : ℕ) → rowUseRule s r j ≡ At p → Breaks s p
   unfolding rowUseRule
-  rowUse-hit r l j k p = hit _ _ _ p (λ h q. subst (Breaks s) q (usedAgainByRow r j l k h)) (nothing p)
+  rowUse-hit r l j k p = hit _ _ _ p (λ h q. subst (Breaks s) q (inUse r l (usedAgainByRow j k h))) (nothing p)
 
   serviceUse-hit : (r : ℕ) → r < behaviourCount s → (j : ℕ) → j < serviceCount s → (p : ℕ) → serviceUseRule s r j ≡ At p → Breaks s p
   unfolding serviceUseRule
-  serviceUse-hit r l j k p = hit _ _ _ p (λ h q. subst (Breaks s) q (usedAgainByService r j l k h)) (nothing p)
+  serviceUse-hit r l j k p = hit _ _ _ p (λ h q. subst (Breaks s) q (inUse r l (usedAgainByService j k h))) (nothing p)
 
   usesRow-hit : (r : ℕ) → r < behaviourCount s → (p : ℕ) → usesRow s r ≡ At p → Breaks s p
   unfolding usesRow
   usesRow-hit r l p =
-      hit _ _ _ p (λ h q. subst (Breaks s) q (neverUsed r l h))
+      hit _ _ _ p (λ h q. subst (Breaks s) q (inUse r l (neverUsed h)))
       (λ e. ⊎-elim
       (λ h. let w = over-hit (rowUseRule s r) (behaviourCount s) p h in rowUse-hit r l (w .0) (w .1) p (w .2))
       (λ h. let w = over-hit (serviceUseRule s r) (serviceCount s) p h in serviceUse-hit r l (w .0) (w .1) p (w .2))
@@ -238,55 +239,55 @@ module _ (s : List ℕ) where
       (least-below (usesRows s) afterUses p (inr
       (least-below (operationRows s) (serviceRows s) p (inr (over-below (serviceRow s) (serviceCount s) r p l h))))))))))))
 
-  branch-low : (r p : ℕ) → isChoice (kindAt s r) ≡ true → AtOrBelow (branchRows s (behaviourAt s r)) p → AtOrBelow (choiceRun s r) p
+  branch-low : (r p : ℕ) → isChoiceKind (kindAt s r) ≡ true → AtOrBelow (branchRowRule s (behaviourAt s r)) p → AtOrBelow (choiceRun s r) p
   unfolding choiceRun
   branch-low r p c h = rw c h
 
   broken-below : (p : ℕ) → Breaks s p → AtOrBelow (broken s) p
-  unfolding pathRow typeRow childIds childRule expressionRow fieldsRule behaviourRow behaviourHead choiceRun branchRows branchRule usesRow rowUseRule
+  unfolding pathRow typeRow childIds childRule expressionRow fieldsRule behaviourRow behaviourHead choiceRun branchRowRule branchRule usesRow rowUseRule
       serviceUseRule operationRow operationFields operationLinks repeatRule serviceRow locationRule
-  broken-below p (pathFirst r l h) = in-path r p l (here _ _ _ h)
-  broken-below p (pathSecond r l h) = in-path r p l (past _ _ _ p (here _ _ _ h))
-  broken-below p (pathThird r l h) = in-path r p l (past _ _ _ p (past _ _ _ p (here _ _ _ h)))
-  broken-below p (pathFourth r l h) = in-path r p l (past _ _ _ p (past _ _ _ p (past _ _ _ p (here _ _ _ h))))
-  broken-below p (typeCardinality r l h) = in-type r p l (here _ _ _ h)
-  broken-below p (typeBasicType r l h) = in-type r p l (past _ _ _ p (here _ _ _ h))
-  broken-below p (typeChildren r l h) = in-type r p l (past _ _ _ p (past _ _ _ p (here _ _ _ h)))
-  broken-below p (childId r j l k h) = in-type r p l (past _ _ _ p (past _ _ _ p (past _ _ _ p (over-below (childRule s (firstChild s r) (childCount s r)) (typeCount s) j p k (here _ _ _ h)))))
-  broken-below p (expressionKindByte r l h) = in-expression r p l (here _ _ _ h)
-  broken-below p (expressionBasic r l h) = in-expression r p l (past _ _ _ p (here _ _ _ h))
-  broken-below p (expressionA r l h) = in-expression r p l (past _ _ _ p (past _ _ _ p (here _ _ _ h)))
-  broken-below p (expressionB r l h) = in-expression r p l (past _ _ _ p (past _ _ _ p (past _ _ _ p (here _ _ _ h))))
-  broken-below p (expressionC r l h) = in-expression r p l (past _ _ _ p (past _ _ _ p (past _ _ _ p (past _ _ _ p (here _ _ _ h)))))
-  broken-below p (behaviourKindByte r l h) = in-behaviour r p l (here _ _ _ h)
-  broken-below p (behaviourUnused r l h) = in-behaviour r p l (past _ _ _ p (here _ _ _ h))
-  broken-below p (behaviourA r l h) = in-behaviour r p l (past _ _ _ p (past _ _ _ p (here _ _ _ h)))
-  broken-below p (behaviourB r l h) = in-behaviour r p l (past _ _ _ p (past _ _ _ p (past _ _ _ p (here _ _ _ h))))
-  broken-below p (behaviourC r l h) = in-behaviour r p l (past _ _ _ p (past _ _ _ p (past _ _ _ p (past _ _ _ p (here _ _ _ h)))))
-  broken-below p (behaviourD r l h) = in-behaviour r p l (past _ _ _ p (past _ _ _ p (past _ _ _ p (past _ _ _ p (past _ _ _ p (here _ _ _ h))))))
-  broken-below p (choiceBranches r j l k c h) =
+  broken-below p (inPath r l (pathFirst h)) = in-path r p l (here _ _ _ h)
+  broken-below p (inPath r l (pathSecond h)) = in-path r p l (past _ _ _ p (here _ _ _ h))
+  broken-below p (inPath r l (pathThird h)) = in-path r p l (past _ _ _ p (past _ _ _ p (here _ _ _ h)))
+  broken-below p (inPath r l (pathFourth h)) = in-path r p l (past _ _ _ p (past _ _ _ p (past _ _ _ p (here _ _ _ h))))
+  broken-below p (inType r l (typeCardinality h)) = in-type r p l (here _ _ _ h)
+  broken-below p (inType r l (typeBasicType h)) = in-type r p l (past _ _ _ p (here _ _ _ h))
+  broken-below p (inType r l (typeChildren h)) = in-type r p l (past _ _ _ p (past _ _ _ p (here _ _ _ h)))
+  broken-below p (inType r l (childId j k h)) = in-type r p l (past _ _ _ p (past _ _ _ p (past _ _ _ p (over-below (childRule s (firstChild s r) (childCount s r)) (typeCount s) j p k (here _ _ _ h)))))
+  broken-below p (inExpression r l (expressionKindByte h)) = in-expression r p l (here _ _ _ h)
+  broken-below p (inExpression r l (expressionBasic h)) = in-expression r p l (past _ _ _ p (here _ _ _ h))
+  broken-below p (inExpression r l (expressionA h)) = in-expression r p l (past _ _ _ p (past _ _ _ p (here _ _ _ h)))
+  broken-below p (inExpression r l (expressionB h)) = in-expression r p l (past _ _ _ p (past _ _ _ p (past _ _ _ p (here _ _ _ h))))
+  broken-below p (inExpression r l (expressionC h)) = in-expression r p l (past _ _ _ p (past _ _ _ p (past _ _ _ p (past _ _ _ p (here _ _ _ h)))))
+  broken-below p (inBehaviour r l (behaviourKindByte h)) = in-behaviour r p l (here _ _ _ h)
+  broken-below p (inBehaviour r l (behaviourUnused h)) = in-behaviour r p l (past _ _ _ p (here _ _ _ h))
+  broken-below p (inBehaviour r l (behaviourA h)) = in-behaviour r p l (past _ _ _ p (past _ _ _ p (here _ _ _ h)))
+  broken-below p (inBehaviour r l (behaviourB h)) = in-behaviour r p l (past _ _ _ p (past _ _ _ p (past _ _ _ p (here _ _ _ h))))
+  broken-below p (inBehaviour r l (behaviourC h)) = in-behaviour r p l (past _ _ _ p (past _ _ _ p (past _ _ _ p (past _ _ _ p (here _ _ _ h)))))
+  broken-below p (inBehaviour r l (behaviourD h)) = in-behaviour r p l (past _ _ _ p (past _ _ _ p (past _ _ _ p (past _ _ _ p (past _ _ _ p (here _ _ _ h))))))
+  broken-below p (inBehaviour r l (choiceBranches j k c h)) =
       in-behaviour r p l (past _ _ _ p (past _ _ _ p (past _ _ _ p (past _ _ _ p (past _ _ _ p (past _ _ _ p (branch-low r p c (over-below (branchRule s (behaviourAt s r)) (behaviourCount s) j p k (here _ _ _ h)))))))))
-  broken-below p (neverUsed r l h) = in-use r p l (here _ _ _ h)
-  broken-below p (usedAgainByRow r j l k h) =
+  broken-below p (inUse r l (neverUsed h)) = in-use r p l (here _ _ _ h)
+  broken-below p (inUse r l (usedAgainByRow j k h)) =
       in-use r p l (past _ _ _ p (least-below (leastOver (behaviourCount s) (rowUseRule s r)) (leastOver (serviceCount s) (serviceUseRule s r)) p
       (inl (over-below (rowUseRule s r) (behaviourCount s) j p k (here _ _ _ h)))))
-  broken-below p (usedAgainByService r j l k h) =
+  broken-below p (inUse r l (usedAgainByService j k h)) =
       in-use r p l (past _ _ _ p (least-below (leastOver (behaviourCount s) (rowUseRule s r)) (leastOver (serviceCount s) (serviceUseRule s r)) p
       (inr (over-below (serviceUseRule s r) (serviceCount s) j p k (here _ _ _ h)))))
-  broken-below p (operationServiceRow r l h) = in-operation r p l (here _ _ _ h)
-  broken-below p (operationDirectionByte r l h) = in-operation r p l (past _ _ _ p (here _ _ _ h))
-  broken-below p (operationTwoWayByte r l h) = in-operation r p l (past _ _ _ p (past _ _ _ p (here _ _ _ h)))
-  broken-below p (operationUnused r l h) = in-operation r p l (past _ _ _ p (past _ _ _ p (past _ _ _ p (here _ _ _ h))))
-  broken-below p (operationIdZero r l h) = in-operation r p l (past _ _ _ p (past _ _ _ p (past _ _ _ p (past _ _ _ p (here _ _ _ h)))))
-  broken-below p (operationPlace r l h) = in-operation r p l (past _ _ _ p (past _ _ _ p (past _ _ _ p (past _ _ _ p (past _ _ _ p (here _ _ _ h))))))
-  broken-below p (operationRequest r l h) = in-operation r p l (past _ _ _ p (past _ _ _ p (past _ _ _ p (past _ _ _ p (past _ _ _ p (past _ _ _ p (here _ _ _ h)))))))
-  broken-below p (operationReply r l h) = in-operation r p l (past _ _ _ p (past _ _ _ p (past _ _ _ p (past _ _ _ p (past _ _ _ p (past _ _ _ p (past _ _ _ p (here _ _ _ h))))))))
-  broken-below p (operationRepeated r j l k h) = in-operation r p l (past _ _ _ p (past _ _ _ p (past _ _ _ p (past _ _ _ p (past _ _ _ p (past _ _ _ p (past _ _ _ p (past _ _ _ p (over-below (repeatRule s r) (r) j p k (here _ _ _ h))))))))))
-  broken-below p (serviceLocationZero r l h) = in-service r p l (here _ _ _ h)
-  broken-below p (serviceStarter r l h) = in-service r p l (past _ _ _ p (here _ _ _ h))
-  broken-below p (serviceClient r l h) = in-service r p l (past _ _ _ p (past _ _ _ p (here _ _ _ h)))
-  broken-below p (serviceUnused r l h) = in-service r p l (past _ _ _ p (past _ _ _ p (past _ _ _ p (here _ _ _ h))))
-  broken-below p (serviceRepeated r j l k h) = in-service r p l (past _ _ _ p (past _ _ _ p (past _ _ _ p (past _ _ _ p (over-below (locationRule s r) (r) j p k (here _ _ _ h))))))
+  broken-below p (inOperation r l (operationServiceRow h)) = in-operation r p l (here _ _ _ h)
+  broken-below p (inOperation r l (operationDirectionByte h)) = in-operation r p l (past _ _ _ p (here _ _ _ h))
+  broken-below p (inOperation r l (operationTwoWayByte h)) = in-operation r p l (past _ _ _ p (past _ _ _ p (here _ _ _ h)))
+  broken-below p (inOperation r l (operationUnused h)) = in-operation r p l (past _ _ _ p (past _ _ _ p (past _ _ _ p (here _ _ _ h))))
+  broken-below p (inOperation r l (operationIdZero h)) = in-operation r p l (past _ _ _ p (past _ _ _ p (past _ _ _ p (past _ _ _ p (here _ _ _ h)))))
+  broken-below p (inOperation r l (operationPlace h)) = in-operation r p l (past _ _ _ p (past _ _ _ p (past _ _ _ p (past _ _ _ p (past _ _ _ p (here _ _ _ h))))))
+  broken-below p (inOperation r l (operationRequest h)) = in-operation r p l (past _ _ _ p (past _ _ _ p (past _ _ _ p (past _ _ _ p (past _ _ _ p (past _ _ _ p (here _ _ _ h)))))))
+  broken-below p (inOperation r l (operationReply h)) = in-operation r p l (past _ _ _ p (past _ _ _ p (past _ _ _ p (past _ _ _ p (past _ _ _ p (past _ _ _ p (past _ _ _ p (here _ _ _ h))))))))
+  broken-below p (inOperation r l (operationRepeated j k h)) = in-operation r p l (past _ _ _ p (past _ _ _ p (past _ _ _ p (past _ _ _ p (past _ _ _ p (past _ _ _ p (past _ _ _ p (past _ _ _ p (over-below (repeatRule s r) (r) j p k (here _ _ _ h))))))))))
+  broken-below p (inService r l (serviceLocationZero h)) = in-service r p l (here _ _ _ h)
+  broken-below p (inService r l (serviceStarter h)) = in-service r p l (past _ _ _ p (here _ _ _ h))
+  broken-below p (inService r l (serviceClient h)) = in-service r p l (past _ _ _ p (past _ _ _ p (here _ _ _ h)))
+  broken-below p (inService r l (serviceUnused h)) = in-service r p l (past _ _ _ p (past _ _ _ p (past _ _ _ p (here _ _ _ h))))
+  broken-below p (inService r l (serviceRepeated j k h)) = in-service r p l (past _ _ _ p (past _ _ _ p (past _ _ _ p (past _ _ _ p (over-below (locationRule s r) (r) j p k (here _ _ _ h))))))
 
   -- ---- too large
 

@@ -6,12 +6,12 @@ use mathlib.Core.Bool.{Bool, true, false, not, _&&_, _||_}
 use mathlib.Core.Logic.{_⊎_, inl, inr, ⊎-elim}
 use native.Mathlib.Omega.{arith}
 use lib.Dec.{eqb}
-use Rattle.scalar.specs.Value.{pick}
-use Rattle.syntax.specs.Syntax.{Direction, input, output, Operation, Optional, none, some, Service, Network}
-use Rattle.syntax.specs.Meets.{locationOf, someAt, inFile, sameKind, meets, firstOf, metInput}
-use Rattle.syntax.specs.Rows.{entry, isInputOperation}
+use Rattle.basics.specs.Choice.{pick}
+use Rattle.basics.specs.TestLaws.{and-of, clash, eq-of, of-eq, or-of}
+use Rattle.network_syntax.specs.Syntax.{Direction, input, output, Operation, Optional, none, some, Service, Network}
+use Rattle.network_syntax.specs.Meets.{locationOf, someAt, inFile, sameKind, meets, firstOf, metInput}
+use Rattle.network_syntax.specs.Rows.{entry, isInputOperation}
 use Rattle.network.specs.Shapes.{NetworkShape}
-use Rattle.network.specs.TestLaws.{eq-of, of-eq, and-of, or-of, clash}
 
 -- What the test says: an input, at the location, of the same id and kind.
 pub record Met (n : Network) (o i : Operation) : Type 0 where

@@ -7,24 +7,24 @@ use mathlib.Core.Logic.{_⊎_, inl, inr, ⊎-elim}
 use native.Mathlib.Omega.{arith}
 use lib.Dec.{T, eqb, ltb}
 use lib.ListN.{length}
-use Rattle.forest.specs.Compare.{Compare, lt, eq, gt, compare, T-of}
-use Rattle.scalar.specs.Value.{pick}
-use Rattle.syntax.specs.Syntax.{Direction, input, output, Operation, Behaviour, Optional, none, some, Service, Network}
+use Rattle.tree_forest.specs.Compare.{Compare, lt, eq, gt, compare}
+use Rattle.basics.specs.Choice.{pick}
+use Rattle.basics.specs.TestLaws.{and-of, clash, eq-of, lt-of, not-true, of-eq, or-of, positive}
+use Rattle.network_syntax.specs.Syntax.{Direction, input, output, Operation, Behaviour, Optional, none, some, Service, Network}
 use Rattle.network.specs.declared.BehaviourKind.{BehaviourKind}
 use Rattle.network.specs.Layout.{behaviourCount, operationCount, serviceCount, counted, pathCount, typeCount, expressionCount}
-use Rattle.network.specs.Rows.{kindAt, isBranch, isChoice, operationService, operationDirection, operationId, operationLocation, sameService}
+use Rattle.network.specs.Rows.{kindAt, isBranchKind, isChoiceKind, operationService, operationDirection, operationId, operationLocation, sameService}
 use Rattle.network.specs.Rows.{sameName, serviceLocation, starterRow, clientRow, noRow, starterFits, clientFits}
 use Rattle.network.specs.Uses.{serviceUses}
 use Rattle.network.specs.Form.{WellFormed}
 use Rattle.network.specs.Decode.{operationOf, behaviourOf, rowOperation, optionalBehaviour, serviceOf, rowsFrom, networkOf}
-use Rattle.syntax.specs.Meets.{locationOf, someAt, inFile, sameKind, meets, firstOf, metInput}
-use Rattle.syntax.specs.Rows.{entry, isInputOperation}
-use Rattle.network.specs.Shapes.{OperationShape, Apart, isChoiceBehaviour, FileBehaviour, IfAny, Role, asStarter, asClient, behaviourIn}
+use Rattle.network_syntax.specs.Meets.{locationOf, someAt, inFile, sameKind, meets, firstOf, metInput}
+use Rattle.network_syntax.specs.Rows.{entry, isInputOperation}
+use Rattle.network.specs.Shapes.{OperationShape, Apart, isChoiceBehaviour, FileBehaviour, IfAny, Role, asStarter, asClient, behaviourAs}
 use Rattle.network.specs.Shapes.{NetworkShape}
-use Rattle.network.specs.TestLaws.{lt-of, eq-of, of-eq, and-of, or-of, not-true, clash, ne-of}
 use Rattle.network.specs.RowLaws.{ServiceKept, service-kept, OperationKept, operation-kept}
 use Rattle.network.specs.UseLaws.{uses-kept, one-service, choice-kind, one-same}
-use Rattle.network.specs.DecodeLaws.{positive, operation-shape}
+use Rattle.network.specs.DecodeLaws.{operation-shape}
 use Rattle.network.specs.BehaviourLaws.{behaviour-shape, behaviour-in-file, choice-row, behaviour-operations}
 use Rattle.network.specs.OnceLaws.{each-row-once, tops-apart}
 
@@ -90,33 +90,33 @@ topRow s q asClient = clientRow s q
 
 pub record TopKept (s : List ℕ) (q : ℕ) (x : Role) : Type 0 where
   pub exists : topRow s q x < behaviourCount s
-  pub kind : isBranch (kindAt s (topRow s q x)) ≡ false
+  pub kind : isBranchKind (kindAt s (topRow s q x)) ≡ false
   pub used : 1 ≤ serviceUses s (topRow s q x) q
 
-no-branch : (k : BehaviourKind) → isChoice k ≡ true → isBranch k ≡ false
-no-branch k e = ap isBranch (choice-kind k e)
+no-branch : (k : BehaviourKind) → isChoiceKind k ≡ true → isBranchKind k ≡ false
+no-branch k e = ap isBranchKind (choice-kind k e)
 
 starter-kept : (s : List ℕ) → WellFormed s → (q : ℕ) → q < serviceCount s → (eqb (starterRow s q) noRow ≡ false)
-    → (starterRow s q < behaviourCount s) × (isChoice (kindAt s (starterRow s q)) ≡ true)
+    → (starterRow s q < behaviourCount s) × (isChoiceKind (kindAt s (starterRow s q)) ≡ true)
 unfolding starterFits
 starter-kept s w q l ne =
     ⊎-elim
     (λ e. absurd (clash e ne))
-    (λ e. let a = and-of (ltb (starterRow s q) (behaviourCount s)) (isChoice (kindAt s (starterRow s q))) e in
+    (λ e. let a = and-of (ltb (starterRow s q) (behaviourCount s)) (isChoiceKind (kindAt s (starterRow s q))) e in
     (lt-of (starterRow s q) (behaviourCount s) (a .0), a .1))
-    (or-of (eqb (starterRow s q) noRow) (ltb (starterRow s q) (behaviourCount s) && isChoice (kindAt s (starterRow s q)))
+    (or-of (eqb (starterRow s q) noRow) (ltb (starterRow s q) (behaviourCount s) && isChoiceKind (kindAt s (starterRow s q)))
     (service-kept s w q l .starters))
 
 client-kept : (s : List ℕ) → WellFormed s → (q : ℕ) → q < serviceCount s → (eqb (clientRow s q) noRow ≡ false)
-    → (clientRow s q < behaviourCount s) × (isBranch (kindAt s (clientRow s q)) ≡ false)
+    → (clientRow s q < behaviourCount s) × (isBranchKind (kindAt s (clientRow s q)) ≡ false)
 unfolding clientFits
 client-kept s w q l ne =
     ⊎-elim
     (λ e. absurd (clash e ne))
     (λ e.
-    let a = and-of (ltb (clientRow s q) (behaviourCount s)) (not (isBranch (kindAt s (clientRow s q)))) e in
-    (lt-of (clientRow s q) (behaviourCount s) (a .0), not-true (isBranch (kindAt s (clientRow s q))) (a .1)))
-    (or-of (eqb (clientRow s q) noRow) (ltb (clientRow s q) (behaviourCount s) && not (isBranch (kindAt s (clientRow s q))))
+    let a = and-of (ltb (clientRow s q) (behaviourCount s)) (not (isBranchKind (kindAt s (clientRow s q)))) e in
+    (lt-of (clientRow s q) (behaviourCount s) (a .0), not-true (isBranchKind (kindAt s (clientRow s q))) (a .1)))
+    (or-of (eqb (clientRow s q) noRow) (ltb (clientRow s q) (behaviourCount s) && not (isBranchKind (kindAt s (clientRow s q))))
     (service-kept s w q l .clients))
 
 top-kept : (s : List ℕ) → WellFormed s → (q : ℕ) → q < serviceCount s → (x : Role) → eqb (topRow s q x) noRow ≡ false → TopKept s q x
@@ -158,7 +158,7 @@ one-top s w p q x y lp lq kp kq e ne = go x y kp kq e (λ z. ne same z)
 
 -- ---- services
 
-in-service : (s : List ℕ) (q : ℕ) (x : Role) → behaviourIn x (serviceOf s q) ≡ optionalBehaviour s (topRow s q x)
+in-service : (s : List ℕ) (q : ℕ) (x : Role) → behaviourAs x (serviceOf s q) ≡ optionalBehaviour s (topRow s q x)
 unfolding serviceOf
 in-service s q asStarter = refl
 in-service s q asClient = refl
@@ -172,7 +172,7 @@ file-behaviour s w q x k = record {
 }
 
 service-behaviours : (s : List ℕ) → WellFormed s → (q : ℕ) → q < serviceCount s → (x : Role)
-    → IfAny (behaviourIn x (serviceOf s q)) (FileBehaviour (rowOperation s))
+    → IfAny (behaviourAs x (serviceOf s q)) (FileBehaviour (rowOperation s))
 service-behaviours s w q l x =
     subst (λ (o : Optional Behaviour). IfAny o (FileBehaviour (rowOperation s))) (sym (in-service s q x)) (go (eqb (topRow s q x) noRow) refl)
   where
@@ -193,7 +193,7 @@ pub record Top (s : List ℕ) (q : ℕ) (x : Role) (b : Behaviour) : Type 0 wher
   pub isTop : b ≡ behaviourOf s (topRow s q x)
   pub kept : TopKept s q x
 
-pub top-of : (s : List ℕ) → WellFormed s → (q : ℕ) → q < serviceCount s → (x : Role) (b : Behaviour) → behaviourIn x (serviceOf s q) ≡ some b
+pub top-of : (s : List ℕ) → WellFormed s → (q : ℕ) → q < serviceCount s → (x : Role) (b : Behaviour) → behaviourAs x (serviceOf s q) ≡ some b
     → Top s q x b
 top-of s w q l x b e = go (eqb (topRow s q x) noRow) refl (sym (in-service s q x) ∙ e)
   where
@@ -202,8 +202,8 @@ top-of s w q l x b e = go (eqb (topRow s q x) noRow) refl (sym (in-service s q x
     go false f g = record { isTop = cc; kept = top-kept s w q l x f }
 
 services-apart : (s : List ℕ) → WellFormed s → (p q : ℕ) (x y : Role) (a b : Behaviour) → p < serviceCount s → q < serviceCount s
-    → behaviourIn x (serviceOf s p) ≡ some a
-    → behaviourIn y (serviceOf s q) ≡ some b → (p ≡ q → x ≡ y → ⊥) → Apart a b
+    → behaviourAs x (serviceOf s p) ≡ some a
+    → behaviourAs y (serviceOf s q) ≡ some b → (p ≡ q → x ≡ y → ⊥) → Apart a b
 services-apart s w p q x y a b lp lq ea eb ne =
     let g = top-of s w p lp x a ea in
     let h = top-of s w q lq y b eb in
@@ -328,7 +328,7 @@ pub network-shape : (s : List ℕ) → WellFormed s → NetworkShape (rowOperati
 network-shape s w = record {
   behaviours = λ q v x e.
       let h = service-of-entry s q v e in
-      subst (λ (u : Service). IfAny (behaviourIn x u) (FileBehaviour (rowOperation s))) (sym (h .1)) (service-behaviours s w q (h .0) x);
+      subst (λ (u : Service). IfAny (behaviourAs x u) (FileBehaviour (rowOperation s))) (sym (h .1)) (service-behaviours s w q (h .0) x);
   starters = λ q v e.
       let h = service-of-entry s q v e in
       subst (λ (u : Service). IfAny (u .starter) (λ b. T (isChoiceBehaviour b))) (sym (h .1)) (service-starter s w q (h .0));
@@ -336,7 +336,7 @@ network-shape s w = record {
       let g = service-of-entry s p v ev in
       let h = service-of-entry s q u eu in
       services-apart s w p q x y a b (g .0) (h .0)
-      (subst (λ (z : Service). behaviourIn x z ≡ some a) (g .1) ea) (subst (λ (z : Service). behaviourIn y z ≡ some b) (h .1) eb) ne;
+      (subst (λ (z : Service). behaviourAs x z ≡ some a) (g .1) ea) (subst (λ (z : Service). behaviourAs y z ≡ some b) (h .1) eb) ne;
   located = λ q v e.
       let h = service-of-entry s q v e in
       let k = service-location s q v (h .1) in

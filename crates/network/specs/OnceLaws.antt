@@ -6,31 +6,20 @@ use mathlib.Core.Bool.{Bool, true, false, _||_}
 use mathlib.Core.Logic.{_⊎_, inl, inr, ⊎-elim}
 use native.Mathlib.Omega.{arith}
 use lib.Dec.{T, eqb, eqb→eq, eqb-refl}
-use Rattle.forest.specs.Compare.{Compare, lt, eq, gt, compare}
-use Rattle.syntax.specs.Syntax.{Behaviour, choice, Branches, lastBranch, branch}
+use Rattle.basics.specs.TestLaws.{or-case, or-l, or-r}
+use Rattle.tree_forest.specs.Compare.{Compare, lt, eq, gt, compare}
+use Rattle.network_syntax.specs.Syntax.{Behaviour, choice, Branches, lastBranch, branch}
 use Rattle.network.specs.declared.BehaviourKind.{BehaviourKind}
 use Rattle.network.specs.Layout.{behaviourCount, serviceCount, behaviourAt}
 use Rattle.network.specs.Rows.{fieldA, fieldB, fieldC, fieldD, kindAt}
 use Rattle.network.specs.Uses.{rowUses, serviceUses}
 use Rattle.network.specs.Form.{WellFormed}
 use Rattle.network.specs.Decode.{branchesFrom, behaviourFrom, behaviourTo, behaviourOf}
-use Rattle.syntax.specs.Rows.{hasRow, hasRowIn}
+use Rattle.network_syntax.specs.Rows.{hasRow, hasRowIn}
 use Rattle.network.specs.Shapes.{Outside, Apart, EachRowOnce, EachBranchRowOnce}
 use Rattle.network.specs.UseLaws.{Uses, one-user, no-user, one-service, Child, SubKept, InputKept, BranchKept, RowKept, behaviour-kept}
 use Rattle.network.specs.UseLaws.{branch-kept}
 use Rattle.network.specs.BehaviourLaws.{BranchesKept, Later}
-
-pub or-left : (a b : Bool) → T a → T (a || b)
-or-left true b t = tt
-or-left false b t = elim t [ ]
-
-pub or-right : (a b : Bool) → T b → T (a || b)
-or-right true b t = tt
-or-right false b t = t
-
-pub or-case : (a b : Bool) {X : Type 0} → (T a → X) → (T b → X) → T (a || b) → X
-or-case true b f g t = f tt
-or-case false b f g t = g t
 
 -- The user of row i, one of the rows that `has` tells.
 record User (s : List ℕ) (has : ℕ → Bool) (i : ℕ) : Type 0 where
@@ -212,7 +201,7 @@ branch-up s r j x y i A B M kj kx ky ua ub ia ib jx t = go (compare i j)
           h .1,
           record {
             user = r;
-            inside = or-left (eqb r r) (hasRowIn r M) (eqb-refl r);
+            inside = or-l (eqb r r) (hasRowIn r M) (eqb-refl r);
             uses = subst (λ (z : ℕ). Uses s r z) (sym c)
                 (kj .uses);
             before = omega arith;
@@ -224,7 +213,7 @@ branch-up s r j x y i A B M kj kx ky ua ub ia ib jx t = go (compare i j)
           h .1,
           record {
             user = v .user;
-            inside = or-right (eqb (v .user) r) (hasRowIn (v .user) M)
+            inside = or-r (eqb (v .user) r) (hasRowIn (v .user) M)
                 (v .inside);
             uses = v .uses;
             before = v .before;
@@ -243,14 +232,14 @@ branches-up s w r f u (suc zero) a o h i t =
     let y : ℕ = fieldB s (behaviourAt s a) in
     branch-up s r a x y i (f x) (f y) (lastBranch a (f x) (f y)) (k .child) (b .0 .child) (b .1 .child)
     (u x (let z = b .0 .child .later in omega arith) (b .0 .child .exists)) (u y (let z = b .1 .child .later in omega arith) (b .1 .child .exists))
-    (λ l z. or-right (eqb l a) (hasRow l (f x) || hasRow l (f y)) (or-left (hasRow l (f x)) (hasRow l (f y)) z))
-    (λ l z. or-right (eqb l a) (hasRow l (f x) || hasRow l (f y)) (or-right (hasRow l (f x)) (hasRow l (f y)) z))
-    (or-left (eqb a a) (hasRow a (f x) || hasRow a (f y)) (eqb-refl a)) t
+    (λ l z. or-r (eqb l a) (hasRow l (f x) || hasRow l (f y)) (or-l (hasRow l (f x)) (hasRow l (f y)) z))
+    (λ l z. or-r (eqb l a) (hasRow l (f x) || hasRow l (f y)) (or-r (hasRow l (f x)) (hasRow l (f y)) z))
+    (or-l (eqb a a) (hasRow a (f x) || hasRow a (f y)) (eqb-refl a)) t
 branches-up s w r f u (suc (suc n)) a o h i t =
     or-case (eqb i a) ((hasRow i (f x) || hasRow i (f y)) || hasRowIn i M)
-    (λ z. this (or-left (eqb i a) (hasRow i (f x) || hasRow i (f y)) z))
+    (λ z. this (or-l (eqb i a) (hasRow i (f x) || hasRow i (f y)) z))
     (λ z. or-case (hasRow i (f x) || hasRow i (f y)) (hasRowIn i M)
-    (λ v. this (or-right (eqb i a) (hasRow i (f x) || hasRow i (f y)) v))
+    (λ v. this (or-r (eqb i a) (hasRow i (f x) || hasRow i (f y)) v))
     (λ v. later (branches-up s w r f u (suc n) (suc a) (omega arith) (λ j p q. h j (omega arith) (omega arith)) i v)) z) t
   where
     x : ℕ
@@ -274,11 +263,11 @@ branches-up s w r f u (suc (suc n)) a o h i t =
         branch-up s r a x y i (f x) (f y) (branch a (f x) (f y) M) (k .child) (b .0 .child) (b .1 .child)
         (u x (let z = b .0 .child .later in omega arith) (b .0 .child .exists))
         (u y (let z = b .1 .child .later in omega arith) (b .1 .child .exists))
-        (λ l z. or-right (eqb l a) ((hasRow l (f x) || hasRow l (f y)) || hasRowIn l M)
-        (or-left (hasRow l (f x) || hasRow l (f y)) (hasRowIn l M) (or-left (hasRow l (f x)) (hasRow l (f y)) z)))
-        (λ l z. or-right (eqb l a) ((hasRow l (f x) || hasRow l (f y)) || hasRowIn l M)
-        (or-left (hasRow l (f x) || hasRow l (f y)) (hasRowIn l M) (or-right (hasRow l (f x)) (hasRow l (f y)) z)))
-        (or-left (eqb a a) ((hasRow a (f x) || hasRow a (f y)) || hasRowIn a M) (eqb-refl a)) v
+        (λ l z. or-r (eqb l a) ((hasRow l (f x) || hasRow l (f y)) || hasRowIn l M)
+        (or-l (hasRow l (f x) || hasRow l (f y)) (hasRowIn l M) (or-l (hasRow l (f x)) (hasRow l (f y)) z)))
+        (λ l z. or-r (eqb l a) ((hasRow l (f x) || hasRow l (f y)) || hasRowIn l M)
+        (or-l (hasRow l (f x) || hasRow l (f y)) (hasRowIn l M) (or-r (hasRow l (f x)) (hasRow l (f y)) z)))
+        (or-l (eqb a a) ((hasRow a (f x) || hasRow a (f y)) || hasRowIn a M) (eqb-refl a)) v
 
     later : (suc a ≤ i) × (i < behaviourCount s) × BranchUser s r M i → (a ≤ i) × (i < behaviourCount s) × BranchUser s r (branch a (f x) (f y) M) i
     later v =
@@ -289,10 +278,10 @@ branches-up s w r f u (suc (suc n)) a o h i t =
           record {
             user = p;
             inside =
-                or-case (eqb p r) (hasRowIn p M) (λ q. or-left (eqb p r) (hasRowIn p (branch a (f x) (f y) M)) q)
-                (λ q. or-right (eqb p r) (hasRowIn p (branch a (f x) (f y) M))
-                (or-right (eqb p a) ((hasRow p (f x) || hasRow p (f y)) || hasRowIn p M)
-                (or-right (hasRow p (f x) || hasRow p (f y)) (hasRowIn p M) q))) (v .2 .inside);
+                or-case (eqb p r) (hasRowIn p M) (λ q. or-l (eqb p r) (hasRowIn p (branch a (f x) (f y) M)) q)
+                (λ q. or-r (eqb p r) (hasRowIn p (branch a (f x) (f y) M))
+                (or-r (eqb p a) ((hasRow p (f x) || hasRow p (f y)) || hasRowIn p M)
+                (or-r (hasRow p (f x) || hasRow p (f y)) (hasRowIn p M) q))) (v .2 .inside);
             uses = v .2 .uses;
             before = v .2 .before;
           },
@@ -308,40 +297,40 @@ row-up s w r at l f u BehaviourKind.RequestResponse h i t =
     (λ z. top-up s r i _ l z)
     (λ z. sub-up s r (fieldD s at) i (f (fieldD s at)) _ (h .3 .child)
     (u (fieldD s at) (h .3 .child .later) (h .3 .child .exists))
-    (λ j v. or-right (eqb j r) (hasRow j (f (fieldD s at))) v) (or-left (eqb r r) (hasRow r (f (fieldD s at))) (eqb-refl r)) z) t
+    (λ j v. or-r (eqb j r) (hasRow j (f (fieldD s at))) v) (or-l (eqb r r) (hasRow r (f (fieldD s at))) (eqb-refl r)) z) t
 row-up s w r at l f u BehaviourKind.Notification h i t = top-up s r i _ l t
 row-up s w r at l f u BehaviourKind.SolicitResponse h i t = top-up s r i _ l t
 row-up s w r at l f u BehaviourKind.If h i t =
     two-up s r (fieldB s at) (fieldC s at) i (f (fieldB s at)) (f (fieldC s at)) _ l (h .1 .child) (h .2 .child)
     (u (fieldB s at) (h .1 .child .later) (h .1 .child .exists)) (u (fieldC s at) (h .2 .child .later) (h .2 .child .exists))
-    (λ j v. or-right (eqb j r) (hasRow j (f (fieldB s at)) || hasRow j (f (fieldC s at)))
-    (or-left (hasRow j (f (fieldB s at))) (hasRow j (f (fieldC s at))) v))
-    (λ j v. or-right (eqb j r) (hasRow j (f (fieldB s at)) || hasRow j (f (fieldC s at)))
-    (or-right (hasRow j (f (fieldB s at))) (hasRow j (f (fieldC s at))) v))
-    (or-left (eqb r r) (hasRow r (f (fieldB s at)) || hasRow r (f (fieldC s at))) (eqb-refl r)) t
+    (λ j v. or-r (eqb j r) (hasRow j (f (fieldB s at)) || hasRow j (f (fieldC s at)))
+    (or-l (hasRow j (f (fieldB s at))) (hasRow j (f (fieldC s at))) v))
+    (λ j v. or-r (eqb j r) (hasRow j (f (fieldB s at)) || hasRow j (f (fieldC s at)))
+    (or-r (hasRow j (f (fieldB s at))) (hasRow j (f (fieldC s at))) v))
+    (or-l (eqb r r) (hasRow r (f (fieldB s at)) || hasRow r (f (fieldC s at))) (eqb-refl r)) t
 row-up s w r at l f u BehaviourKind.While h i t =
     or-case (eqb i r) (hasRow i (f (fieldB s at))) (λ z. top-up s r i _ l z)
     (λ z. sub-up s r (fieldB s at) i (f (fieldB s at)) _ (h .1 .child)
     (u (fieldB s at) (h .1 .child .later) (h .1 .child .exists))
-    (λ j v. or-right (eqb j r) (hasRow j (f (fieldB s at))) v) (or-left (eqb r r) (hasRow r (f (fieldB s at))) (eqb-refl r)) z) t
+    (λ j v. or-r (eqb j r) (hasRow j (f (fieldB s at))) v) (or-l (eqb r r) (hasRow r (f (fieldB s at))) (eqb-refl r)) z) t
 row-up s w r at l f u BehaviourKind.Sequence h i t =
     two-up s r (fieldA s at) (fieldB s at) i (f (fieldA s at)) (f (fieldB s at)) _ l (h .0 .child)
     (h .1 .child)
     (u (fieldA s at) (h .0 .child .later) (h .0 .child .exists)) (u (fieldB s at) (h .1 .child .later) (h .1 .child .exists))
-    (λ j v. or-right (eqb j r) (hasRow j (f (fieldA s at)) || hasRow j (f (fieldB s at)))
-    (or-left (hasRow j (f (fieldA s at))) (hasRow j (f (fieldB s at))) v))
-    (λ j v. or-right (eqb j r) (hasRow j (f (fieldA s at)) || hasRow j (f (fieldB s at)))
-    (or-right (hasRow j (f (fieldA s at))) (hasRow j (f (fieldB s at))) v))
-    (or-left (eqb r r) (hasRow r (f (fieldA s at)) || hasRow r (f (fieldB s at))) (eqb-refl r)) t
+    (λ j v. or-r (eqb j r) (hasRow j (f (fieldA s at)) || hasRow j (f (fieldB s at)))
+    (or-l (hasRow j (f (fieldA s at))) (hasRow j (f (fieldB s at))) v))
+    (λ j v. or-r (eqb j r) (hasRow j (f (fieldA s at)) || hasRow j (f (fieldB s at)))
+    (or-r (hasRow j (f (fieldA s at))) (hasRow j (f (fieldB s at))) v))
+    (or-l (eqb r r) (hasRow r (f (fieldA s at)) || hasRow r (f (fieldB s at))) (eqb-refl r)) t
 row-up s w r at l f u BehaviourKind.Parallel h i t =
     two-up s r (fieldA s at) (fieldB s at) i (f (fieldA s at)) (f (fieldB s at)) _ l (h .0 .child)
     (h .1 .child)
     (u (fieldA s at) (h .0 .child .later) (h .0 .child .exists)) (u (fieldB s at) (h .1 .child .later) (h .1 .child .exists))
-    (λ j v. or-right (eqb j r) (hasRow j (f (fieldA s at)) || hasRow j (f (fieldB s at)))
-    (or-left (hasRow j (f (fieldA s at))) (hasRow j (f (fieldB s at))) v))
-    (λ j v. or-right (eqb j r) (hasRow j (f (fieldA s at)) || hasRow j (f (fieldB s at)))
-    (or-right (hasRow j (f (fieldA s at))) (hasRow j (f (fieldB s at))) v))
-    (or-left (eqb r r) (hasRow r (f (fieldA s at)) || hasRow r (f (fieldB s at))) (eqb-refl r)) t
+    (λ j v. or-r (eqb j r) (hasRow j (f (fieldA s at)) || hasRow j (f (fieldB s at)))
+    (or-l (hasRow j (f (fieldA s at))) (hasRow j (f (fieldB s at))) v))
+    (λ j v. or-r (eqb j r) (hasRow j (f (fieldA s at)) || hasRow j (f (fieldB s at)))
+    (or-r (hasRow j (f (fieldA s at))) (hasRow j (f (fieldB s at))) v))
+    (or-l (eqb r r) (hasRow r (f (fieldA s at)) || hasRow r (f (fieldB s at))) (eqb-refl r)) t
 row-up s w r at l f u BehaviourKind.Assign h i t = top-up s r i _ l t
 row-up s w r at l f u BehaviourKind.Choice h i t =
     or-case (eqb i r) (hasRowIn i M) (λ z. top-up s r i _ l z)
@@ -350,7 +339,8 @@ row-up s w r at l f u BehaviourKind.Choice h i t =
     M : Branches
     M = branchesFrom s f (fieldA s at) (fieldB s at)
 
-    below : (fieldA s at ≤ i) × (i < behaviourCount s) × BranchUser s r M i → (r ≤ i) × (i < behaviourCount s) × ((i ≡ r → ⊥) → User s (λ j. hasRow j (choice r M)) i)
+    below : (fieldA s at ≤ i) × (i < behaviourCount s) × BranchUser s r M i
+        → (r ≤ i) × (i < behaviourCount s) × ((i ≡ r → ⊥) → User s (λ j. hasRow j (choice r M)) i)
     below v =
         let g = v .0 in
         let o = h .0 in

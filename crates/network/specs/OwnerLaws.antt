@@ -7,26 +7,25 @@ use mathlib.Core.Bool.{Bool, true, false, not, _&&_, _||_}
 use mathlib.Core.Logic.{_⊎_, inl, inr, ⊎-elim}
 use native.Mathlib.Omega.{arith}
 use lib.Dec.{T, eqb, leb, ltb, eqb→eq, eqb-refl}
-use Rattle.forest.specs.Compare.{Compare, lt, eq, gt, compare, not-T-false}
-use Rattle.scalar.specs.Value.{pick}
-use Rattle.syntax.specs.Syntax.{Behaviour, Branches, Optional, none, some}
+use Rattle.tree_forest.specs.Compare.{Compare, lt, eq, gt, compare}
+use Rattle.basics.specs.Choice.{pick}
+use Rattle.basics.specs.TestLaws.{and-of, clash, eq-of, le-of, lt-of, ne-of, not-T-false, or-case, or-l, or-r}
+use Rattle.network_syntax.specs.Syntax.{Behaviour, Branches, Optional, none, some}
 use Rattle.network.specs.declared.BehaviourKind.{BehaviourKind}
 use Rattle.network.specs.Least.{sumOver}
 use Rattle.network.specs.Layout.{behaviourCount, serviceCount, behaviourAt}
 use Rattle.network.specs.Kinds.{behaviourFields}
-use Rattle.network.specs.Rows.{inRun, fieldA, fieldB, fieldC, fieldD, kindAt, isBranch, isInput, starterRow, clientRow, noRow}
+use Rattle.network.specs.Rows.{inRun, fieldA, fieldB, fieldC, fieldD, kindAt, isBranchKind, isInputKind, starterRow, clientRow, noRow}
 use Rattle.network.specs.Uses.{fieldUses, one, usesBy, rowUses, serviceUses, usedByRows, used, usesRow}
 use Rattle.network.specs.Form.{WellFormed}
 use Rattle.network.specs.Decode.{branchesFrom, behaviourFrom, behaviourTo, behaviourOf, serviceOf}
-use Rattle.syntax.specs.Rows.{hasRow, hasRowIn}
-use Rattle.syntax.specs.ViewLaws.{own-row}
-use Rattle.network.specs.Shapes.{Role, asStarter, asClient, behaviourIn}
+use Rattle.network_syntax.specs.Rows.{hasRow, hasRowIn}
+use Rattle.network_syntax.specs.ViewLaws.{own-row}
+use Rattle.network.specs.Shapes.{Role, asStarter, asClient, behaviourAs}
 use Rattle.network.specs.LeastLaws.{rule-kept}
-use Rattle.network.specs.TestLaws.{le-of, lt-of, eq-of, and-of, ne-of, clash}
 use Rattle.network.specs.RowLaws.{unbroken, counts-kept}
 use Rattle.network.specs.UseLaws.{Uses, Child, SubKept, InputKept, BranchKept, RowKept, behaviour-kept, branch-kept, branch-kind}
 use Rattle.network.specs.BehaviourLaws.{BranchesKept, Later, row-to}
-use Rattle.network.specs.OnceLaws.{or-left, or-right, or-case}
 use Rattle.network.specs.NetworkLaws.{topRow, TopKept, Top, top-of}
 
 -- ---- a sum that is not 0 has a part that is not
@@ -132,7 +131,7 @@ top-to s d r = subst (λ (i : ℕ). T (hasRow i (behaviourTo s d r))) (row-to s 
 run-in : (s : List ℕ) (f : ℕ → Behaviour) (t n a : ℕ) → a ≤ t → t < a + n → T (hasRowIn t (branchesFrom s f a n))
 unfolding branchesFrom hasRowIn
 run-in s f t zero a x y = absurd (omega arith)
-run-in s f t (suc zero) a x y = or-left (eqb t a) _ (subst (λ (z : ℕ). T (eqb t z)) (omega arith) (eqb-refl t))
+run-in s f t (suc zero) a x y = or-l (eqb t a) _ (subst (λ (z : ℕ). T (eqb t z)) (omega arith) (eqb-refl t))
 run-in s f t (suc (suc n)) a x y = go (compare t a) (λ z. run-in s f t (suc n) (suc a) z (omega arith))
   where
     X : Behaviour
@@ -146,18 +145,18 @@ run-in s f t (suc (suc n)) a x y = go (compare t a) (λ z. run-in s f t (suc n) 
 
     go : Compare t a → (suc a ≤ t → T (hasRowIn t M)) → T (eqb t a || ((hasRow t X || hasRow t Y) || hasRowIn t M))
     go (lt h) ih = absurd (omega arith)
-    go (eq h) ih = or-left (eqb t a) ((hasRow t X || hasRow t Y) || hasRowIn t M) (subst (λ (z : ℕ). T (eqb t z)) h (eqb-refl t))
-    go (gt h) ih = or-right (eqb t a) ((hasRow t X || hasRow t Y) || hasRowIn t M)
-        (or-right (hasRow t X || hasRow t Y) (hasRowIn t M) (ih (omega arith)))
+    go (eq h) ih = or-l (eqb t a) ((hasRow t X || hasRow t Y) || hasRowIn t M) (subst (λ (z : ℕ). T (eqb t z)) h (eqb-refl t))
+    go (gt h) ih = or-r (eqb t a) ((hasRow t X || hasRow t Y) || hasRowIn t M)
+        (or-r (hasRow t X || hasRow t Y) (hasRowIn t M) (ih (omega arith)))
 
 moved : (f : ℕ → Behaviour) (x t : ℕ) → x ≡ t → T (hasRow x (f x)) → T (hasRow t (f x))
 moved f x t e h = subst (λ (z : ℕ). T (hasRow z (f x))) e h
 
-no-branch : (k : BehaviourKind) → isInput k ≡ true → isBranch k ≡ false
-no-branch k e = go (isBranch k) refl
+no-branch : (k : BehaviourKind) → isInputKind k ≡ true → isBranchKind k ≡ false
+no-branch k e = go (isBranchKind k) refl
   where
-    go : (t : Bool) → isBranch k ≡ t → t ≡ false
-    go true f = absurd (clash e (ap isInput (branch-kind k f)))
+    go : (t : Bool) → isBranchKind k ≡ t → t ≡ false
+    go true f = absurd (clash e (ap isInputKind (branch-kind k f)))
     go false f = refl
 
 -- Two parts, from the rows x and y, which row a uses.
@@ -166,16 +165,16 @@ pair-closed : (s : List ℕ) (a r t x y : ℕ) (f : ℕ → Behaviour) → T (ha
 pair-closed s a r t x y f tx ty u cx cy h =
     or-case (eqb r a) (hasRow r (f x) || hasRow r (f y))
     (λ e. ⊎-elim
-    (λ z. or-left (hasRow t (f x)) (hasRow t (f y)) (moved f x t z tx))
-    (λ z. or-right (hasRow t (f x)) (hasRow t (f y)) (moved f y t z ty))
+    (λ z. or-l (hasRow t (f x)) (hasRow t (f y)) (moved f x t z tx))
+    (λ z. or-r (hasRow t (f x)) (hasRow t (f y)) (moved f y t z ty))
     (u (eqb→eq r a e)))
     (λ e. or-case (hasRow r (f x)) (hasRow r (f y))
-    (λ z. or-left (hasRow t (f x)) (hasRow t (f y)) (cx z))
-    (λ z. or-right (hasRow t (f x)) (hasRow t (f y)) (cy z)) e)
+    (λ z. or-l (hasRow t (f x)) (hasRow t (f y)) (cx z))
+    (λ z. or-r (hasRow t (f x)) (hasRow t (f y)) (cy z)) e)
     h
 
 branches-closed : (s : List ℕ) → WellFormed s → (p r t : ℕ) (f : ℕ → Behaviour) → Uses s r t → ((j : ℕ) → T (hasRow j (f j)))
-    → Later s p (λ j. isBranch (kindAt s j) ≡ false → Closed s r t (f j)) → (n a : ℕ) → 1 ≤ n → BranchesKept s p a n
+    → Later s p (λ j. isBranchKind (kindAt s j) ≡ false → Closed s r t (f j)) → (n a : ℕ) → 1 ≤ n → BranchesKept s p a n
     → T (hasRowIn r (branchesFrom s f a n)) → T (hasRowIn t (branchesFrom s f a n))
 unfolding branchesFrom hasRowIn
 branches-closed s w p r t f u tops ih zero a o h z = absurd (omega arith)
@@ -185,18 +184,18 @@ branches-closed s w p r t f u tops ih (suc zero) a o h z =
     let l = k .child .later in
     let x : ℕ = fieldA s (behaviourAt s a) in
     let y : ℕ = fieldB s (behaviourAt s a) in
-    or-right (eqb t a) (hasRow t (f x) || hasRow t (f y))
+    or-r (eqb t a) (hasRow t (f x) || hasRow t (f y))
     (pair-closed s a r t x y f (tops x) (tops y)
     (λ e. branch-used-by s p a t k (subst (λ (q : ℕ). Uses s q t) e u))
     (ih x (let m = b .0 .child .later in omega arith) (b .0 .child .exists) (no-branch (kindAt s x) (b .0 .kind)))
     (ih y (let m = b .1 .child .later in omega arith) (b .1 .child .exists) (b .1 .kind)) z)
 branches-closed s w p r t f u tops ih (suc (suc n)) a o h z =
-    or-right (eqb t a) ((hasRow t (f x) || hasRow t (f y)) || hasRowIn t M)
+    or-r (eqb t a) ((hasRow t (f x) || hasRow t (f y)) || hasRowIn t M)
     (or-case (eqb r a) ((hasRow r (f x) || hasRow r (f y)) || hasRowIn r M)
-    (λ e. this (or-left (eqb r a) (hasRow r (f x) || hasRow r (f y)) e))
+    (λ e. this (or-l (eqb r a) (hasRow r (f x) || hasRow r (f y)) e))
     (λ e. or-case (hasRow r (f x) || hasRow r (f y)) (hasRowIn r M)
-    (λ v. this (or-right (eqb r a) (hasRow r (f x) || hasRow r (f y)) v))
-    (λ v. or-right (hasRow t (f x) || hasRow t (f y)) (hasRowIn t M)
+    (λ v. this (or-r (eqb r a) (hasRow r (f x) || hasRow r (f y)) v))
+    (λ v. or-r (hasRow t (f x) || hasRow t (f y)) (hasRowIn t M)
     (branches-closed s w p r t f u tops ih (suc n) (suc a) (omega arith) (λ j c d. h j (omega arith) (omega arith)) v)) e)
     z)
   where
@@ -217,7 +216,7 @@ branches-closed s w p r t f u tops ih (suc (suc n)) a o h z =
 
     this : T (eqb r a || (hasRow r (f x) || hasRow r (f y))) → T ((hasRow t (f x) || hasRow t (f y)) || hasRowIn t M)
     this v =
-        or-left (hasRow t (f x) || hasRow t (f y)) (hasRowIn t M)
+        or-l (hasRow t (f x) || hasRow t (f y)) (hasRowIn t M)
         (pair-closed s a r t x y f (tops x) (tops y)
         (λ e. branch-used-by s p a t k (subst (λ (q : ℕ). Uses s q t) e u))
         (ih x (let l = k .child .later in let m = b .0 .child .later in omega arith) (b .0 .child .exists) (no-branch (kindAt s x) (b .0 .kind)))
@@ -225,41 +224,41 @@ branches-closed s w p r t f u tops ih (suc (suc n)) a o h z =
 
 -- Row t, which row r uses; `own` is what is known of it where r is the row a itself.
 row-closed : (s : List ℕ) → WellFormed s → (a at r t : ℕ) (f : ℕ → Behaviour) → Uses s r t → ((j : ℕ) → T (hasRow j (f j)))
-    → Later s a (λ j. isBranch (kindAt s j) ≡ false → Closed s r t (f j)) → (k : BehaviourKind) → RowKept s a at k
-    → isBranch k ≡ false → (r ≡ a → UsedBy s at t k) → Closed s r t (behaviourFrom s f a at k)
+    → Later s a (λ j. isBranchKind (kindAt s j) ≡ false → Closed s r t (f j)) → (k : BehaviourKind) → RowKept s a at k
+    → isBranchKind k ≡ false → (r ≡ a → UsedBy s at t k) → Closed s r t (behaviourFrom s f a at k)
 unfolding behaviourFrom hasRow
 row-closed s w a at r t f u tops ih BehaviourKind.Nil h nb own z = absurd (own (eqb→eq r a z))
 row-closed s w a at r t f u tops ih BehaviourKind.OneWay h nb own z = absurd (own (eqb→eq r a z))
 row-closed s w a at r t f u tops ih BehaviourKind.RequestResponse h nb own z =
-    or-right (eqb t a) (hasRow t (f (fieldD s at)))
+    or-r (eqb t a) (hasRow t (f (fieldD s at)))
     (or-case (eqb r a) (hasRow r (f (fieldD s at)))
     (λ e. moved f (fieldD s at) t (own (eqb→eq r a e)) (tops (fieldD s at)))
     (λ e. ih (fieldD s at) (h .3 .child .later) (h .3 .child .exists) (h .3 .kind) e) z)
 row-closed s w a at r t f u tops ih BehaviourKind.Notification h nb own z = absurd (own (eqb→eq r a z))
 row-closed s w a at r t f u tops ih BehaviourKind.SolicitResponse h nb own z = absurd (own (eqb→eq r a z))
 row-closed s w a at r t f u tops ih BehaviourKind.If h nb own z =
-    or-right (eqb t a) (hasRow t (f (fieldB s at)) || hasRow t (f (fieldC s at)))
+    or-r (eqb t a) (hasRow t (f (fieldB s at)) || hasRow t (f (fieldC s at)))
     (pair-closed s a r t (fieldB s at) (fieldC s at) f (tops (fieldB s at)) (tops (fieldC s at)) own
     (ih (fieldB s at) (h .1 .child .later) (h .1 .child .exists) (h .1 .kind))
     (ih (fieldC s at) (h .2 .child .later) (h .2 .child .exists) (h .2 .kind)) z)
 row-closed s w a at r t f u tops ih BehaviourKind.While h nb own z =
-    or-right (eqb t a) (hasRow t (f (fieldB s at)))
+    or-r (eqb t a) (hasRow t (f (fieldB s at)))
     (or-case (eqb r a) (hasRow r (f (fieldB s at)))
     (λ e. moved f (fieldB s at) t (own (eqb→eq r a e)) (tops (fieldB s at)))
     (λ e. ih (fieldB s at) (h .1 .child .later) (h .1 .child .exists) (h .1 .kind) e) z)
 row-closed s w a at r t f u tops ih BehaviourKind.Sequence h nb own z =
-    or-right (eqb t a) (hasRow t (f (fieldA s at)) || hasRow t (f (fieldB s at)))
+    or-r (eqb t a) (hasRow t (f (fieldA s at)) || hasRow t (f (fieldB s at)))
     (pair-closed s a r t (fieldA s at) (fieldB s at) f (tops (fieldA s at)) (tops (fieldB s at)) own
     (ih (fieldA s at) (h .0 .child .later) (h .0 .child .exists) (h .0 .kind))
     (ih (fieldB s at) (h .1 .child .later) (h .1 .child .exists) (h .1 .kind)) z)
 row-closed s w a at r t f u tops ih BehaviourKind.Parallel h nb own z =
-    or-right (eqb t a) (hasRow t (f (fieldA s at)) || hasRow t (f (fieldB s at)))
+    or-r (eqb t a) (hasRow t (f (fieldA s at)) || hasRow t (f (fieldB s at)))
     (pair-closed s a r t (fieldA s at) (fieldB s at) f (tops (fieldA s at)) (tops (fieldB s at)) own
     (ih (fieldA s at) (h .0 .child .later) (h .0 .child .exists) (h .0 .kind))
     (ih (fieldB s at) (h .1 .child .later) (h .1 .child .exists) (h .1 .kind)) z)
 row-closed s w a at r t f u tops ih BehaviourKind.Assign h nb own z = absurd (own (eqb→eq r a z))
 row-closed s w a at r t f u tops ih BehaviourKind.Choice h nb own z =
-    or-right (eqb t a) (hasRowIn t (branchesFrom s f (fieldA s at) (fieldB s at)))
+    or-r (eqb t a) (hasRowIn t (branchesFrom s f (fieldA s at) (fieldB s at)))
     (or-case (eqb r a) (hasRowIn r (branchesFrom s f (fieldA s at) (fieldB s at)))
     (λ e. let o = own (eqb→eq r a e) in run-in s f t (fieldB s at) (fieldA s at) (o .0) (o .1))
     (λ e. branches-closed s w a r t f u tops ih (fieldB s at) (fieldA s at) (h .0) (h .2) e) z)
@@ -267,7 +266,7 @@ row-closed s w a at r t f u tops ih BehaviourKind.Branch h nb own z = let q : _�
 row-closed s w a at r t f u tops ih BehaviourKind.Unknown h nb own z = absurd h
 
 closed-to : (s : List ℕ) → WellFormed s → (r t : ℕ) → Uses s r t → (d a : ℕ) → a < behaviourCount s → behaviourCount s ≤ a + d
-    → isBranch (kindAt s a) ≡ false → Closed s r t (behaviourTo s d a)
+    → isBranchKind (kindAt s a) ≡ false → Closed s r t (behaviourTo s d a)
 unfolding behaviourTo
 closed-to s w r t u zero a l h nb = absurd (omega arith)
 closed-to s w r t u (suc d) a l h nb =
@@ -275,7 +274,7 @@ closed-to s w r t u (suc d) a l h nb =
     (behaviour-kept s w a l) nb (λ e. row-used-by s a t (subst (λ (q : ℕ). Uses s q t) e u))
 
 -- A behaviour has every row that one of its rows uses.
-pub used-inside : (s : List ℕ) → WellFormed s → (a r t : ℕ) → a < behaviourCount s → isBranch (kindAt s a) ≡ false → Uses s r t
+pub used-inside : (s : List ℕ) → WellFormed s → (a r t : ℕ) → a < behaviourCount s → isBranchKind (kindAt s a) ≡ false → Uses s r t
     → T (hasRow r (behaviourOf s a)) → T (hasRow t (behaviourOf s a))
 unfolding behaviourOf
 used-inside s w a r t l nb u z = closed-to s w r t u (behaviourCount s) a l (omega arith) nb z
@@ -288,7 +287,7 @@ pub record Owned (s : List ℕ) (t : ℕ) : Type 0 where
   pub role : Role
   pub behaviour : Behaviour
   pub exists : service < serviceCount s
-  pub isThere : behaviourIn role (serviceOf s service) ≡ some behaviour
+  pub isThere : behaviourAs role (serviceOf s service) ≡ some behaviour
   pub inside : T (hasRow t behaviour)
 
 -- What uses row t: a B row or a service.

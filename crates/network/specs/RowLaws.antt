@@ -7,7 +7,9 @@ use mathlib.Core.Logic.{_⊎_, inl, inr, ⊎-elim}
 use native.Mathlib.Omega.{arith}
 use lib.Dec.{eqb, leb, ltb}
 use Rattle.scalar.specs.Basic.{lastBasic}
-use Rattle.scalar.specs.Value.{pick, isValue}
+use Rattle.scalar.specs.Value.{isValue}
+use Rattle.basics.specs.Choice.{pick}
+use Rattle.basics.specs.TestLaws.{and-of, eq-of, le-of, lt-of, ne-of, not-true, of-le, of-lt, under}
 use Rattle.wire.specs.Wire.{byteAt, u16At}
 use Rattle.network.specs.declared.Broken.{Broken}
 use Rattle.network.specs.declared.Broken.the-variants.{At, Nowhere}
@@ -29,7 +31,9 @@ use Rattle.network.specs.Sizes.{typeWithin, levelsWithin, nodesTo, depth
 use Rattle.network.specs.Sizes.{expressionLarge, typeSizes, expressionSizes, large}
 use Rattle.network.specs.Form.{afterSizes, afterFields, formOf, WellFormed}
 use Rattle.network.specs.LeastLaws.{least-kept, rule-kept, over-kept}
-use Rattle.network.specs.TestLaws.{lt-of, le-of, eq-of, of-eq, and-of, or-of, not-true, clash, ne-of, under, in-run}
+
+pub in-run : (first n j : ℕ) → first ≤ j → j < first + n → inRun first n j ≡ true
+in-run first n j l h = rw (of-le first j l) (of-lt j (first + n) h)
 
 -- ---- none of 2 to 5
 

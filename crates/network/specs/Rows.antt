@@ -7,13 +7,14 @@ use mathlib.Core.List.{List}
 use mathlib.Core.Bool.{Bool, true, false, not, _&&_, _||_}
 use lib.Dec.{eqb, leb, ltb}
 use Rattle.scalar.specs.Basic.{lastBasic}
-use Rattle.scalar.specs.Value.{pick, isValue}
+use Rattle.scalar.specs.Value.{isValue}
+use Rattle.basics.specs.Choice.{pick}
 use Rattle.network.specs.declared.Broken.{Broken}
 use Rattle.network.specs.declared.Broken.the-variants.{Nowhere}
 use Rattle.network.specs.declared.ExpressionKind.{ExpressionKind}
 use Rattle.network.specs.declared.BehaviourKind.{BehaviourKind}
 use Rattle.network.specs.declared.FieldSort.{FieldSort}
-use Rattle.network.specs.declared.FieldSort.the-variants.{Free, Unused, PathRow, EarlierRow, ExpressionRow, OperationRow, LaterRow, InputRow}
+use Rattle.network.specs.declared.FieldSort.the-variants.{Unruled, Unused, PathRow, EarlierRow, ExpressionRow, OperationRow, LaterRow, InputRow}
 use Rattle.network.specs.declared.FieldSort.the-variants.{BranchRun, BranchCount, ConstantPart}
 use Rattle.network.specs.declared.Fields.{Fields}
 use Rattle.wire.specs.Wire.{byteAt, u16At}
@@ -100,59 +101,59 @@ expressionKindAt s r = expressionKind (byteAt s (expressionAt s r))
 unfoldable pub kindAt : List ℕ → ℕ → BehaviourKind
 kindAt s r = behaviourKind (byteAt s (behaviourAt s r))
 
-abbrev pub isBranch : BehaviourKind → Bool
-isBranch BehaviourKind.Nil = false
-isBranch BehaviourKind.OneWay = false
-isBranch BehaviourKind.RequestResponse = false
-isBranch BehaviourKind.Notification = false
-isBranch BehaviourKind.SolicitResponse = false
-isBranch BehaviourKind.If = false
-isBranch BehaviourKind.While = false
-isBranch BehaviourKind.Sequence = false
-isBranch BehaviourKind.Parallel = false
-isBranch BehaviourKind.Assign = false
-isBranch BehaviourKind.Choice = false
-isBranch BehaviourKind.Branch = true
-isBranch BehaviourKind.Unknown = false
+abbrev pub isBranchKind : BehaviourKind → Bool
+isBranchKind BehaviourKind.Nil = false
+isBranchKind BehaviourKind.OneWay = false
+isBranchKind BehaviourKind.RequestResponse = false
+isBranchKind BehaviourKind.Notification = false
+isBranchKind BehaviourKind.SolicitResponse = false
+isBranchKind BehaviourKind.If = false
+isBranchKind BehaviourKind.While = false
+isBranchKind BehaviourKind.Sequence = false
+isBranchKind BehaviourKind.Parallel = false
+isBranchKind BehaviourKind.Assign = false
+isBranchKind BehaviourKind.Choice = false
+isBranchKind BehaviourKind.Branch = true
+isBranchKind BehaviourKind.Unknown = false
 
-abbrev pub isChoice : BehaviourKind → Bool
-isChoice BehaviourKind.Nil = false
-isChoice BehaviourKind.OneWay = false
-isChoice BehaviourKind.RequestResponse = false
-isChoice BehaviourKind.Notification = false
-isChoice BehaviourKind.SolicitResponse = false
-isChoice BehaviourKind.If = false
-isChoice BehaviourKind.While = false
-isChoice BehaviourKind.Sequence = false
-isChoice BehaviourKind.Parallel = false
-isChoice BehaviourKind.Assign = false
-isChoice BehaviourKind.Choice = true
-isChoice BehaviourKind.Branch = false
-isChoice BehaviourKind.Unknown = false
+abbrev pub isChoiceKind : BehaviourKind → Bool
+isChoiceKind BehaviourKind.Nil = false
+isChoiceKind BehaviourKind.OneWay = false
+isChoiceKind BehaviourKind.RequestResponse = false
+isChoiceKind BehaviourKind.Notification = false
+isChoiceKind BehaviourKind.SolicitResponse = false
+isChoiceKind BehaviourKind.If = false
+isChoiceKind BehaviourKind.While = false
+isChoiceKind BehaviourKind.Sequence = false
+isChoiceKind BehaviourKind.Parallel = false
+isChoiceKind BehaviourKind.Assign = false
+isChoiceKind BehaviourKind.Choice = true
+isChoiceKind BehaviourKind.Branch = false
+isChoiceKind BehaviourKind.Unknown = false
 
 -- "input row a, of kind 1 or 2".
-abbrev pub isInput : BehaviourKind → Bool
-isInput BehaviourKind.Nil = false
-isInput BehaviourKind.OneWay = true
-isInput BehaviourKind.RequestResponse = true
-isInput BehaviourKind.Notification = false
-isInput BehaviourKind.SolicitResponse = false
-isInput BehaviourKind.If = false
-isInput BehaviourKind.While = false
-isInput BehaviourKind.Sequence = false
-isInput BehaviourKind.Parallel = false
-isInput BehaviourKind.Assign = false
-isInput BehaviourKind.Choice = false
-isInput BehaviourKind.Branch = false
-isInput BehaviourKind.Unknown = false
+abbrev pub isInputKind : BehaviourKind → Bool
+isInputKind BehaviourKind.Nil = false
+isInputKind BehaviourKind.OneWay = true
+isInputKind BehaviourKind.RequestResponse = true
+isInputKind BehaviourKind.Notification = false
+isInputKind BehaviourKind.SolicitResponse = false
+isInputKind BehaviourKind.If = false
+isInputKind BehaviourKind.While = false
+isInputKind BehaviourKind.Sequence = false
+isInputKind BehaviourKind.Parallel = false
+isInputKind BehaviourKind.Assign = false
+isInputKind BehaviourKind.Choice = false
+isInputKind BehaviourKind.Branch = false
+isInputKind BehaviourKind.Unknown = false
 
 -- B: "A sub-behaviour is a later row"; a branch is "found only in a choice".
 unfoldable pub subFits : List ℕ → ℕ → ℕ → Bool
-subFits s r v = (ltb r v && ltb v (behaviourCount s)) && not (isBranch (kindAt s v))
+subFits s r v = (ltb r v && ltb v (behaviourCount s)) && not (isBranchKind (kindAt s v))
 
 -- B: "branch (input row a, of kind 1 or 2, ..)", which is a later row too.
 unfoldable pub inputFits : List ℕ → ℕ → ℕ → Bool
-inputFits s r v = (ltb r v && ltb v (behaviourCount s)) && isInput (kindAt s v)
+inputFits s r v = (ltb r v && ltb v (behaviourCount s)) && isInputKind (kindAt s v)
 
 -- E: "constant (basic; a start in D, b length)": the part is in D and is a value of the basic type.
 unfoldable pub constantFits : List ℕ → ℕ → ℕ → ℕ → Bool
@@ -160,7 +161,7 @@ constantFits s basic v n = leb (v + n) (dataSize s) && isValue basic (dataPart s
 
 -- The rule of each sort of field: v is the field in row r, w the field after it, `basic` the row's second byte.
 unfoldable pub fieldFits : List ℕ → ℕ → ℕ → FieldSort → ℕ → ℕ → Bool
-fieldFits s r basic Free v w = true
+fieldFits s r basic Unruled v w = true
 fieldFits s r basic Unused v w = eqb v 0
 fieldFits s r basic PathRow v w = ltb v (pathCount s)
 fieldFits s r basic EarlierRow v w = ltb v r
@@ -208,22 +209,22 @@ unfoldable pub behaviourHead : List ℕ → ℕ → Broken → Broken
 behaviourHead s at others = rule (leb (byteAt s at) 11) at (rule (eqb (byteAt s (at + 1)) 0) (at + 1) others)
 
 -- B: the fields, with d.
-abbrev pub behaviourBy : List ℕ → ℕ → ℕ → Fields → Broken → Broken
-behaviourBy s r at q others =
+abbrev pub behaviourRule : List ℕ → ℕ → ℕ → Fields → Broken → Broken
+behaviourRule s r at q others =
     behaviourHead s at (fieldsRule s r 0 q at (rule (fieldFits s r 0 (q .d) (fieldD s at) 0) (at + 8) others))
 
 -- B: every existing row of a choice's run is a branch; the place is the run's start.
 unfoldable pub branchRule : List ℕ → ℕ → ℕ → Broken
-branchRule s at j = rule (not (inRun (fieldA s at) (fieldB s at) j) || isBranch (kindAt s j)) (at + 2) Nowhere
+branchRule s at j = rule (not (inRun (fieldA s at) (fieldB s at) j) || isBranchKind (kindAt s j)) (at + 2) Nowhere
 
-unfoldable pub branchRows : List ℕ → ℕ → Broken
-branchRows s at = leastOver (behaviourCount s) (branchRule s at)
+unfoldable pub branchRowRule : List ℕ → ℕ → Broken
+branchRowRule s at = leastOver (behaviourCount s) (branchRule s at)
 
 unfoldable pub choiceRun : List ℕ → ℕ → Broken
-choiceRun s r = pick (isChoice (kindAt s r)) (branchRows s (behaviourAt s r)) Nowhere
+choiceRun s r = pick (isChoiceKind (kindAt s r)) (branchRowRule s (behaviourAt s r)) Nowhere
 
 unfoldable pub behaviourRow : List ℕ → ℕ → Broken
-behaviourRow s r = behaviourBy s r (behaviourAt s r) (behaviourFields (kindAt s r)) (choiceRun s r)
+behaviourRow s r = behaviourRule s r (behaviourAt s r) (behaviourFields (kindAt s r)) (choiceRun s r)
 
 -- O: "service row u8, direction u8 (0 in, 1 out), two-way u8 (0, 1), 0, id u16, location u16 .., request type u16, reply type u16".
 unfoldable pub operationService : List ℕ → ℕ → ℕ
@@ -253,7 +254,8 @@ rootFits s t = ltb t (typeCount s) && (eqb (typeId s t) 0 && eqb (cardinality s 
 
 -- O: "location u16 (0 for in)"; "Ids and output locations are not 0". A direction out of range has no rule here.
 unfoldable pub locationFits : ℕ → ℕ → Bool
-locationFits direction location = pick (eqb direction 0) (eqb location 0) (pick (eqb direction 1) (not (eqb location 0)) true)
+locationFits direction location =
+    pick (eqb direction 0) (eqb location 0) (pick (eqb direction 1) (not (eqb location 0)) true)
 
 -- O: "reply type u16 (0 if one-way)". A two-way byte out of range has no rule here.
 unfoldable pub replyFits : List ℕ → ℕ → ℕ → Bool
@@ -261,12 +263,14 @@ replyFits s twoWay t = pick (eqb twoWay 0) (eqb t 0) (pick (eqb twoWay 1) (rootF
 
 -- O: "Input ids are unique in a service; so are pairs of id and location for outputs". Do rows r and q have one name?
 unfoldable pub sameService : List ℕ → ℕ → ℕ → Bool
-sameService s r q = eqb (operationService s r) (operationService s q) && eqb (operationDirection s r) (operationDirection s q)
+sameService s r q =
+    eqb (operationService s r) (operationService s q) && eqb (operationDirection s r) (operationDirection s q)
 
 unfoldable pub sameName : List ℕ → ℕ → ℕ → Bool
 sameName s r q =
     eqb (operationId s r) (operationId s q) &&
-    (eqb (operationDirection s r) 0 || (eqb (operationDirection s r) 1 && eqb (operationLocation s r) (operationLocation s q)))
+    (eqb (operationDirection s r) 0
+    || (eqb (operationDirection s r) 1 && eqb (operationLocation s r) (operationLocation s q)))
 
 -- O: a repeated id is at the first byte of the later row, here r.
 unfoldable pub repeatRule : List ℕ → ℕ → ℕ → Broken
@@ -303,11 +307,11 @@ abbrev pub noRow : ℕ
 noRow = 65535
 
 unfoldable pub starterFits : List ℕ → ℕ → Bool
-starterFits s v = eqb v noRow || (ltb v (behaviourCount s) && isChoice (kindAt s v))
+starterFits s v = eqb v noRow || (ltb v (behaviourCount s) && isChoiceKind (kindAt s v))
 
 -- A client may be any behaviour that is no branch.
 unfoldable pub clientFits : List ℕ → ℕ → Bool
-clientFits s v = eqb v noRow || (ltb v (behaviourCount s) && not (isBranch (kindAt s v)))
+clientFits s v = eqb v noRow || (ltb v (behaviourCount s) && not (isBranchKind (kindAt s v)))
 
 -- S: a repeated location is at the first byte of the later row, here r.
 unfoldable pub locationRule : List ℕ → ℕ → ℕ → Broken

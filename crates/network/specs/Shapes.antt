@@ -6,15 +6,15 @@ use mathlib.Core.List.{List, [], _∷_}
 use mathlib.Core.Bool.{Bool, true, false, _||_}
 use lib.ListN.{length}
 use lib.Dec.{T, eqb}
-use Rattle.forest.specs.Forest.{Forest, end, node, Tree, tree, RisingTree, nodes, levels}
-use Rattle.forest.specs.Path.{Path, path}
+use Rattle.tree_forest.specs.Forest.{Forest, end, node, Tree, tree, RisingTree, nodes, levels}
+use Rattle.tree_forest.specs.Path.{Path, path}
 use Rattle.scalar.specs.Basic.{lastBasic}
 use Rattle.scalar.specs.Value.{Value, value, isValue, basicOf, bytesOf}
-use Rattle.syntax.specs.Syntax.{Mark, mark, mandatory, basic, Types, MessageType, Unary, Binary, Expression, constant, valueAt, presence, unary}
-use Rattle.syntax.specs.Syntax.{binary, Direction, input, output, Operation, Behaviour, nil, oneWay, requestResponse, notification, solicitResponse}
-use Rattle.syntax.specs.Syntax.{ifThenElse, whileDo, sequence, parallel, assign, choice, waiting, answering, Branches, lastBranch, branch}
-use Rattle.syntax.specs.Syntax.{Optional, none, some, Service, Network}
-use Rattle.syntax.specs.Rows.{hasRow, hasRowIn, isThere, inputOf, choiceOf, entry}
+use Rattle.network_syntax.specs.Syntax.{Mark, mark, mandatory, basic, Types, MessageType, Unary, Binary, Expression, constant, valueAt, presence, unary}
+use Rattle.network_syntax.specs.Syntax.{binary, Direction, input, output, Operation, Behaviour, nil, oneWay, requestResponse, notification, solicitResponse}
+use Rattle.network_syntax.specs.Syntax.{ifThenElse, whileDo, sequence, parallel, assign, choice, waiting, answering, Branches, lastBranch, branch}
+use Rattle.network_syntax.specs.Syntax.{Optional, none, some, Service, Network}
+use Rattle.network_syntax.specs.Rows.{hasRow, hasRowIn, isThere, inputOf, choiceOf, entry}
 use Rattle.network.specs.Sizes.{typeLevels, typeNodes, expressionLevels}
 
 unfoldable pub AllPositive : List ℕ → Type 0
@@ -142,7 +142,8 @@ unfoldable mutual
   pub EachBranchRowOnce : Branches → Type 0
   EachBranchRowOnce (lastBranch r a b) = Outside r a × Outside r b × Apart a b × EachRowOnce a × EachRowOnce b
   EachBranchRowOnce (branch r a b m) =
-      Outside r a × Outside r b × Apart a b × EachRowOnce a × EachRowOnce b × OutsideBranches r m × ApartBranches a m × ApartBranches b m
+      Outside r a × Outside r b × Apart a b × EachRowOnce a × EachRowOnce b
+      × OutsideBranches r m × ApartBranches a m × ApartBranches b m
       × EachBranchRowOnce m
 
 -- Is it a one-way or a request-response? "branch (input row a, of kind 1 or 2, ..)".
@@ -210,27 +211,33 @@ IfAny (some a) P = P a
 pub data Role : Type 0 where
   asStarter asClient : Role
 
-abbrev pub behaviourIn : Role → Service → Optional Behaviour
-behaviourIn asStarter v = v .starter
-behaviourIn asClient v = v .client
+abbrev pub behaviourAs : Role → Service → Optional Behaviour
+behaviourAs asStarter v = v .starter
+behaviourAs asClient v = v .client
 
 -- The network that an unrefused file is, entry by entry.
 pub record NetworkShape (f : ℕ → Operation) (n : Network) : Type 0 where
-  pub behaviours : (q : ℕ) (v : Service) (x : Role) → entry q (n .services) ≡ some v → IfAny (behaviourIn x v) (FileBehaviour f)
+  pub behaviours : (q : ℕ) (v : Service) (x : Role) → entry q (n .services) ≡ some v
+      → IfAny (behaviourAs x v) (FileBehaviour f)
   -- "starter row (a choice)"
-  pub starters : (q : ℕ) (v : Service) → entry q (n .services) ≡ some v → IfAny (v .starter) (λ b. T (isChoiceBehaviour b))
+  pub starters : (q : ℕ) (v : Service) → entry q (n .services) ≡ some v
+      → IfAny (v .starter) (λ b. T (isChoiceBehaviour b))
   -- "Each row is used exactly once, by a row or a service": different services' and roles' behaviours share no row
-  pub apart : (p q : ℕ) (v u : Service) (x y : Role) (a b : Behaviour) → entry p (n .services) ≡ some v → entry q (n .services) ≡ some u
-      → behaviourIn x v ≡ some a → behaviourIn y u ≡ some b → (p ≡ q → x ≡ y → ⊥) → Apart a b
+  pub apart : (p q : ℕ) (v u : Service) (x y : Role) (a b : Behaviour) → entry p (n .services) ≡ some v
+      → entry q (n .services) ≡ some u
+      → behaviourAs x v ≡ some a → behaviourAs y u ≡ some b → (p ≡ q → x ≡ y → ⊥) → Apart a b
   -- "location u16, unique and not 0"
   pub located : (q : ℕ) (v : Service) → entry q (n .services) ≡ some v → 0 < v .location
-  pub locationsOnce : (p q : ℕ) (v u : Service) → entry p (n .services) ≡ some v → entry q (n .services) ≡ some u → v .location ≡ u .location → p ≡ q
+  pub locationsOnce : (p q : ℕ) (v u : Service) → entry p (n .services) ≡ some v → entry q (n .services) ≡ some u
+      → v .location ≡ u .location → p ≡ q
   pub operations : (i : ℕ) (o : Operation) → entry i (n .operations) ≡ some o → OperationShape o
   pub numbered : (i : ℕ) (o : Operation) → entry i (n .operations) ≡ some o → o .row ≡ i
-  pub owned : (i : ℕ) (o : Operation) → entry i (n .operations) ≡ some o → (v : Service) × (entry (o .service) (n .services) ≡ some v)
+  pub owned : (i : ℕ) (o : Operation) → entry i (n .operations) ≡ some o
+      → (v : Service) × (entry (o .service) (n .services) ≡ some v)
   -- "Input ids are unique in a service"
   pub inputsOnce : (i j : ℕ) (o p : Operation) → entry i (n .operations) ≡ some o → entry j (n .operations) ≡ some p
       → o .direction ≡ input → p .direction ≡ input → o .service ≡ p .service → o .id ≡ p .id → i ≡ j
   -- "so are pairs of id and location for outputs"
   pub outputsOnce : (i j : ℕ) (o p : Operation) → entry i (n .operations) ≡ some o → entry j (n .operations) ≡ some p
-      → o .direction ≡ output → p .direction ≡ output → o .service ≡ p .service → o .id ≡ p .id → o .location ≡ p .location → i ≡ j
+      → o .direction ≡ output → p .direction ≡ output → o .service ≡ p .service → o .id ≡ p .id
+      → o .location ≡ p .location → i ≡ j

@@ -6,9 +6,10 @@ use mathlib.Core.Bool.{Bool, true, false, not, _&&_, _||_}
 use mathlib.Core.Logic.{_⊎_, inl, inr, ⊎-elim}
 use native.Mathlib.Omega.{arith}
 use lib.Dec.{eqb, leb, ltb, eqb·suc-zero}
-use Rattle.forest.specs.Compare.{Compare, lt, eq, gt, compare}
+use Rattle.tree_forest.specs.Compare.{Compare, lt, eq, gt, compare}
 use Rattle.wire.specs.Wire.{byteAt, u16At}
-use Rattle.scalar.specs.Value.{pick}
+use Rattle.basics.specs.Choice.{pick}
+use Rattle.basics.specs.TestLaws.{and-of, clash, le-of, lt-not, lt-of, not-true, of-eq, true-false, under}
 use Rattle.network.specs.declared.Broken.{Broken}
 use Rattle.network.specs.declared.Broken.the-variants.{At, Nowhere}
 use Rattle.network.specs.declared.BehaviourKind.{BehaviourKind}
@@ -17,13 +18,12 @@ use Rattle.network.specs.declared.Fields.{Fields}
 use Rattle.network.specs.Least.{least, rule, leastOver, sumOver}
 use Rattle.network.specs.Layout.{pathCount, expressionCount, behaviourCount, operationCount, serviceCount, behaviourAt, serviceAt}
 use Rattle.network.specs.Kinds.{behaviourKind, behaviourFields}
-use Rattle.network.specs.Rows.{inRun, laterRun, fieldA, fieldB, fieldC, fieldD, kindAt, isBranch, isChoice, isInput, subFits, inputFits}
-use Rattle.network.specs.Rows.{fieldFits, fieldsRule, behaviourHead, branchRule, branchRows, choiceRun, behaviourRow, starterRow, clientRow}
+use Rattle.network.specs.Rows.{inRun, laterRun, fieldA, fieldB, fieldC, fieldD, kindAt, isBranchKind, isChoiceKind, isInputKind, subFits, inputFits}
+use Rattle.network.specs.Rows.{fieldFits, fieldsRule, behaviourHead, branchRule, branchRowRule, choiceRun, behaviourRow, starterRow, clientRow}
 use Rattle.network.specs.Uses.{fieldUses, one, usesBy, rowUses, serviceUses, usedByRows, used, secondUse, rowUseRule, serviceUseRule, usesRow}
 use Rattle.network.specs.Form.{WellFormed}
 use Rattle.network.specs.LeastLaws.{least-kept, rule-kept, over-kept, sum-part}
-use Rattle.network.specs.TestLaws.{lt-of, le-of, eq-of, of-eq, of-lt, and-of, not-true, clash, under, in-run, lt-not, true-false}
-use Rattle.network.specs.RowLaws.{Unbroken, unbroken}
+use Rattle.network.specs.RowLaws.{Unbroken, unbroken, in-run}
 
 -- ---- uses
 
@@ -106,11 +106,11 @@ pub record Child (s : List ℕ) (r k : ℕ) : Type 0 where
 -- A sub-behaviour is no branch, a branch's input is a one-way or a request-response.
 pub record SubKept (s : List ℕ) (r k : ℕ) : Type 0 where
   pub child : Child s r k
-  pub kind : isBranch (kindAt s k) ≡ false
+  pub kind : isBranchKind (kindAt s k) ≡ false
 
 pub record InputKept (s : List ℕ) (r k : ℕ) : Type 0 where
   pub child : Child s r k
-  pub kind : isInput (kindAt s k) ≡ true
+  pub kind : isInputKind (kindAt s k) ≡ true
 
 pub record BranchKept (s : List ℕ) (r k : ℕ) : Type 0 where
   pub child : Child s r k
@@ -151,7 +151,7 @@ known-behaviour (suc (suc (suc (suc (suc (suc (suc (suc (suc (suc zero))))))))))
 known-behaviour (suc (suc (suc (suc (suc (suc (suc (suc (suc (suc (suc zero))))))))))) l e = let z : _≡_ {A = ℕ} 0 1 = cc in omega arith
 known-behaviour (suc (suc (suc (suc (suc (suc (suc (suc (suc (suc (suc (suc n)))))))))))) l e = omega arith
 
-pub branch-kind : (k : BehaviourKind) → isBranch k ≡ true → k ≡ BehaviourKind.Branch
+pub branch-kind : (k : BehaviourKind) → isBranchKind k ≡ true → k ≡ BehaviourKind.Branch
 branch-kind BehaviourKind.Nil e = let z : _≡_ {A = ℕ} 0 1 = cc in absurd (omega arith)
 branch-kind BehaviourKind.OneWay e = let z : _≡_ {A = ℕ} 0 1 = cc in absurd (omega arith)
 branch-kind BehaviourKind.RequestResponse e = let z : _≡_ {A = ℕ} 0 1 = cc in absurd (omega arith)
@@ -166,7 +166,7 @@ branch-kind BehaviourKind.Choice e = let z : _≡_ {A = ℕ} 0 1 = cc in absurd 
 branch-kind BehaviourKind.Branch e = refl
 branch-kind BehaviourKind.Unknown e = let z : _≡_ {A = ℕ} 0 1 = cc in absurd (omega arith)
 
-pub choice-kind : (k : BehaviourKind) → isChoice k ≡ true → k ≡ BehaviourKind.Choice
+pub choice-kind : (k : BehaviourKind) → isChoiceKind k ≡ true → k ≡ BehaviourKind.Choice
 choice-kind BehaviourKind.Nil e = true-false (sym e)
 choice-kind BehaviourKind.OneWay e = true-false (sym e)
 choice-kind BehaviourKind.RequestResponse e = true-false (sym e)
@@ -187,18 +187,18 @@ one-same m n e = ap one (of-eq m n e)
 sub-test : (s : List ℕ) (r v : ℕ) → subFits s r v ≡ true → Uses s r v → SubKept s r v
 unfolding subFits
 sub-test s r v e u =
-    let a = and-of (ltb r v && ltb v (behaviourCount s)) (not (isBranch (kindAt s v))) e in
+    let a = and-of (ltb r v && ltb v (behaviourCount s)) (not (isBranchKind (kindAt s v))) e in
     let b = and-of (ltb r v) (ltb v (behaviourCount s)) (a .0) in
     record {
       child = record { later = lt-of r v (b .0); exists = lt-of v (behaviourCount s) (b .1); uses = u };
       kind = not-true
-          (isBranch (kindAt s v)) (a .1);
+          (isBranchKind (kindAt s v)) (a .1);
     }
 
 input-test : (s : List ℕ) (r v : ℕ) → inputFits s r v ≡ true → Uses s r v → InputKept s r v
 unfolding inputFits
 input-test s r v e u =
-    let a = and-of (ltb r v && ltb v (behaviourCount s)) (isInput (kindAt s v)) e in
+    let a = and-of (ltb r v && ltb v (behaviourCount s)) (isInputKind (kindAt s v)) e in
     let b = and-of (ltb r v) (ltb v (behaviourCount s)) (a .0) in
     record { child = record { later = lt-of r v (b .0); exists = lt-of v (behaviourCount s) (b .1); uses = u }; kind = a .1 }
 
@@ -209,7 +209,7 @@ record Tested (s : List ℕ) (r at : ℕ) (k : BehaviourKind) : Type 0 where
   fitsB : fieldFits s r 0 (behaviourFields k .b) (fieldB s at) (fieldC s at) ≡ true
   fitsC : fieldFits s r 0 (behaviourFields k .c) (fieldC s at) 0 ≡ true
   fitsD : fieldFits s r 0 (behaviourFields k .d) (fieldD s at) 0 ≡ true
-  run : pick (isChoice k) (branchRows s at) Nowhere ≡ Nowhere
+  run : pick (isChoiceKind k) (branchRowRule s at) Nowhere ≡ Nowhere
   users : (t : ℕ) → rowUses s t r ≡ usesBy s t at (behaviourFields k)
   single : (t : ℕ) → t < behaviourCount s → Uses s r t → rowUses s t r ≡ 1
 
@@ -236,10 +236,10 @@ tested s w r l =
       single = λ t x u. uses-kept s w t x .byRow r l u .1;
     }
 
-branch-rows : (s : List ℕ) (r at : ℕ) → laterRun (behaviourCount s) r (fieldA s at) (fieldB s at) ≡ true → branchRows s at ≡ Nowhere
+branch-rows : (s : List ℕ) (r at : ℕ) → laterRun (behaviourCount s) r (fieldA s at) (fieldB s at) ≡ true → branchRowRule s at ≡ Nowhere
     → ((t : ℕ) → rowUses s t r ≡ usesBy s t at (behaviourFields BehaviourKind.Choice)) → (j : ℕ) → fieldA s at ≤ j → j < fieldA s at + fieldB s at
     → BranchKept s r j
-unfolding laterRun branchRows branchRule behaviourFields fieldUses
+unfolding laterRun branchRowRule branchRule behaviourFields fieldUses
 branch-rows s r at e h u j x y =
     let a = and-of (ltb r (fieldA s at)) (leb (fieldA s at + fieldB s at) (behaviourCount s)) e in
     let lo : r < fieldA s at = lt-of r (fieldA s at) (a .0) in
@@ -247,11 +247,11 @@ branch-rows s r at e h u j x y =
     let i : inRun (fieldA s at) (fieldB s at) j ≡ true = in-run (fieldA s at) (fieldB s at) j x y in
     let n : one (inRun (fieldA s at) (fieldB s at) j) ≡ 1 = ap one i in
     let z = u j in
-    let k = rule-kept (not (inRun (fieldA s at) (fieldB s at) j) || isBranch (kindAt s j)) (at + 2) Nowhere
+    let k = rule-kept (not (inRun (fieldA s at) (fieldB s at) j) || isBranchKind (kindAt s j)) (at + 2) Nowhere
     (over-kept (branchRule s at) (behaviourCount s) j h (omega arith)) .0 in
     record {
       child = record { later = omega arith; exists = omega arith; uses = omega arith };
-      kind = branch-kind (kindAt s j) (under (inRun (fieldA s at) (fieldB s at) j) (isBranch (kindAt s j)) k i);
+      kind = branch-kind (kindAt s j) (under (inRun (fieldA s at) (fieldB s at) j) (isBranchKind (kindAt s j)) k i);
     }
 
 kept-by : (s : List ℕ) (r at : ℕ) (k : BehaviourKind) → Tested s r at k → RowKept s r at k

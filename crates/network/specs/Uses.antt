@@ -9,7 +9,7 @@ use lib.Dec.{eqb, ltb}
 use Rattle.network.specs.declared.Broken.{Broken}
 use Rattle.network.specs.declared.Broken.the-variants.{Nowhere}
 use Rattle.network.specs.declared.FieldSort.{FieldSort}
-use Rattle.network.specs.declared.FieldSort.the-variants.{Free, Unused, PathRow, EarlierRow, ExpressionRow, OperationRow, LaterRow, InputRow}
+use Rattle.network.specs.declared.FieldSort.the-variants.{Unruled, Unused, PathRow, EarlierRow, ExpressionRow, OperationRow, LaterRow, InputRow}
 use Rattle.network.specs.declared.FieldSort.the-variants.{BranchRun, BranchCount, ConstantPart}
 use Rattle.network.specs.declared.Fields.{Fields}
 use Rattle.network.specs.Least.{least, rule, leastOver, sumOver}
@@ -20,7 +20,7 @@ use Rattle.network.specs.Rows.{behaviourRows, operationRows, serviceRows
 
 -- Does a field v, of the given sort and with the field w after it, use row t?
 unfoldable pub fieldUses : FieldSort → ℕ → ℕ → ℕ → Bool
-fieldUses Free v w t = false
+fieldUses Unruled v w t = false
 fieldUses Unused v w t = false
 fieldUses PathRow v w t = false
 fieldUses EarlierRow v w t = false

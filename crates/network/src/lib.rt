@@ -40,7 +40,7 @@ pub enum BehaviourKind {
 
 // What a field of an E or B row is.
 pub enum FieldSort {
-    Free,
+    Unruled,
     Unused,
     PathRow,
     EarlierRow,

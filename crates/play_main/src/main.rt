@@ -8,7 +8,7 @@ mod script;
 
 fn run(ok: &mut bool, file: &[u8]) -> u8 {
     let mut state = io::large_buffer();
-    let o = fresh_state::fresh(file, &mut state);
+    let o = controller::fresh(file, &mut state);
     let n = refusal::number(o);
     if 0 < n {
         report::refused(ok, n, refusal::place(o));

@@ -36,7 +36,7 @@ fn play_line(ok: &mut bool, file: &[u8], state: &mut [u8], out: &mut [u8], line:
     }
     let n = read.len;
     let values = read.values;
-    let o = stepping::step(file, state, out, move_of(kind, values), &outside[0..n]);
+    let o = controller::step(file, state, out, move_of(kind, values), &outside[0..n]);
     print_outcome(ok, o, out);
     judged
 }

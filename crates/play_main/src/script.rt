@@ -2,9 +2,9 @@
 ghost use Prim.Native.Nat.{_≤_};
 ghost use mathlib.Core.Path.{_≡_};
 ghost use lib.ListN.{length};
+use controller::Move;
 use lines::Fault;
 use lines::Judged;
-use stepping::Move;
 
 // The numbers of a move, and where what follows them starts.
 struct Numbers {
@@ -183,8 +183,8 @@ pub(crate) fn move_of(kind: u8, values: [u64; 4]) -> Move {
         1 => Move::Receive(a, b, c),
         2 => Move::Send(a, b, c, half(values[3])),
         3 => Move::Reply(a, b, c),
-        4 => Move::Outside(a, b, c, whole(values[3])),
-        5 => Move::OutsideReply(a, b, c),
+        4 => Move::OuterMessage(a, b, c, whole(values[3])),
+        5 => Move::OuterReply(a, b, c),
         _ => Move::Close(a, b),
     }
 }

@@ -15,7 +15,7 @@ fn show(ok: &mut bool, number: u64, row: &[u8]) {
     let b = wire::u16_at(row, 2);
     let c = wire::u16_at(row, 4);
     let d = wire::u16_at(row, 6);
-    let p = tree::part(&row[8..], [a, b, c, d]);
+    let p = controller::part(&row[8..], [a, b, c, d]);
     console::number(ok, number);
     console::write(ok, b" ");
     console::number(ok, p.len() as u64);

@@ -30,7 +30,7 @@ numberOf MoveNotAllowed = 15  -- "The move is not allowed by the list above, or 
 numberOf QueueFull = 16  -- "The target's queue holds four."
 numberOf NoMessage = 17  -- "Outside bytes are no message."
 numberOf Stuck = 18  -- "A value read is missing, an operand or condition is of the wrong kind, or .."
-numberOf MessageMisfit = 19  -- "A message doesn't fit its input's request type, a reply its waiting row's reply type, or .."
+numberOf MessageMisfit = 19  -- "A message doesn't fit its input's request type, a reply its waiting row's .."
 
 -- The place of a refusal.
 abbrev pub placeOf : Refusal → ℕ
@@ -64,11 +64,11 @@ placeIn Done = 0
 placeIn (Refused why) = placeOf why
 
 -- 01: "A move's result is a number and the bytes written out."
-abbrev pub number : Outcome → ℕ
-number o = numberIn (o .verdict)
+abbrev pub outcomeNumber : Outcome → ℕ
+outcomeNumber o = numberIn (o .verdict)
 
-abbrev pub place : Outcome → ℕ
-place o = placeIn (o .verdict)
+abbrev pub outcomePlace : Outcome → ℕ
+outcomePlace o = placeIn (o .verdict)
 
 -- Done, with so many bytes written out.
 abbrev pub doneWith : ℕ → Outcome

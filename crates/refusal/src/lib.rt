@@ -1,6 +1,6 @@
 // What a check or a move answers: how many bytes it wrote out, and that it is done or why it is refused.
 ghost use mathlib.Core.Path.{_≡_};
-ghost use Rattle.refusal.specs.Refusal.{numberOf, placeOf, number, place, doneWith, refusedBy};
+ghost use Rattle.refusal.specs.Refusal.{numberOf, placeOf, outcomeNumber, outcomePlace, doneWith, refusedBy};
 
 // The kinds of refusal in 01's order. A place in the file is a byte's, a row is counted from 0 in its section.
 pub enum Refusal {
@@ -112,7 +112,7 @@ pub fn place_of(why: Refusal) -> usize
 }
 
 pub fn number(answer: Outcome) -> u8
-    ensures { λ r. ⌜ r ≡ number answer ⌝ }
+    ensures { λ r. ⌜ r ≡ outcomeNumber answer ⌝ }
 {
     let verdict = answer.verdict;
     match verdict {
@@ -122,7 +122,7 @@ pub fn number(answer: Outcome) -> u8
 }
 
 pub fn place(answer: Outcome) -> usize
-    ensures { λ r. ⌜ r ≡ place answer ⌝ }
+    ensures { λ r. ⌜ r ≡ outcomePlace answer ⌝ }
 {
     let verdict = answer.verdict;
     match verdict {

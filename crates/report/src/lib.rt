@@ -1,11 +1,11 @@
 // What is printed of a checked file. 01, end of Proved cases: "`accepted`, then per node in preorder, by service, S(tarter) first: service
 // row, S or C(lient), path, `!` (mandatory) or `?`, basic type", otherwise "`refused N P`".
 ghost use Prim.Native.Nat.{_<_};
-use checker::Answer;
-use checker::Pair;
+use check_environments::Environment;
+use check_network::Answer;
+use check_network::Pair;
 use console::number;
 use console::write;
-use environments::Environment;
 use refusal::Verdict;
 
 fn word(ok: &mut bool, basic: u8) {
@@ -54,8 +54,11 @@ fn nodes(
     if 7 < level {
         return at;
     }
-    let types::TypeHead::Node(id, mandatory, basic, count, mid) = types::type_head(s, at, false)
-    else {
+    let check_types::TypeHead::Node(id, mandatory, basic, count, mid) = check_types::type_head(
+        s,
+        at,
+        false,
+    ) else {
         return at;
     };
     let mut down = ids;

@@ -16,7 +16,7 @@ use Rattle.scalar.specs.declared.Scalar.{Scalar}
 use Rattle.scalar.specs.declared.Truth.{Truth}
 use Rattle.scalar.specs.declared.Operand.{Operand}
 use Rattle.scalar.specs.Basic.{bool, int, double, long, string, raw, void, lastBasic}
-use Rattle.scalar.specs.Value.{number, Sound, BasicType, basicTypes, noType, basicType, wordOf}
+use Rattle.scalar.specs.Value.{unsignedOf, SoundValue, BasicType, basicTypes, noType, basicType, wordOf}
 use Rattle.scalar.specs.ValueLaws.{string-short, raw-short, empty-void}
 use Rattle.scalar.specs.NumberLaws.{sound-bool, sound-integer, sound-floating}
 use Rattle.scalar.specs.Operator.{isNumber}
@@ -42,11 +42,11 @@ no-bool Scalar.Void t h = refl
 
 module _ (v : Operand) where
   pub truth-true : {p : Bool} → v .scalar ≡ Scalar.Bool p → p ≡ true → Truth.True ≡ truthOf (valueOf v)
-  unfolding truthOf number
+  unfolding truthOf unsignedOf
   truth-true e f = sym (ap truthOf (value-is v (e ∙ ap Scalar.Bool f)))
 
   pub truth-false : {p : Bool} → v .scalar ≡ Scalar.Bool p → p ≡ false → Truth.False ≡ truthOf (valueOf v)
-  unfolding truthOf number
+  unfolding truthOf unsignedOf
   truth-false e f = sym (ap truthOf (value-is v (e ∙ ap Scalar.Bool f)))
 
   pub truth-other : OneOf NoBool (tagOf S.the-type (v .scalar)) → Truth.Wrong ≡ truthOf (valueOf v)
@@ -55,32 +55,32 @@ module _ (v : Operand) where
 
   -- ---- basic types
 
-  sound-as : {k : Scalar} (b : ℕ) → v .scalar ≡ k → Sound b (valueBeside k (beside v)) → Sound b (valueOf v)
-  sound-as {k} b e h = subst (Sound b) (sym (value-is v e)) h
+  sound-as : {k : Scalar} (b : ℕ) → v .scalar ≡ k → SoundValue b (valueBeside k (beside v)) → SoundValue b (valueOf v)
+  sound-as {k} b e h = subst (SoundValue b) (sym (value-is v e)) h
 
-  pub kind-bool : {p : Bool} → v .scalar ≡ Scalar.Bool p → Sound bool (valueOf v)
+  pub kind-bool : {p : Bool} → v .scalar ≡ Scalar.Bool p → SoundValue bool (valueOf v)
   kind-bool {p} e = sound-as bool e (sound-bool p)
 
-  pub kind-int : {z : ℤ} → v .scalar ≡ Scalar.Int z → Sound int (valueOf v)
+  pub kind-int : {z : ℤ} → v .scalar ≡ Scalar.Int z → SoundValue int (valueOf v)
   kind-int {z} e = sound-as int e (sound-integer int w32 z refl)
 
-  pub kind-double : {x : Float} → v .scalar ≡ Scalar.Double x → T (fits binary64 x) → Sound double (valueOf v)
+  pub kind-double : {x : Float} → v .scalar ≡ Scalar.Double x → T (fits binary64 x) → SoundValue double (valueOf v)
   kind-double {x} e f = sound-as double e (sound-floating double x refl f)
 
-  pub kind-long : {z : ℤ} → v .scalar ≡ Scalar.Long z → Sound long (valueOf v)
+  pub kind-long : {z : ℤ} → v .scalar ≡ Scalar.Long z → SoundValue long (valueOf v)
   kind-long {z} e = sound-as long e (sound-integer long w64 z refl)
 
-  pub kind-void : v .scalar ≡ Scalar.Void → Sound void (valueOf v)
+  pub kind-void : v .scalar ≡ Scalar.Void → SoundValue void (valueOf v)
   kind-void e = sound-as void e (record { basic = refl; rule = empty-void })
 
   module _ (l : length (v .bytes) ≡ 16) where
     short : length (beside v) ≤ 16
     short = omega (arith, length-take (v .len) (v .bytes))
 
-    pub kind-string : v .scalar ≡ Scalar.String → Sound string (valueOf v)
+    pub kind-string : v .scalar ≡ Scalar.String → SoundValue string (valueOf v)
     kind-string e = sound-as string e (record { basic = refl; rule = string-short (beside v) short })
 
-    pub kind-raw : v .scalar ≡ Scalar.Raw → Sound raw (valueOf v)
+    pub kind-raw : v .scalar ≡ Scalar.Raw → SoundValue raw (valueOf v)
     kind-raw e = sound-as raw e (record { basic = refl; rule = raw-short (beside v) short })
 
 pub ruleset kind-laws = (kind-bool, kind-int, kind-long, kind-void)

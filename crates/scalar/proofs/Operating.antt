@@ -22,8 +22,8 @@ use Rattle.scalar.specs.declared.Pair.the-variants.{Bools, Ints, Doubles
 use Rattle.scalar.specs.declared.Operand.{Operand}
 use Rattle.scalar.specs.declared.Computed.the-variants.{Wrong, Gives}
 use Rattle.scalar.specs.Basic.{double, string, raw, void}
-use Rattle.scalar.specs.Value.{Value, value, basicOf, number, integral, basicType}
-use Rattle.scalar.specs.Operator.{Answer, wrong, gives, ofBool, ofInt, ofLong, ofDouble, wrapped, boolOf, bit, sameBytes, alike, Numeric, numericBy, numericOf, adding, subtracting, comparing, equalBy, andBy, notOf, negateOf, andOf, addOf, subtractOf, lessOf, equalOf}
+use Rattle.scalar.specs.Value.{Value, value, basicOf, unsignedOf, integral, basicType}
+use Rattle.scalar.specs.Operator.{Answer, wrong, gives, ofBool, ofInt, ofLong, ofDouble, wrapped, boolOf, bit, equalBytes, alike, Numeric, numericBy, numericOf, adding, subtracting, comparing, equalBy, andBy, notOf, negateOf, andOf, addOf, subtractOf, lessOf, equalOf}
 use Rattle.scalar.specs.NumberLaws.{exact, wrapped-wrap, double-back}
 use Rattle.scalar.specs.Scalar.{valueBeside, beside, valueOf, answerOf, kindOf, AsPair}
 use Rattle.scalar.proofs.Same.{same-wrapped, same-bit}
@@ -64,7 +64,7 @@ module _ (a : Operand) where
 -- ---- one operand
 
 pub not-bool : (a : Operand) {p : B.Bool} → a .scalar ≡ Bool p → answerOf (Gives (Bool (not p))) ≡ notOf (valueOf a)
-unfolding answerOf notOf number
+unfolding answerOf notOf unsignedOf
 not-bool a {p = true} e = rw (value-is a e) refl
 not-bool a {p = false} e = rw (value-is a e) refl
 
@@ -218,7 +218,7 @@ module _ (a b : Operand) (m : Pair) (h : AsPair (a .scalar) (b .scalar) m) where
 -- ---- and
 
 and-bits : (p q : B.Bool) → ofBool (p && q) ≡ ofBool (boolOf (bit p ∷ []) && boolOf (bit q ∷ []))
-unfolding number
+unfolding unsignedOf
 and-bits true true = refl
 and-bits true false = refl
 and-bits false true = refl
@@ -275,11 +275,11 @@ module _ (a b : Operand) (m : Pair) (h : AsPair (a .scalar) (b .scalar) m) where
   unfolding answerOf equalOf
   equal-doubles {p} {q} e f g k = let v = doubles a b m h e in rw (k, v .0, v .1, double-back p f, double-back q g) refl
 
-  pub equal-strings : {t : B.Bool} → m ≡ Strings → t ≡ sameBytes (beside a) (beside b) → answerOf (Gives (Bool t)) ≡ equalOf (valueOf a) (valueOf b)
+  pub equal-strings : {t : B.Bool} → m ≡ Strings → t ≡ equalBytes (beside a) (beside b) → answerOf (Gives (Bool t)) ≡ equalOf (valueOf a) (valueOf b)
   unfolding answerOf equalOf
   equal-strings e k = let v = strings a b m h e in rw (k, v .0, v .1) refl
 
-  pub equal-raws : {t : B.Bool} → m ≡ Raws → t ≡ sameBytes (beside a) (beside b) → answerOf (Gives (Bool t)) ≡ equalOf (valueOf a) (valueOf b)
+  pub equal-raws : {t : B.Bool} → m ≡ Raws → t ≡ equalBytes (beside a) (beside b) → answerOf (Gives (Bool t)) ≡ equalOf (valueOf a) (valueOf b)
   unfolding answerOf equalOf
   equal-raws e k = let v = raws a b m h e in rw (k, v .0, v .1) refl
 

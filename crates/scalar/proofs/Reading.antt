@@ -21,7 +21,7 @@ use Rattle.wire.specs.WireLaws.{length-part}
 use Rattle.scalar.specs.declared.Scalar.{Scalar}
 use Rattle.scalar.specs.declared.Scalar.the-variants.{Bool, Int, Double, Long, String, Raw, Void}
 use Rattle.scalar.specs.declared.Operand.{Operand}
-use Rattle.scalar.specs.Value.{Value, value, bytesOf, number, isValue, integral, basicType}
+use Rattle.scalar.specs.Value.{Value, value, bytesOf, unsignedOf, isValue, integral, basicType}
 use Rattle.scalar.specs.Basic.{bool, int, double, long, string, raw, void}
 use Rattle.scalar.specs.ValueLaws.{number-8, number-32, number-64, bool-bytes, integer-bytes, double-bytes, string-bytes, raw-bytes, void-bytes}
 use Rattle.scalar.specs.Operator.{littleEndian, bit, signed, wrapped, doubleOf}
@@ -38,8 +38,8 @@ bit-is x false q h = let e = eqb-false x 1 q in by-two x h e
     by-two : (x : ℕ) → x ≤ 1 → (x ≡ 1 → ⊥) → 0 ≡ x
     by-two x h e = omega arith
 
-one-byte : (v : List ℕ) → length v ≡ 1 → number v ∷ [] ≡ v
-unfolding number
+one-byte : (v : List ℕ) → length v ≡ 1 → unsignedOf v ∷ [] ≡ v
+unfolding unsignedOf
 one-byte [] e = absurd (omega arith)
 one-byte (a ∷ []) e = let z : a + 256 * 0 ≡ a = omega arith in rw z refl
 one-byte (a ∷ (b ∷ v)) e = absurd (omega arith)
@@ -52,11 +52,11 @@ module _ (s : List ℕ) (at b n : ℕ) (l : at + n ≤ length s) (h : isValue b 
   read-bool {x} e q r =
       let k = bool-bytes b (part s at n) h e in
       let z : n ≡ 1 = sym long-enough ∙ k .0 in
-      let y : number (part s at n) ≡ x = ap (λ (m : ℕ). number (part s at m)) z ∙ number-8 s at (omega arith) ∙ sym q in
+      let y : unsignedOf (part s at n) ≡ x = ap (λ (m : ℕ). unsignedOf (part s at m)) z ∙ number-8 s at (omega arith) ∙ sym q in
       r ∙ rw (e, ← one-byte (part s at n) (k .0), y, bit-is x (eqb x 1) refl (omega (arith, k .1))) refl
 
   -- One law for int and long: x is the number of the value's bytes, of which there are as many as the width has.
-  pub read-integer : (u : Width) {x : ℕ} {z : ℤ} {v : Value} → basicType b .arithmetic ≡ integral u → (n ≡ bits u / 8 → x ≡ number (part s at n)) → z ≡ toZ u x
+  pub read-integer : (u : Width) {x : ℕ} {z : ℤ} {v : Value} → basicType b .arithmetic ≡ integral u → (n ≡ bits u / 8 → x ≡ unsignedOf (part s at n)) → z ≡ toZ u x
       → v ≡ value b (wrapped u z) → v ≡ value b (part s at n)
   read-integer u e q f r =
       let k = integer-bytes b u (part s at n) e h in
@@ -65,17 +65,17 @@ module _ (s : List ℕ) (at b n : ℕ) (l : at + n ≤ length s) (h : isValue b 
 
   pub read-int : {x : ℕ} {z : ℤ} {v : Value} → b ≡ int → x ≡ u32At s at → z ≡ toZ w32 x → v ≡ valueBeside (Int z) [] → v ≡ value b (part s at n)
   read-int e q f r =
-      read-integer w32 (rw e refl) (λ m. q ∙ sym (ap (λ (i : ℕ). number (part s at i)) m ∙ number-32 s at (omega arith))) f (r ∙ rw e refl)
+      read-integer w32 (rw e refl) (λ m. q ∙ sym (ap (λ (i : ℕ). unsignedOf (part s at i)) m ∙ number-32 s at (omega arith))) f (r ∙ rw e refl)
 
   pub read-long : {x : ℕ} {z : ℤ} {v : Value} → b ≡ long → x ≡ u64At s at → z ≡ toZ w64 x → v ≡ valueBeside (Long z) [] → v ≡ value b (part s at n)
   read-long e q f r =
-      read-integer w64 (rw e refl) (λ m. q ∙ sym (ap (λ (i : ℕ). number (part s at i)) m ∙ number-64 s at (omega arith))) f (r ∙ rw e refl)
+      read-integer w64 (rw e refl) (λ m. q ∙ sym (ap (λ (i : ℕ). unsignedOf (part s at i)) m ∙ number-64 s at (omega arith))) f (r ∙ rw e refl)
 
   pub read-double : {x : ℕ} {z : Float} {v : Value} → b ≡ double → x ≡ u64At s at → z ≡ ofBits binary64 x → v ≡ valueBeside (Double z) [] → v ≡ value b (part s at n)
   read-double {x} e q f r =
       let k = double-bytes b (part s at n) h e in
       let m : n ≡ 8 = sym long-enough ∙ k .0 in
-      let y : x ≡ number (part s at n) = q ∙ sym (ap (λ (i : ℕ). number (part s at i)) m ∙ number-64 s at (omega arith)) in
+      let y : x ≡ unsignedOf (part s at n) = q ∙ sym (ap (λ (i : ℕ). unsignedOf (part s at i)) m ∙ number-64 s at (omega arith)) in
       let w : littleEndian 8 (toBits binary64 (doubleOf (part s at n))) ≡ part s at n = double-same (part-bytes s at n bytes l) (k .0) (k .1) in
       r ∙ rw (e, f, y, w) refl
 

@@ -12,43 +12,34 @@ use borrow.Author.Tests.{eq-eqb, ne-eqb, eqb-true, leb-true, leb-false}
 use mir.Syntax.{Width}
 use mir.Val.{ofZ, SFits}
 use lib.IntN.{ℤ}
+use Rattle.basics.specs.TestLaws.{agree, and-of}
 use Rattle.integer.specs.WrapLaws.{pattern-exact}
 use Rattle.integer.specs.Wrap.{pattern}
-use Rattle.scalar.specs.Value.{number}
-use Rattle.scalar.specs.Operator.{wrapped, sameBytes, bit}
+use Rattle.scalar.specs.Value.{unsignedOf}
+use Rattle.scalar.specs.Operator.{wrapped, equalBytes, bit}
 use Rattle.scalar.specs.NumberLaws.{number-wrapped}
 
-both-true : (s t : Bool) → (s && t) ≡ true → (s ≡ true) × (t ≡ true)
-both-true true t e = (refl, e)
-both-true false t e = let z : _≡_ {A = ℕ} 0 1 = cc in absurd (omega arith)
-
-pub same-refl : (v : List ℕ) → sameBytes v v ≡ true
+pub same-refl : (v : List ℕ) → equalBytes v v ≡ true
 same-refl [] = refl
 same-refl (a ∷ v) = rw (eq-eqb a a refl) (same-refl v)
 
-pub same-eq : (v w : List ℕ) → sameBytes v w ≡ true → v ≡ w
+pub same-eq : (v w : List ℕ) → equalBytes v w ≡ true → v ≡ w
 same-eq [] [] e = refl
 same-eq [] (b ∷ w) e = let z : _≡_ {A = ℕ} 0 1 = cc in absurd (omega arith)
 same-eq (a ∷ v) [] e = let z : _≡_ {A = ℕ} 0 1 = cc in absurd (omega arith)
-same-eq (a ∷ v) (b ∷ w) e = let t = both-true (eqb a b) (sameBytes v w) e in rw (eqb-true a b (t .0), same-eq v w (t .1)) refl
+same-eq (a ∷ v) (b ∷ w) e = let t = and-of (eqb a b) (equalBytes v w) e in rw (eqb-true a b (t .0), same-eq v w (t .1)) refl
 
--- A test that holds exactly where another does.
-agree : (s t : Bool) → (s ≡ true → t ≡ true) → (t ≡ true → s ≡ true) → s ≡ t
-agree true t f g = sym (f refl)
-agree false true f g = g refl
-agree false false f g = refl
-
-pub same-wrapped : (w : Width) (x y : ℤ) → SFits w x → SFits w y → sameBytes (wrapped w x) (wrapped w y) ≡ eqb (ofZ w x) (ofZ w y)
+pub same-wrapped : (w : Width) (x y : ℤ) → SFits w x → SFits w y → equalBytes (wrapped w x) (wrapped w y) ≡ eqb (ofZ w x) (ofZ w y)
 same-wrapped w x y f g =
     let ex = number-wrapped w x ∙ pattern-exact w x f in
     let ey = number-wrapped w y ∙ pattern-exact w y g in
-    agree (sameBytes (wrapped w x) (wrapped w y)) (eqb (ofZ w x) (ofZ w y))
-    (λ e. eq-eqb (ofZ w x) (ofZ w y) (sym ex ∙ ap number (same-eq (wrapped w x) (wrapped w y) e) ∙ ey))
+    agree (equalBytes (wrapped w x) (wrapped w y)) (eqb (ofZ w x) (ofZ w y))
+    (λ e. eq-eqb (ofZ w x) (ofZ w y) (sym ex ∙ ap unsignedOf (same-eq (wrapped w x) (wrapped w y) e) ∙ ey))
     (λ e.
     let p : pattern w x ≡ pattern w y = pattern-exact w x f ∙ eqb-true (ofZ w x) (ofZ w y) e ∙ sym (pattern-exact w y g) in
     rw p (same-refl (wrapped w y)))
 
-pub same-bit : (p q : Bool) → sameBytes (bit p ∷ []) (bit q ∷ []) ≡ Bool·beq p q
+pub same-bit : (p q : Bool) → equalBytes (bit p ∷ []) (bit q ∷ []) ≡ Bool·beq p q
 same-bit true true = refl
 same-bit true false = refl
 same-bit false true = refl
@@ -56,27 +47,27 @@ same-bit false false = refl
 
 -- ---- the loop of `same_bytes`
 
-pub long-apart : (s t : List ℕ) → (length s ≡ length t → ⊥) → false ≡ sameBytes s t
+pub long-apart : (s t : List ℕ) → (length s ≡ length t → ⊥) → false ≡ equalBytes s t
 long-apart [] [] h = absurd (h refl)
 long-apart [] (b ∷ t) h = refl
 long-apart (a ∷ s) [] h = refl
-long-apart (a ∷ s) (b ∷ t) h = by (eqb a b) (sameBytes s t) (long-apart s t (λ e. h (ap suc e)))
+long-apart (a ∷ s) (b ∷ t) h = by (eqb a b) (equalBytes s t) (long-apart s t (λ e. h (ap suc e)))
   where
     by : (p q : Bool) → false ≡ q → false ≡ (p && q)
     by true q e = e
     by false q e = refl
 
 module _ (s t : List ℕ) (i : ℕ) (hs : i < length s) (ht : i < length t) where
-  one-more : sameBytes (drop i s) (drop i t) ≡ (eqb (getD s i 0) (getD t i 0) && sameBytes (drop (suc i) s) (drop (suc i) t))
+  one-more : equalBytes (drop i s) (drop i t) ≡ (eqb (getD s i 0) (getD t i 0) && equalBytes (drop (suc i) s) (drop (suc i) t))
   one-more = rw (drop-cons s i 0 hs, drop-cons t i 0 ht) refl
 
-  pub same-on : getD s i 0 ≡ getD t i 0 → sameBytes (drop (i + 1) s) (drop (i + 1) t) ≡ sameBytes (drop i s) (drop i t)
+  pub same-on : getD s i 0 ≡ getD t i 0 → equalBytes (drop (i + 1) s) (drop (i + 1) t) ≡ equalBytes (drop i s) (drop i t)
   same-on e = rw (add-one i, one-more, eq-eqb (getD s i 0) (getD t i 0) e) refl
 
-  pub same-off : (getD s i 0 ≡ getD t i 0 → ⊥) → false ≡ sameBytes (drop i s) (drop i t)
+  pub same-off : (getD s i 0 ≡ getD t i 0 → ⊥) → false ≡ equalBytes (drop i s) (drop i t)
   same-off e = rw (one-more, ne-eqb (getD s i 0) (getD t i 0) e) refl
 
-pub same-end : (s t : List ℕ) (i : ℕ) → length s ≡ length t → i ≡ length s → true ≡ sameBytes (drop i s) (drop i t)
+pub same-end : (s t : List ℕ) (i : ℕ) → length s ≡ length t → i ≡ length s → true ≡ equalBytes (drop i s) (drop i t)
 same-end s t i e h =
     let a : drop i s ≡ [] = ap (λ (k : ℕ). drop k s) h ∙ drop-length s in
     let b : drop i t ≡ [] = ap (λ (k : ℕ). drop k t) (h ∙ e) ∙ drop-length t in

@@ -21,7 +21,7 @@ use Rattle.wire.specs.WireLaws.{agree-byte, part-agrees, byte-past, length-part
 use Rattle.integer.specs.Wrap.{pattern, wrap}
 use Rattle.integer.specs.WrapLaws.{pattern-fits, pattern-exact, wrap-exact, wrap-fits, wrap-pattern}
 use Rattle.scalar.specs.Basic.{bool}
-use Rattle.scalar.specs.Value.{value, number, isValue, isDouble, theNan, Sound, integral, floating, noArithmetic, basicType}
+use Rattle.scalar.specs.Value.{value, unsignedOf, isValue, isDouble, theNan, SoundValue, integral, floating, noArithmetic, basicType}
 use Rattle.scalar.specs.Operator.{littleEndian, bit, signed, wrapped, rounded, ofBool, doubleOf}
 use Rattle.scalar.specs.ValueLaws.{every, integer-rule}
 
@@ -32,8 +32,8 @@ unfolding littleEndian
 length-littleEndian zero x = refl
 length-littleEndian (suc n) x = ap suc (length-littleEndian n (x / 256))
 
-pub number-littleEndian : (n x : ℕ) → x < 256 ^ n → number (littleEndian n x) ≡ x
-unfolding littleEndian number
+pub number-littleEndian : (n x : ℕ) → x < 256 ^ n → unsignedOf (littleEndian n x) ≡ x
+unfolding littleEndian unsignedOf
 number-littleEndian zero x h = omega arith
 number-littleEndian (suc n) x h =
     let k : x < 256 ^ n * 256 = rw (pow-suc 256 n) at h in
@@ -44,16 +44,16 @@ pub data Bytes : List ℕ → Type 0 where
   none : Bytes []
   more : {b : ℕ} {v : List ℕ} → b < 256 → Bytes v → Bytes (b ∷ v)
 
-pub littleEndian-number : {v : List ℕ} → Bytes v → littleEndian (length v) (number v) ≡ v
-unfolding littleEndian number
+pub littleEndian-number : {v : List ℕ} → Bytes v → littleEndian (length v) (unsignedOf v) ≡ v
+unfolding littleEndian unsignedOf
 littleEndian-number none = refl
 littleEndian-number (more {b = b} {v = v} h r) =
-    let e : (b + 256 * number v) % 256 ≡ b = omega arith in
-    let f : (b + 256 * number v) / 256 ≡ number v = omega arith in
+    let e : (b + 256 * unsignedOf v) % 256 ≡ b = omega arith in
+    let f : (b + 256 * unsignedOf v) / 256 ≡ unsignedOf v = omega arith in
     rw (e, f, littleEndian-number r) refl
 
-pub number-below : {v : List ℕ} → Bytes v → number v < 256 ^ length v
-unfolding number
+pub number-below : {v : List ℕ} → Bytes v → unsignedOf v < 256 ^ length v
+unfolding unsignedOf
 number-below none = omega arith
 number-below (more {v = v} h r) = let k = number-below r in rw (pow-suc 256 (length v)) (omega arith)
 
@@ -82,7 +82,7 @@ whole-bytes w32 = refl
 whole-bytes w64 = refl
 whole-bytes w128 = refl
 
-pub number-wrapped : (w : Width) (z : ℤ) → number (wrapped w z) ≡ pattern w z
+pub number-wrapped : (w : Width) (z : ℤ) → unsignedOf (wrapped w z) ≡ pattern w z
 number-wrapped w z = number-littleEndian (bits w / 8) (pattern w z) (rw (whole-bytes w) at (pattern-fits w z .fits))
 
 pub signed-wrapped : (w : Width) (z : ℤ) → signed w (wrapped w z) ≡ wrap w z
@@ -101,10 +101,10 @@ wrapped-wrap w z = ap (littleEndian (bits w / 8)) (pattern-exact w (wrap w z) (w
 -- Bytes of the width that are read and written again are the same bytes.
 pub wrapped-signed : (w : Width) {v : List ℕ} → Bytes v → length v ≡ bits w / 8 → wrapped w (signed w v) ≡ v
 wrapped-signed w {v} h e =
-    let l : number v < 2 ^ bits w = rw (e, ← whole-bytes w) at (number-below h) in
-    let f : Fits w (number v) = record { fits = l } in
-    ap (littleEndian (bits w / 8)) (pattern-exact w (toZ w (number v)) (toZ-fits w (number v) f) ∙ ofZ-toZ w (number v) f)
-    ∙ ap (λ (n : ℕ). littleEndian n (number v)) (sym e) ∙ littleEndian-number h
+    let l : unsignedOf v < 2 ^ bits w = rw (e, ← whole-bytes w) at (number-below h) in
+    let f : Fits w (unsignedOf v) = record { fits = l } in
+    ap (littleEndian (bits w / 8)) (pattern-exact w (toZ w (unsignedOf v)) (toZ-fits w (unsignedOf v) f) ∙ ofZ-toZ w (unsignedOf v) f)
+    ∙ ap (λ (n : ℕ). littleEndian n (unsignedOf v)) (sym e) ∙ littleEndian-number h
 
 -- ---- doubles
 
@@ -144,27 +144,27 @@ pattern-same n l h = by (leb (n % 0x8000000000000000) 0x7FF0000000000000) (eqb n
     by false true e f k = rw (eqb-true n theNan f) nan-same
     by false false e f k = let z : _≡_ {A = ℕ} 0 1 = cc in absurd (omega arith)
 
-pub double-same : {v : List ℕ} → Bytes v → length v ≡ 8 → isDouble (number v) ≡ true → littleEndian 8 (toBits binary64 (doubleOf v)) ≡ v
+pub double-same : {v : List ℕ} → Bytes v → length v ≡ 8 → isDouble (unsignedOf v) ≡ true → littleEndian 8 (toBits binary64 (doubleOf v)) ≡ v
 double-same {v} h e k =
-    let l : number v < 0x10000000000000000 = rw e at (number-below h) in
-    ap (littleEndian 8) (pattern-same (number v) l k) ∙ ap (λ (n : ℕ). littleEndian n (number v)) (sym e) ∙ littleEndian-number h
+    let l : unsignedOf v < 0x10000000000000000 = rw e at (number-below h) in
+    ap (littleEndian 8) (pattern-same (unsignedOf v) l k) ∙ ap (λ (n : ℕ). littleEndian n (unsignedOf v)) (sym e) ∙ littleEndian-number h
 
 -- ---- what is written is a value
 
-pub sound-bool : (t : Bool) → Sound bool (ofBool t)
-unfolding isValue number
+pub sound-bool : (t : Bool) → SoundValue bool (ofBool t)
+unfolding isValue unsignedOf
 sound-bool true = record { basic = refl; rule = refl }
 sound-bool false = record { basic = refl; rule = refl }
 
 -- An integer written at the width of its basic type is a value of it.
-pub sound-integer : (b : ℕ) (u : Width) (z : ℤ) → basicType b .arithmetic ≡ integral u → Sound b (value b (wrapped u z))
+pub sound-integer : (b : ℕ) (u : Width) (z : ℤ) → basicType b .arithmetic ≡ integral u → SoundValue b (value b (wrapped u z))
 sound-integer b u z e = record {
   basic = refl;
   rule = integer-rule b u (wrapped u z) e ∙ eq-eqb _ _ (length-littleEndian (bits u / 8) (pattern u z));
 }
 
 -- A double written is a value of the basic type of doubles.
-pub sound-floating : (b : ℕ) (x : Float) → basicType b .arithmetic ≡ floating → T (fits binary64 x) → Sound b (value b (rounded x))
+pub sound-floating : (b : ℕ) (x : Float) → basicType b .arithmetic ≡ floating → T (fits binary64 x) → SoundValue b (value b (rounded x))
 unfolding isValue
 sound-floating b x e f = record {
   basic = refl;
@@ -216,12 +216,12 @@ bytes-append : {v u : List ℕ} → Bytes v → Bytes u → Bytes (v ++ u)
 bytes-append none k = k
 bytes-append (more h r) k = more h (bytes-append r k)
 
-number-append : (v u : List ℕ) → number (v ++ u) ≡ number v + 256 ^ length v * number u
-unfolding number
+number-append : (v u : List ℕ) → unsignedOf (v ++ u) ≡ unsignedOf v + 256 ^ length v * unsignedOf u
+unfolding unsignedOf
 number-append [] u = omega arith
 number-append (a ∷ v) u =
-    let p : 256 ^ suc (length v) * number u ≡ 256 * (256 ^ length v * number u) =
-    ap (λ (k : ℕ). k * number u) (pow-succ' 256 (length v)) ∙ mul-assoc 256 (256 ^ length v) (number u) in
+    let p : 256 ^ suc (length v) * unsignedOf u ≡ 256 * (256 ^ length v * unsignedOf u) =
+    ap (λ (k : ℕ). k * unsignedOf u) (pow-succ' 256 (length v)) ∙ mul-assoc 256 (256 ^ length v) (unsignedOf u) in
     omega (arith, number-append v u)
 
 join : (m n lo hi : ℕ) → lo < 256 ^ m → hi < 256 ^ n → littleEndian m lo ++ littleEndian n hi ≡ littleEndian (m + n) (lo + 256 ^ m * hi)
@@ -229,7 +229,7 @@ join m n lo hi h k =
     let v = littleEndian m lo in
     let u = littleEndian n hi in
     let l : length (v ++ u) ≡ m + n = length-append v u ∙ rw (length-littleEndian m lo, length-littleEndian n hi) refl in
-    let e : number (v ++ u) ≡ lo + 256 ^ m * hi =
+    let e : unsignedOf (v ++ u) ≡ lo + 256 ^ m * hi =
     number-append v u ∙ rw (length-littleEndian m lo, number-littleEndian m lo h, number-littleEndian n hi k) refl in
     sym (littleEndian-number (bytes-append (bytes-littleEndian m lo) (bytes-littleEndian n hi))) ∙ rw (l, e) refl
 

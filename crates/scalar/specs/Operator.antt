@@ -13,7 +13,8 @@ use mir.Syntax.{Width, w32, w64}
 use mir.Val.{bits, toZ}
 use Rattle.integer.specs.Wrap.{pattern}
 use Rattle.scalar.specs.Basic.{bool, int, double, long, void}
-use Rattle.scalar.specs.Value.{Value, value, number, pick, Arithmetic, integral, floating, noArithmetic, basicType}
+use Rattle.scalar.specs.Value.{Value, value, unsignedOf, Arithmetic, integral, floating, noArithmetic, basicType}
+use Rattle.basics.specs.Choice.{pick}
 
 -- What an operator gives: a value, or that its operands are of the wrong kind.
 pub data Answer : Type 0 where
@@ -29,7 +30,7 @@ littleEndian (suc n) x = x % 256 ∷ littleEndian n (x / 256)
 
 -- "bool one byte 0 or 1"
 abbrev pub boolOf : List ℕ → Bool
-boolOf v = eqb (number v) 1
+boolOf v = eqb (unsignedOf v) 1
 
 abbrev pub bit : Bool → ℕ
 bit false = 0
@@ -41,7 +42,7 @@ ofBool b = value bool (bit b ∷ [])
 -- "int 4 bytes and long 8 (two's complement)": the integer that bytes of a width stand for, and the bytes of an integer at a
 -- width. `pattern` keeps what the width holds, so an exact result "wraps at its width".
 abbrev pub signed : Width → List ℕ → ℤ
-signed w v = toZ w (number v)
+signed w v = toZ w (unsignedOf v)
 
 abbrev pub wrapped : Width → ℤ → List ℕ
 wrapped w z = littleEndian (bits w / 8) (pattern w z)
@@ -54,7 +55,7 @@ ofLong z = value long (wrapped w64 z)
 
 -- "double 8 (IEEE 754; the only NaN is 7FF8000000000000 hexadecimal)": `toBits` writes that one.
 abbrev pub doubleOf : List ℕ → Float
-doubleOf v = ofBits binary64 (number v)
+doubleOf v = ofBits binary64 (unsignedOf v)
 
 abbrev pub rounded : Float → List ℕ
 rounded x = littleEndian 8 (toBits binary64 x)
@@ -142,18 +143,18 @@ unfoldable pub lessOf : Value → Value → Answer
 lessOf = numericOf comparing
 
 -- Are the bytes the same?
-abbrev pub sameBytes : List ℕ → List ℕ → Bool
-sameBytes [] [] = true
-sameBytes [] (b ∷ w) = false
-sameBytes (a ∷ v) [] = false
-sameBytes (a ∷ v) (b ∷ w) = eqb a b && sameBytes v w
+abbrev pub equalBytes : List ℕ → List ℕ → Bool
+equalBytes [] [] = true
+equalBytes [] (b ∷ w) = false
+equalBytes (a ∷ v) [] = false
+equalBytes (a ∷ v) (b ∷ w) = eqb a b && equalBytes v w
 
 -- "Equal: alike, not void; doubles by IEEE equality" (a NaN equals nothing, 0.0 equals -0.0), the others by their bytes.
 abbrev pub equalBy : ℕ → List ℕ → List ℕ → Answer
 equalBy b v w =
     pick (eqb b void) wrong
     (pick (eqb b double) (gives (ofBool (Ieee.eq (doubleOf v) (doubleOf w))))
-    (gives (ofBool (sameBytes v w))))
+    (gives (ofBool (equalBytes v w))))
 
 unfoldable pub equalOf : Value → Value → Answer
 equalOf = alike equalBy

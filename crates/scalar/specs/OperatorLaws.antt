@@ -19,8 +19,10 @@ use mir.Val.{bits}
 use Rattle.wire.specs.Wire.{byteAt}
 use Rattle.integer.specs.Wrap.{pattern, modulo}
 use Rattle.scalar.specs.Basic.{bool, int, double, long, void, lastBasic}
-use Rattle.scalar.specs.Value.{Value, value, basicOf, bytesOf, number, pick, Sound, Arithmetic, integral, floating, noArithmetic, BasicType, basicTypes, noType, basicType}
-use Rattle.scalar.specs.Operator.{Answer, wrong, gives, littleEndian, boolOf, ofBool, signed, wrapped, rounded, ofInt, doubleOf, sameBytes, isNumeric, isNumber}
+use Rattle.scalar.specs.Value.{Value, value, basicOf, bytesOf, unsignedOf, SoundValue, Arithmetic, integral, floating, noArithmetic, BasicType, basicTypes, noType, basicType}
+use Rattle.basics.specs.Choice.{pick}
+use Rattle.basics.specs.TestLaws.{and-left, and-right}
+use Rattle.scalar.specs.Operator.{Answer, wrong, gives, littleEndian, boolOf, ofBool, signed, wrapped, rounded, ofInt, doubleOf, equalBytes, isNumeric, isNumber}
 use Rattle.scalar.specs.Operator.{alike, negateBy, Numeric, numericBy, numericOf, adding, subtracting, comparing, andBy, equalBy}
 use Rattle.scalar.specs.Operator.{notOf, negateOf, andOf, addOf, subtractOf, lessOf, equalOf}
 use Rattle.scalar.specs.NumberLaws.{sound-bool, sound-integer, sound-floating, small-littleEndian, small-bit}
@@ -45,7 +47,7 @@ number-is (suc (suc (suc (suc (suc (suc (suc b))))))) = number-past (suc (suc (s
 pub record Gives (b : ℕ) (a : Answer) : Type 0 where
   pub result : Value
   pub is : a ≡ gives result
-  pub sound : Sound b result
+  pub sound : SoundValue b result
   pub octets : (k : ℕ) → byteAt (bytesOf result) k < 256
 
 gives-bool : (t : Bool) → Gives bool (gives (ofBool t))
@@ -80,14 +82,6 @@ pick-wrong : (t : Bool) (x : Answer) → (t ≡ true → x ≡ wrong) → pick t
 pick-wrong true x f = f refl
 pick-wrong false x f = refl
 
-both-left : (s t : Bool) → (s && t) ≡ true → s ≡ true
-both-left true t e = refl
-both-left false t e = e
-
-both-right : (s t : Bool) → (s && t) ≡ true → t ≡ true
-both-right true t e = e
-both-right false t e = let z : _≡_ {A = ℕ} 0 1 = cc in absurd (omega arith)
-
 -- Of two tests that together fail, the first fails where the second holds.
 left-fails : (s t : Bool) → (s && t) ≡ false → t ≡ true → s ≡ false
 left-fails true t e f = sym f ∙ e
@@ -99,7 +93,7 @@ alike-gives : (f : ℕ → List ℕ → List ℕ → Answer) (k : ℕ → ℕ) (
     → ((b : ℕ) (v w : List ℕ) → P b ≡ true → Gives (k b) (f b v w))
     → (x y : Value) → (P (basicOf x) && eqb (basicOf x) (basicOf y)) ≡ true → Gives (k (basicOf x)) (alike f x y)
 alike-gives f k P h (value b v) (value c w) e =
-    pick-yes (Gives (k b)) (eqb b c) (f b v w) wrong (both-right (P b) (eqb b c) e) (h b v w (both-left (P b) (eqb b c) e))
+    pick-yes (Gives (k b)) (eqb b c) (f b v w) wrong (and-right (P b) (eqb b c) e) (h b v w (and-left (P b) (eqb b c) e))
 
 alike-wrong : (f : ℕ → List ℕ → List ℕ → Answer) (P : ℕ → Bool)
     → ((b : ℕ) (v w : List ℕ) → P b ≡ false → f b v w ≡ wrong)
@@ -130,7 +124,7 @@ and-wrong = alike-wrong andBy (λ b. eqb b bool) (λ b v w e. pick-no (eqb b boo
 
 negate-by : (a : Arithmetic) (b : ℕ) (v : List ℕ) → basicType b .arithmetic ≡ a → isNumeric a ≡ true → Gives b (negateBy a b v)
 negate-by (integral u) b v e h = gives-integer b u (negℤ (signed u v)) e
-negate-by floating b v e h = gives-double b (neg (doubleOf v)) e (neg-fits binary64 (doubleOf v) (ofBits-fits binary64 (number v)))
+negate-by floating b v e h = gives-double b (neg (doubleOf v)) e (neg-fits binary64 (doubleOf v) (ofBits-fits binary64 (unsignedOf v)))
 negate-by noArithmetic b v e h = let z : _≡_ {A = ℕ} 0 1 = cc in absurd (omega arith)
 
 pub negate-gives : (x : Value) → isNumber (basicOf x) ≡ true → Gives (basicOf x) (negateOf x)
@@ -217,7 +211,7 @@ not-is false s e = ap not e
 pub equal-gives : (x y : Value) → (not (eqb (basicOf x) void) && eqb (basicOf x) (basicOf y)) ≡ true → Gives bool (equalOf x y)
 unfolding equalOf
 equal-gives = alike-gives equalBy (λ b. bool) (λ b. not (eqb b void))
-    (λ b v w e. equal-by (eqb b void) (eqb b double) (eq (doubleOf v) (doubleOf w)) (sameBytes v w) (not-is (eqb b void) true e))
+    (λ b v w e. equal-by (eqb b void) (eqb b double) (eq (doubleOf v) (doubleOf w)) (equalBytes v w) (not-is (eqb b void) true e))
 
 pub equal-wrong : (x y : Value) → (not (eqb (basicOf x) void) && eqb (basicOf x) (basicOf y)) ≡ false → equalOf x y ≡ wrong
 unfolding equalOf
@@ -231,15 +225,15 @@ equal-wrong = alike-wrong equalBy (λ b. not (eqb b void)) (λ b v w e. pick-voi
 
 -- h: "int 2147483647 + 1 = -2147483648; -2147483648 negated is itself"
 pub case-h-sum : addOf (ofInt (pos 2147483647)) (ofInt (pos 1)) ≡ gives (ofInt (negsuc 2147483647))
-unfolding addOf littleEndian pattern modulo number
+unfolding addOf littleEndian pattern modulo unsignedOf
 case-h-sum = refl
 
 pub case-h-negated : negateOf (ofInt (negsuc 2147483647)) ≡ gives (ofInt (negsuc 2147483647))
-unfolding negateOf littleEndian pattern modulo number
+unfolding negateOf littleEndian pattern modulo unsignedOf
 case-h-negated = refl
 
 -- i: "0.1 + 0.2 has bits 3FD3333333333334"
 pub case-i : addOf (value double (littleEndian 8 0x3FB999999999999A)) (value double (littleEndian 8 0x3FC999999999999A))
     ≡ gives (value double (littleEndian 8 0x3FD3333333333334))
-unfolding addOf littleEndian number add ofBits toBits ofFields sum round size units odd span climb trailingZeros
+unfolding addOf littleEndian unsignedOf add ofBits toBits ofFields sum round size units odd span climb trailingZeros
 case-i = refl

@@ -7,7 +7,8 @@ use Prim.Native.Nat.{ℕ}
 use lib.ListN.{take}
 use lib.Dec.{eqb}
 use Rattle.scalar.specs.Basic.{bool, int, double, long, string, raw, void}
-use Rattle.scalar.specs.Value.{Value, value, number, pick}
+use Rattle.scalar.specs.Value.{Value, value, unsignedOf}
+use Rattle.basics.specs.Choice.{pick}
 use Rattle.scalar.specs.Operator.{Answer, wrong, gives, ofBool, ofInt, ofLong, ofDouble}
 use Rattle.scalar.specs.declared.Scalar.{Scalar}
 use Rattle.scalar.specs.declared.Scalar.the-variants.{Bool, Int, Double, Long, String, Raw, Void}
@@ -64,4 +65,4 @@ AsPair x y Unlike = eqb (kindOf x) (kindOf y) ≡ false
 
 -- What a value says as a condition: "bool one byte 0 or 1"; another value is of the wrong kind.
 unfoldable pub truthOf : Value → Truth
-truthOf (value b v) = pick (eqb b bool) (pick (eqb (number v) 1) Truth.True Truth.False) Truth.Wrong
+truthOf (value b v) = pick (eqb b bool) (pick (eqb (unsignedOf v) 1) Truth.True Truth.False) Truth.Wrong

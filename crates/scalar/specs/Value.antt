@@ -6,6 +6,7 @@ use mathlib.Core.Bool.{Bool, true, false, _&&_, _||_}
 use Prim.Native.Nat.{ℕ, _+_, _*_, _%_}
 use lib.ListN.{length, getD}
 use lib.Dec.{eqb, leb}
+use Rattle.scalar.specs.Basic.{void}
 use mir.Syntax.{Width, w32, w64}
 
 -- What a node of a message or of a session's tree carries: its basic type and the bytes of its value.
@@ -18,15 +19,10 @@ basicOf (value b v) = b
 abbrev pub bytesOf : Value → List ℕ
 bytesOf (value b v) = v
 
--- The first where the test holds, else the second.
-abbrev pub pick : {A : Type 0} → Bool → A → A → A
-pick true x y = x
-pick false x y = y
-
 -- The number that bytes stand for: "Numbers are little-endian".
-unfoldable pub number : List ℕ → ℕ
-number [] = 0
-number (a ∷ l) = a + 256 * number l
+unfoldable pub unsignedOf : List ℕ → ℕ
+unsignedOf [] = 0
+unsignedOf (a ∷ l) = a + 256 * unsignedOf l
 
 -- The one NaN's bits.
 abbrev pub theNan : ℕ
@@ -54,7 +50,7 @@ pub record BasicType : Type 0 where
 abbrev pub boolType : BasicType
 boolType = record {
   word = 98 ∷ 111 ∷ 111 ∷ 108 ∷ [];
-  rule = λ v. eqb (length v) 1 && leb (number v) 1;
+  rule = λ v. eqb (length v) 1 && leb (unsignedOf v) 1;
   least = 0 ∷ [];
   arithmetic = noArithmetic;
 }
@@ -72,7 +68,7 @@ intType = record {
 abbrev pub doubleType : BasicType
 doubleType = record {
   word = 100 ∷ 111 ∷ 117 ∷ 98 ∷ 108 ∷ 101 ∷ [];
-  rule = λ v. eqb (length v) 8 && isDouble (number v);
+  rule = λ v. eqb (length v) 8 && isDouble (unsignedOf v);
   least = 0 ∷ 0 ∷ 0 ∷ 0 ∷ 0 ∷ 0 ∷ 0 ∷ 0 ∷ [];
   arithmetic = floating;
 }
@@ -101,7 +97,8 @@ rawType = record { word = 114 ∷ 97 ∷ 119 ∷ []; rule = λ v. leb (length v)
 
 -- `void`: "void none"
 abbrev pub voidType : BasicType
-voidType = record { word = 118 ∷ 111 ∷ 105 ∷ 100 ∷ []; rule = λ v. eqb (length v) 0; least = []; arithmetic = noArithmetic }
+voidType =
+    record { word = 118 ∷ 111 ∷ 105 ∷ 100 ∷ []; rule = λ v. eqb (length v) 0; least = []; arithmetic = noArithmetic }
 
 -- The table of basic types, in the order of their numbers.
 abbrev pub basicTypes : List BasicType
@@ -124,6 +121,10 @@ unfoldable pub wordOf : ℕ → List ℕ
 wordOf b = basicType b .word
 
 -- A value of a basic type, by the value rule.
-pub record Sound (b : ℕ) (x : Value) : Type 0 where
+pub record SoundValue (b : ℕ) (x : Value) : Type 0 where
   pub basic : basicOf x ≡ b
   pub rule : isValue b (bytesOf x) ≡ true
+
+-- "Writing makes missing steps void."
+abbrev pub voidValue : Value
+voidValue = value void []

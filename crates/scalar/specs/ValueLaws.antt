@@ -12,10 +12,11 @@ use lib.Dec.{eqb, leb}
 use borrow.Author.Tests.{ne-eqb, le-leb, lt-leb, eqb-true, leb-true, leb-false}
 use mir.Syntax.{Width, w32, w64}
 use mir.Val.{bits}
+use Rattle.basics.specs.TestLaws.{and-of}
 use Rattle.wire.specs.Wire.{byteAt, u16At, u32At, u64At, part}
 use Rattle.wire.specs.WireLaws.{length-part}
 use Rattle.scalar.specs.Basic.{bool, double, long, string, raw, void, lastBasic}
-use Rattle.scalar.specs.Value.{number, isValue, isDouble, BasicType, boolType, intType, doubleType, longType, stringType, rawType, voidType, noType, basicTypes, basicType, integral, noArithmetic}
+use Rattle.scalar.specs.Value.{unsignedOf, isValue, isDouble, BasicType, boolType, intType, doubleType, longType, stringType, rawType, voidType, noType, basicTypes, basicType, integral, noArithmetic}
 
 -- ---- every basic type
 
@@ -43,18 +44,14 @@ value-basic b v e = by (leb b lastBasic) refl
     by true q = leb-true b lastBasic q
     by false q = let z : _≡_ {A = ℕ} 0 1 = cc (past-table b v (leb-false b lastBasic q)) in absurd (omega arith)
 
-both : (s t : Bool) → (s && t) ≡ true → (s ≡ true) × (t ≡ true)
-both true t e = (refl, e)
-both false t e = let z : _≡_ {A = ℕ} 0 1 = cc in absurd (omega arith)
-
 -- A value has at most 16 bytes.
 pub value-size : (b : ℕ) (v : List ℕ) → isValue b v ≡ true → length v ≤ 16
 unfolding isValue
 value-size b v =
     every (λ t. t .rule v ≡ true → length v ≤ 16)
-    (λ e. omega (arith, eqb-true (length v) 1 (both (eqb (length v) 1) (leb (number v) 1) e .0)))
+    (λ e. omega (arith, eqb-true (length v) 1 (and-of (eqb (length v) 1) (leb (unsignedOf v) 1) e .0)))
     (λ e. omega (arith, eqb-true (length v) 4 e))
-    (λ e. omega (arith, eqb-true (length v) 8 (both (eqb (length v) 8) (isDouble (number v)) e .0)))
+    (λ e. omega (arith, eqb-true (length v) 8 (and-of (eqb (length v) 8) (isDouble (unsignedOf v)) e .0)))
     (λ e. omega (arith, eqb-true (length v) 8 e))
     (leb-true (length v) 16)
     (leb-true (length v) 16)
@@ -82,7 +79,7 @@ integer-bytes b u v e h = eqb-true (length v) (bits u / 8) (sym (integer-rule b 
 
 -- The least value of a basic type is a value of it.
 pub least-value : (b : ℕ) → b ≤ lastBasic → isValue b (basicType b .least) ≡ true
-unfolding isValue number
+unfolding isValue unsignedOf
 least-value zero h = refl
 least-value (suc zero) h = refl
 least-value (suc (suc zero)) h = refl
@@ -99,22 +96,22 @@ abbrev bytesAt : List ℕ → ℕ → ℕ → ℕ → ℕ
 bytesAt s at j zero = 0
 bytesAt s at j (suc k) = getD s (at + j) 0 + 256 * bytesAt s at (suc j) k
 
-number-at : (s : List ℕ) (at j k : ℕ) → at + j + k ≤ length s → number (take k (drop (at + j) s)) ≡ bytesAt s at j k
-unfolding number
+number-at : (s : List ℕ) (at j k : ℕ) → at + j + k ≤ length s → unsignedOf (take k (drop (at + j) s)) ≡ bytesAt s at j k
+unfolding unsignedOf
 number-at s at j zero h = refl
 number-at s at j (suc k) h =
     rw (drop-cons s (at + j) 0 (omega arith), ← add-suc at j, number-at s at (suc j) k (omega arith)) refl
 
-pub number-8 : (s : List ℕ) (at : ℕ) → at + 1 ≤ length s → number (part s at 1) ≡ byteAt s at
+pub number-8 : (s : List ℕ) (at : ℕ) → at + 1 ≤ length s → unsignedOf (part s at 1) ≡ byteAt s at
 number-8 s at h = rw (add-zero at) at (number-at s at 0 1 (omega arith)) ∙ omega arith
 
-pub number-32 : (s : List ℕ) (at : ℕ) → at + 4 ≤ length s → number (part s at 4) ≡ u32At s at
+pub number-32 : (s : List ℕ) (at : ℕ) → at + 4 ≤ length s → unsignedOf (part s at 4) ≡ u32At s at
 unfolding u32At u16At
 number-32 s at h =
     let e : at + 2 + 1 ≡ at + 3 = omega arith in
     rw e (rw (add-zero at) at (number-at s at 0 4 (omega arith)) ∙ omega arith)
 
-pub number-64 : (s : List ℕ) (at : ℕ) → at + 8 ≤ length s → number (part s at 8) ≡ u64At s at
+pub number-64 : (s : List ℕ) (at : ℕ) → at + 8 ≤ length s → unsignedOf (part s at 8) ≡ u64At s at
 unfolding u64At
 number-64 s at h =
     let a = rw (add-zero at) at (number-at s at 0 8 (omega arith)) in
@@ -131,7 +128,7 @@ module _ (s : List ℕ) (at b n : ℕ) (h : at + n ≤ length s) where
   pub bool-value : (x : ℕ) → b ≡ bool → n ≡ 1 → x ≡ byteAt s at → Says (leb x 1)
   unfolding isValue
   bool-value x e k q =
-      let z : number (take 1 (drop at s)) ≡ x = number-8 s at (omega arith) ∙ sym q in
+      let z : unsignedOf (take 1 (drop at s)) ≡ x = number-8 s at (omega arith) ∙ sym q in
       rw (e, length-part s at n h, k, z) refl
 
   pub bool-long : b ≡ bool → (n ≡ 1 → ⊥) → Says false
@@ -144,13 +141,13 @@ module _ (s : List ℕ) (at b n : ℕ) (h : at + n ≤ length s) where
   pub double-plain : (x : ℕ) → b ≡ double → n ≡ 8 → x ≡ u64At s at → x % 0x8000000000000000 ≤ 0x7FF0000000000000 → Says true
   unfolding isValue
   double-plain x e k q l =
-      let z : number (take 8 (drop at s)) ≡ x = number-64 s at (omega arith) ∙ sym q in
+      let z : unsignedOf (take 8 (drop at s)) ≡ x = number-64 s at (omega arith) ∙ sym q in
       rw (e, length-part s at n h, k, z, le-leb (x % 0x8000000000000000) 0x7FF0000000000000 l) refl
 
   pub double-nan : (x : ℕ) → b ≡ double → n ≡ 8 → x ≡ u64At s at → 0x7FF0000000000000 < x % 0x8000000000000000 → Says (eqb x 0x7FF8000000000000)
   unfolding isValue
   double-nan x e k q l =
-      let z : number (take 8 (drop at s)) ≡ x = number-64 s at (omega arith) ∙ sym q in
+      let z : unsignedOf (take 8 (drop at s)) ≡ x = number-64 s at (omega arith) ∙ sym q in
       rw (e, length-part s at n h, k, z, lt-leb (x % 0x8000000000000000) 0x7FF0000000000000 l) refl
 
   pub double-long : b ≡ double → (n ≡ 8 → ⊥) → Says false
@@ -178,16 +175,16 @@ module _ (s : List ℕ) (at b n : ℕ) (h : at + n ≤ length s) where
 -- ---- what the value rule tells of the bytes
 
 module _ (b : ℕ) (v : List ℕ) (h : isValue b v ≡ true) where
-  pub bool-bytes : b ≡ bool → (length v ≡ 1) × (number v ≤ 1)
+  pub bool-bytes : b ≡ bool → (length v ≡ 1) × (unsignedOf v ≤ 1)
   unfolding isValue
   bool-bytes e =
-      let k = both (eqb (length v) 1) (leb (number v) 1) (rw e at h) in
-      (eqb-true (length v) 1 (k .0), leb-true (number v) 1 (k .1))
+      let k = and-of (eqb (length v) 1) (leb (unsignedOf v) 1) (rw e at h) in
+      (eqb-true (length v) 1 (k .0), leb-true (unsignedOf v) 1 (k .1))
 
-  pub double-bytes : b ≡ double → (length v ≡ 8) × (isDouble (number v) ≡ true)
+  pub double-bytes : b ≡ double → (length v ≡ 8) × (isDouble (unsignedOf v) ≡ true)
   unfolding isValue
   double-bytes e =
-      let k = both (eqb (length v) 8) (isDouble (number v)) (rw e at h) in
+      let k = and-of (eqb (length v) 8) (isDouble (unsignedOf v)) (rw e at h) in
       (eqb-true (length v) 8 (k .0), k .1)
 
   pub string-bytes : b ≡ string → length v ≤ 16

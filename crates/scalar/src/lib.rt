@@ -5,9 +5,9 @@ ghost use mathlib.Core.List.{[]};
 ghost use Prim.Native.Nat.{_+_, _≤_, min};
 ghost use lib.ListN.{length, take, drop};
 ghost use lib.Ieee.{binary64, ofBits, toBits, nanBits, lt, eq};
-ghost use Rattle.scalar.specs.Value.{value, bytesOf, isValue, wordOf, Sound};
+ghost use Rattle.scalar.specs.Value.{value, bytesOf, isValue, wordOf, SoundValue};
 ghost use Rattle.wire.specs.Wire.{part, withPart};
-ghost use Rattle.scalar.specs.Operator.{notOf, negateOf, andOf, addOf, subtractOf, lessOf, equalOf, sameBytes, bit, isNumber};
+ghost use Rattle.scalar.specs.Operator.{notOf, negateOf, andOf, addOf, subtractOf, lessOf, equalOf, equalBytes, bit, isNumber};
 ghost use Rattle.scalar.specs.Scalar.{valueOf, valueBeside, answerOf, beside, AsPair, truthOf};
 
 // The numbers of the basic types.
@@ -156,7 +156,7 @@ fn double_equal(p: f64, q: f64) -> bool
 
 // Are the bytes of two slices the same?
 pub fn same_bytes(s: &[u8], t: &[u8]) -> bool
-    ensures { λ r. ⌜ r ≡ sameBytes (now (s .entry)) (now (t .entry)) ⌝ }
+    ensures { λ r. ⌜ r ≡ equalBytes (now (s .entry)) (now (t .entry)) ⌝ }
 {
     if s.len() != t.len() {
         return false;
@@ -287,7 +287,7 @@ pub fn less(a: Operand, b: Operand) -> Computed
 
 // Are the bytes beside two operands the same?
 fn same_beside(a: Operand, b: Operand) -> bool
-    ensures { λ r. ⌜ r ≡ sameBytes (beside a) (beside b) ⌝ }
+    ensures { λ r. ⌜ r ≡ equalBytes (beside a) (beside b) ⌝ }
 {
     let s = a.bytes;
     let t = b.bytes;
@@ -432,7 +432,7 @@ pub fn truth_of(v: Operand) -> Truth
 
 // The basic type of a value.
 pub fn basic_of(v: Operand) -> u8
-    ensures { λ b. ⌜ Sound b (valueOf v) ⌝ }
+    ensures { λ b. ⌜ SoundValue b (valueOf v) ⌝ }
 {
     let k = v.scalar;
     match k {

@@ -3,22 +3,22 @@ use mathlib.Core.Path.{_≡_}
 use Prim.Native.Nat.{ℕ, suc, _<_, _≤_}
 use lib.Dec.{T}
 use lib.ListN.{length}
-use Rattle.forest.specs.Forest.{end, tree, nodes, levels}
-use Rattle.syntax.specs.Syntax.{Types, MessageType, some, Network, Operation, output, Behaviour, nil, oneWay, requestResponse, notification}
-use Rattle.syntax.specs.Syntax.{solicitResponse, ifThenElse, whileDo, sequence, parallel, assign, choice, waiting, answering, Branches}
-use Rattle.syntax.specs.Syntax.{lastBranch, branch}
+use Rattle.tree_forest.specs.Forest.{end, tree, nodes, levels}
+use Rattle.network_syntax.specs.Syntax.{Types, MessageType, some, Network, Operation, output, Behaviour, nil, oneWay, requestResponse, notification}
+use Rattle.network_syntax.specs.Syntax.{solicitResponse, ifThenElse, whileDo, sequence, parallel, assign, choice, waiting, answering, Branches}
+use Rattle.network_syntax.specs.Syntax.{lastBranch, branch}
 use Rattle.network.specs.Shapes.{EachRowOnce, AsInFile}
-use Rattle.syntax.specs.Meets.{metInput, inFile}
-use Rattle.typing.specs.Rules.{Derives, RisingOperation}
-use Rattle.typing.specs.NetworkRules.{Agrees}
-use Rattle.tree.specs.Encode.{messageDeep, messageMany}
-use Rattle.state.specs.Shape.{behaviourIn, operationAt}
+use Rattle.network_syntax.specs.Meets.{metInput, inFile}
+use Rattle.check_typing.specs.Rules.{Derives, RisingOperation}
+use Rattle.check_typing.specs.NetworkRules.{Agrees}
+use Rattle.tree_forest.specs.Limits.{messageLevelsBelow, messageNodesBelow}
+use Rattle.state.specs.Shape.{behaviourIn, operationOfRow}
 use Rattle.soundness.specs.GoodTrees.{GoodPath, GoodExpression}
 use Rattle.soundness.specs.Parts.{branchAt}
 
 -- The operation is that of its O row.
 abbrev pub OfFile : Network → Operation → Type 0
-OfFile N o = operationAt (N .operations) (o .row) ≡ some o
+OfFile N o = operationOfRow (N .operations) (o .row) ≡ some o
 
 unfoldable mutual
   -- Every row of the behaviour is one of the file's `rows` B rows, and its operations, paths and constants are the file's.
@@ -43,7 +43,7 @@ unfoldable mutual
 
 -- "Every T row written out has at most 16 nodes and 4 levels", its root one of each.
 abbrev pub SmallType : MessageType → Type 0
-SmallType (tree a k) = (levels k ≤ messageDeep) × (nodes k ≤ messageMany)
+SmallType (tree a k) = (levels k ≤ messageLevelsBelow) × (nodes k ≤ messageNodesBelow)
 
 -- The operation of the O row w.
 pub record OperationFits (w : ℕ) (o : Operation) : Type 0 where
@@ -73,9 +73,9 @@ pub record DerivedStarter (q : ℕ) (B : Behaviour) : Type 0 where
 pub record Accepted (N : Network) (rows : ℕ) : Type 0 where
   pub fewRows : rows ≤ 256
   pub fewServices : length (N .services) ≤ 4
-  pub operations : (w : ℕ) (o : Operation) → operationAt (N .operations) w ≡ some o → OperationFits w o
+  pub operations : (w : ℕ) (o : Operation) → operationOfRow (N .operations) w ≡ some o → OperationFits w o
   pub behaviours : (q n : ℕ) (B : Behaviour) → behaviourIn N q n ≡ some B → BehaviourFits N rows B
   pub clients : (q : ℕ) (B : Behaviour) → behaviourIn N q 0 ≡ some B → DerivedClient q B
   pub starters : (q n : ℕ) (B : Behaviour) → behaviourIn N q (suc n) ≡ some B → DerivedStarter q B
-  pub outputs : (w : ℕ) (o i : Operation) → operationAt (N .operations) w ≡ some o → o .direction ≡ output → T (inFile N (o .location))
+  pub outputs : (w : ℕ) (o i : Operation) → operationOfRow (N .operations) w ≡ some o → o .direction ≡ output → T (inFile N (o .location))
       → metInput N o ≡ some i → Agrees o i

@@ -6,31 +6,31 @@ use mathlib.Core.List.{List, [], _∷_}
 use native.Mathlib.Omega.{arith}
 use lib.Dec.{T, eqb, leb}
 use borrow.Author.Tests.{ne-eqb}
-use Rattle.forest.specs.Forest.{end, tree}
-use Rattle.scalar.specs.Value.{pick}
-use Rattle.syntax.specs.Syntax.{Types, MessageType, Optional, none, some, Service, Network, Operation, output, Behaviour}
-use Rattle.syntax.specs.Syntax.{Branches, lastBranch, branch}
+use Rattle.tree_forest.specs.Forest.{end, tree}
+use Rattle.basics.specs.Choice.{pick}
+use Rattle.network_syntax.specs.Syntax.{Types, MessageType, Optional, none, some, Service, Network, Operation, output, Behaviour}
+use Rattle.network_syntax.specs.Syntax.{Branches, lastBranch, branch}
 use Rattle.network.specs.Layout.{behaviourCount}
 use Rattle.network.specs.Form.{WellFormed}
 use Rattle.network.specs.Decode.{networkOf, rowOperation}
-use Rattle.syntax.specs.Meets.{inFile, metInput}
-use Rattle.syntax.specs.Rows.{isThere, Choice, choiceOf, entry}
+use Rattle.network_syntax.specs.Meets.{inFile, metInput}
+use Rattle.network_syntax.specs.Rows.{isThere, Choice, choiceOf, entry}
 use Rattle.network.specs.Shapes.{MessageTypeShape, FileBehaviour, IfAny, Role, asStarter, asClient, isChoiceBehaviour}
-use Rattle.network.specs.Shapes.{NetworkShape, behaviourIn as inRole}
+use Rattle.network.specs.Shapes.{NetworkShape, behaviourAs as inRole}
 use Rattle.network.specs.RowLaws.{counts-kept}
 use Rattle.network.specs.NetworkLaws.{service-length, service-of-entry, topRow, top-of, network-shape}
-use Rattle.typing.specs.Rules.{Derives}
-use Rattle.typing.specs.NetworkRules.{sequencesOf, ofChoice, branchesOf, DerivesEach, DerivesStarter, DerivesClient, IfThere, Environments}
-use Rattle.typing.specs.NetworkRules.{DerivesServices, Agrees, AgreesWith, OutputsMeet, DerivesNetwork}
-use Rattle.typing.specs.Result.{passed}
-use Rattle.checking.specs.FileChecker.{checkFile}
-use Rattle.checking.specs.FileCheckerLaws.{accepted-derived}
+use Rattle.check_typing.specs.Rules.{Derives}
+use Rattle.check_typing.specs.NetworkRules.{sequencesOf, ofChoice, branchesOf, DerivesEach, DerivesStarter, DerivesClient, IfThere, Environments}
+use Rattle.check_typing.specs.NetworkRules.{DerivesServices, Agrees, AgreesWith, OutputsMeet, DerivesNetwork}
+use Rattle.check_typing.specs.Result.{passed}
+use Rattle.check_files.specs.FileChecker.{checkFile}
+use Rattle.check_files.specs.FileCheckerLaws.{accepted-derived}
 use Rattle.tree.specs.Encode.{Octets}
-use Rattle.state.specs.Shape.{behaviourIn, serviceAt, clientOf, starterOf}
+use Rattle.state.specs.Shape.{behaviourIn, serviceOfRow, clientOf, starterOf}
 use Rattle.soundness.specs.Parts.{branchAt}
 use Rattle.soundness.specs.Accepted.{MadeOf, SmallType, OperationFits, BehaviourFits, DerivedStarter, Accepted}
 use Rattle.soundness.specs.FilePartsLaws.{behaviour-made}
-use Rattle.syntax.specs.ViewLaws.{some-inj, none-some, choice-is}
+use Rattle.network_syntax.specs.ViewLaws.{some-inj, none-some, choice-is}
 
 -- Operations ------------------------------------------------------------------------------------------------------------------------------
 
@@ -55,11 +55,11 @@ record Runs (N : Network) (q : ℕ) (x : Role) (B : Behaviour) : Type 0 where
   there : entry q (N .services) ≡ some service
   runs : inRole x service ≡ some B
 
-client-runs : (N : Network) (q : ℕ) (B : Behaviour) (v : Optional Service) → serviceAt (N .services) q ≡ v → clientOf v ≡ some B → Runs N q asClient B
+client-runs : (N : Network) (q : ℕ) (B : Behaviour) (v : Optional Service) → serviceOfRow (N .services) q ≡ v → clientOf v ≡ some B → Runs N q asClient B
 client-runs N q B none e h = absurd (none-some h)
 client-runs N q B (some v) e h = record { service = v; there = e; runs = h }
 
-starter-runs : (N : Network) (q : ℕ) (B : Behaviour) (t : Bool) (v : Optional Service) → serviceAt (N .services) q ≡ v
+starter-runs : (N : Network) (q : ℕ) (B : Behaviour) (t : Bool) (v : Optional Service) → serviceOfRow (N .services) q ≡ v
     → pick t (starterOf v) none ≡ some B → Runs N q asStarter B
 starter-runs N q B true none e h = absurd (none-some h)
 starter-runs N q B true (some v) e h = record { service = v; there = e; runs = h }
@@ -70,10 +70,10 @@ roleOf zero = asClient
 roleOf (suc n) = asStarter
 
 session-runs : (N : Network) (q n : ℕ) (B : Behaviour) → behaviourIn N q n ≡ some B → Runs N q (roleOf n) B
-session-runs N q zero B e = client-runs N q B (serviceAt (N .services) q) refl e
+session-runs N q zero B e = client-runs N q B (serviceOfRow (N .services) q) refl e
 session-runs N q (suc n) B e =
     let f : eqb (suc n) 0 ≡ false = ne-eqb (suc n) 0 (λ z. omega arith) in
-    starter-runs N q B (leb (suc n) 3) (serviceAt (N .services) q) refl (rw f at e)
+    starter-runs N q B (leb (suc n) 3) (serviceOfRow (N .services) q) refl (rw f at e)
 
 if-any : {A : Type 0} (P : A → Type 0) (o : Optional A) (a : A) → o ≡ some a → IfAny o P → P a
 if-any P o a e h = subst (λ (z : Optional _). IfAny z P) e h

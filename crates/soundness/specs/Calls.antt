@@ -5,13 +5,13 @@ use mathlib.Core.List.{List, [], _∷_, _++_}
 use Prim.Native.Nat.{ℕ}
 use lib.Dec.{T, leb}
 use lib.ListN.{length}
-use Rattle.scalar.specs.Value.{pick}
+use Rattle.basics.specs.Choice.{pick}
 use Rattle.network.specs.Layout.{behaviourCount}
 use Rattle.network.specs.Decode.{networkOf}
 use Rattle.state.specs.Session.{State}
 use Rattle.state.specs.Shape.{Stands}
-use Rattle.moves.specs.Moves.{local}
-use Rattle.moves.specs.Fresh.{freshBytes}
+use Rattle.move_rules.specs.Moves.{local}
+use Rattle.move_rules.specs.Fresh.{freshBytes}
 use Rattle.soundness.specs.Property3.{Ready, Turn, AllGiven, after, sendsOrReplies, AllWellTyped, AcceptedFile}
 
 -- The file is accepted, and the bytes s are those after the list l of moves from its fresh state.
@@ -20,14 +20,18 @@ pub record FromFresh (file s : List ℕ) (l : List Turn) : Type 0 where
   pub given : AllGiven l
   pub bytes : s ≡ after file (freshBytes file) l
 
--- What is promised of a move t on such bytes s, whose number is n and which leaves the bytes `left`.
+-- What is promised of a move t on such bytes s, whose number is n and which leaves the bytes `left`: those after l and t, of one state, in which
+-- live sessions are well typed.
 pub record KeepsPromise (file s : List ℕ) (l : List Turn) (t : Turn) (n : ℕ) (left : List ℕ) : Type 0 where
   pub never18 : n ≡ 18 → ⊥
   pub never19 : T (sendsOrReplies (t .move)) → n ≡ 19 → ⊥
-  pub readyMoves : (G : State) → Stands (networkOf file) (behaviourCount file) s G → (service session row : ℕ) → t .move ≡ local service session row
+  pub readyMoves : (G : State) → Stands (networkOf file) (behaviourCount file) s G → (service session row : ℕ)
+      → t .move ≡ local service session row
       → Ready (networkOf file) G service session row → n ≡ pick (leb 512 (length (t .out))) 0 1
   pub leaves : left ≡ after file (freshBytes file) (l ++ (t ∷ []))
-  pub wellTyped : (G : State) → Stands (networkOf file) (behaviourCount file) left G → AllWellTyped file G
+  pub state : State
+  pub stands : Stands (networkOf file) (behaviourCount file) left state
+  pub wellTyped : AllWellTyped file state
 
 -- Property 3 at a call: for every list of moves from fresh.
 abbrev pub SoundCall : List ℕ → List ℕ → Turn → ℕ → List ℕ → Type 0

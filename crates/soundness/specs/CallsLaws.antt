@@ -4,18 +4,18 @@ use mathlib.Core.List.{List, [], _∷_, _++_}
 use Prim.Native.Nat.{ℕ}
 use lib.Dec.{leb}
 use lib.ListN.{length}
-use Rattle.scalar.specs.Value.{pick}
-use Rattle.refusal.specs.Refusal.{number}
+use Rattle.basics.specs.Choice.{pick}
+use Rattle.refusal.specs.Refusal.{outcomeNumber}
 use Rattle.network.specs.Layout.{behaviourCount}
 use Rattle.network.specs.Decode.{networkOf}
 use Rattle.state.specs.Session.{State}
 use Rattle.state.specs.Bytes.{stateBytes}
 use Rattle.state.specs.Shape.{Stands}
 use Rattle.state.specs.ShapeLaws.{stands-unique}
-use Rattle.moves.specs.Moves.{Move, local}
-use Rattle.moves.specs.Step.{step}
-use Rattle.moves.specs.Fresh.{freshBytes}
-use Rattle.soundness.specs.Property3.{Ready, Turn, Given, AllGiven, after, numberOfNext, AllWellTyped, Property3}
+use Rattle.move_rules.specs.Moves.{Move, local}
+use Rattle.move_rules.specs.Step.{step}
+use Rattle.move_rules.specs.Fresh.{freshBytes}
+use Rattle.soundness.specs.Property3.{Ready, Turn, Given, AllGiven, after, numberOfNext, Property3}
 use Rattle.soundness.specs.Property3Laws.{property3}
 use Rattle.soundness.specs.Calls.{FromFresh, KeepsPromise, SoundCall}
 
@@ -31,7 +31,7 @@ given-last [] t g h = (h, tt)
 given-last (u ∷ l) t g h = (g .0, given-last l t (g .1) h)
 
 pub call-sound : (file s : List ℕ) (t : Turn) → Given t
-    → SoundCall file s t (number (step file s (t .out) (t .move) (t .bytes) .outcome)) (step file s (t .out) (t .move) (t .bytes) .state)
+    → SoundCall file s t (outcomeNumber (step file s (t .out) (t .move) (t .bytes) .outcome)) (step file s (t .out) (t .move) (t .bytes) .state)
 call-sound file s t g l f =
     let P = property3 file (f .accepted) l (f .given) in
     let Q = property3 file (f .accepted) (l ++ (t ∷ [])) (given-last l t (f .given) g) in
@@ -48,6 +48,7 @@ call-sound file s t g l f =
           ∙ P .holds .readyMoves q n r (t .bytes) (t .out)
           (subst (λ (z : State). Ready (networkOf file) z q n r) (stands-unique h (record { shape = P .stands .shape; bytes = same })) k));
       leaves = left;
-      wellTyped = λ G h.
-          subst (AllWellTyped file) (stands-unique (record { shape = Q .stands .shape; bytes = left ∙ Q .stands .bytes }) h) (Q .holds .wellTyped);
+      state = Q .state;
+      stands = record { shape = Q .stands .shape; bytes = left ∙ Q .stands .bytes };
+      wellTyped = Q .holds .wellTyped;
     }

@@ -4,12 +4,11 @@ use Prim.Native.Nat.{ℕ, zero, suc}
 use mathlib.Core.Bool.{Bool, _&&_, _||_}
 use native.Mathlib.Omega.{arith}
 use lib.Dec.{T, eqb, eqb→eq, eqb-refl}
-use Rattle.forest.specs.Compare.{and-l, and-r, and-i}
-use Rattle.syntax.specs.Syntax.{Network, Behaviour, nil, oneWay, requestResponse, notification, solicitResponse, ifThenElse, whileDo, sequence}
-use Rattle.syntax.specs.Syntax.{parallel, assign, choice, waiting, answering, Branches, lastBranch, branch}
-use Rattle.syntax.specs.Rows.{hasRow, hasRowIn}
+use Rattle.basics.specs.TestLaws.{and-i, and-l, and-r, or-case}
+use Rattle.network_syntax.specs.Syntax.{Network, Behaviour, nil, oneWay, requestResponse, notification, solicitResponse, ifThenElse, whileDo, sequence}
+use Rattle.network_syntax.specs.Syntax.{parallel, assign, choice, waiting, answering, Branches, lastBranch, branch}
+use Rattle.network_syntax.specs.Rows.{hasRow, hasRowIn}
 use Rattle.network.specs.Shapes.{Outside, EachRowOnce, EachBranchRowOnce}
-use Rattle.network.specs.OnceLaws.{or-case}
 use Rattle.state.specs.Session.{Progress, Progresses, Destination, undone, received, taken}
 use Rattle.state.specs.Shape.{isUndone, undoneOrDone, undoneDoneOrWaits, undoneDoneOrReceived, undoneOrTaken, undoneDoneOrBody, branches, suits, suitsBranches}
 use Rattle.soundness.specs.Parts.{branchAt, Fresh, FreshBranches, notTaken, Clean, CleanBranches, Reaches, atSelf, atFirst, atSecond, atLeft, atRight, atThen, atElse}

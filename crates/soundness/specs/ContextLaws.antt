@@ -4,16 +4,15 @@ use mathlib.Core.Path.{_≡_, refl, sym, subst, _∙_}
 use Prim.Native.Nat.{ℕ}
 use mathlib.Core.Bool.{Bool, true, false, _&&_, _||_}
 use lib.Dec.{T}
-use Rattle.forest.specs.Compare.{and-l, and-r}
-use Rattle.forest.specs.Forest.{Rising}
-use Rattle.forest.specs.Path.{Path}
-use Rattle.syntax.specs.Syntax.{Types, Operation, Behaviour, nil, oneWay, requestResponse, notification, solicitResponse, ifThenElse, whileDo}
-use Rattle.syntax.specs.Syntax.{sequence, parallel, assign, choice, waiting, answering}
-use Rattle.typing.specs.Occurs.{isRoot, occurs}
-use Rattle.typing.specs.OccursLaws.{or-l, or-r}
-use Rattle.typing.specs.Rules.{WellSorted}
-use Rattle.typing.specs.Typed.{Typed}
-use Rattle.typing.specs.TypedLaws.{swap, typed-rising}
+use Rattle.basics.specs.TestLaws.{and-l, and-r, or-l, or-r}
+use Rattle.tree_forest.specs.Forest.{Rising}
+use Rattle.tree_forest.specs.Path.{Path}
+use Rattle.network_syntax.specs.Syntax.{Types, Operation, Behaviour, nil, oneWay, requestResponse, notification, solicitResponse, ifThenElse, whileDo}
+use Rattle.network_syntax.specs.Syntax.{sequence, parallel, assign, choice, waiting, answering}
+use Rattle.check_typing.specs.Occurs.{isRoot, occurs}
+use Rattle.check_typing.specs.Rules.{WellSorted}
+use Rattle.check_typing.specs.Typed.{Typed}
+use Rattle.check_typing.specs.TypedLaws.{swap, typed-rising}
 
 -- Nothing is left to do in the rest.
 unfoldable pub finished : Behaviour → Bool

@@ -6,44 +6,47 @@ use mathlib.Core.List.{List, [], _∷_, _++_}
 use native.Mathlib.Omega.{arith}
 use lib.Dec.{T, eqb, ltb, leb, eqb→eq, ltb→lt, leb→le}
 use lib.ListN.{length}
-use Rattle.forest.specs.Forest.{Tree, tree, end, RisingTree}
-use Rattle.forest.specs.Path.{Path}
-use Rattle.scalar.specs.Value.{Value, pick}
-use Rattle.syntax.specs.Syntax.{Types, MessageType, Optional, none, some, Service, Network, Operation, input, Behaviour, oneWay, requestResponse}
-use Rattle.syntax.specs.Syntax.{sequence, choice, Branches}
-use Rattle.syntax.specs.Rows.{rowOf, hasRow, hasRowIn, Response, Input, fromInput, choiceOf, entry}
+use Rattle.tree_forest.specs.Forest.{Tree, tree, end, RisingTree}
+use Rattle.tree_forest.specs.Path.{Path}
+use Rattle.scalar.specs.Value.{Value}
+use Rattle.basics.specs.Choice.{pick}
+use Rattle.network_syntax.specs.Syntax.{Types, MessageType, Optional, none, some, Service, Network, Operation, input, Behaviour, oneWay, requestResponse}
+use Rattle.network_syntax.specs.Syntax.{sequence, choice, Branches}
+use Rattle.network_syntax.specs.Rows.{rowOf, hasRow, hasRowIn, Response, Input, fromInput, choiceOf, entry}
 use Rattle.network.specs.Shapes.{EachRowOnce}
-use Rattle.syntax.specs.Meets.{firstOf}
-use Rattle.subtyping.specs.Own.{Fits}
-use Rattle.subtyping.specs.OwnLaws.{tree-within}
-use Rattle.typing.specs.EnvironmentLaws.{sums, maxima}
-use Rattle.typing.specs.Rules.{Derives}
-use Rattle.tree.specs.Encode.{WellFormed, messageDeep, messageMany}
+use Rattle.network_syntax.specs.Meets.{firstOf}
+use Rattle.check_subtyping.specs.Own.{Fits}
+use Rattle.check_subtyping.specs.OwnLaws.{tree-within}
+use Rattle.check_typing.specs.EnvironmentLaws.{sums, maxima}
+use Rattle.check_typing.specs.Rules.{Derives}
+use Rattle.tree.specs.Encode.{WellFormedTree}
+use Rattle.tree_forest.specs.Limits.{messageLevelsBelow, messageNodesBelow}
 use Rattle.state.specs.Session.{Destination, Progresses, undone, received, taken, advance, Queued, Session, withQueue, withProgress, newSession, Slot, free, live, State, setSlot}
-use Rattle.state.specs.Shape.{serviceAt, clientOf, starterOf, behaviourIn, operationAt, suitsOperation, branches}
-use Rattle.moves.specs.Targets.{Target, noTarget, queueFull, queued, starts, startFrom, startOf, targetOf, onBehaviour, target}
-use Rattle.moves.specs.Moves.{Result, moved, saveWithin, permitsInput, receivedBy, allowed, startedBy, started, deliver}
+use Rattle.state.specs.Shape.{serviceOfRow, clientOf, starterOf, behaviourIn, operationOfRow, suitsOperation, branches}
+use Rattle.move_rules.specs.Targets.{Target, noTarget, queueFull, queued, starts, startFrom, startOf, targetOf, targetIn, target}
+use Rattle.move_rules.specs.Moves.{Result, moved, saveWithin, permitsInput, allowed, startedBy, started, deliver}
+use Rattle.state.specs.Session.{receivedBy}
 use Rattle.soundness.specs.GoodTrees.{GoodTree}
 use Rattle.soundness.specs.Parts.{branchAt, Reaches, atSelf, atFirst, atBranch}
 use Rattle.soundness.specs.RowLaws.{in-first, branch-rows}
 use Rattle.soundness.specs.Accepted.{OfFile, MadeOf, SmallType, Accepted, DerivedStarter}
 use Rattle.soundness.specs.MadeLaws.{made-at, plain-request, reaches-atRow}
-use Rattle.syntax.specs.ViewLaws.{own-row, some-inj}
-use Rattle.soundness.specs.Invariant.{ReplyFits, RepliesFit, Answers, QueuedSound, AllQueued, SessionSound, Sound}
-use Rattle.soundness.specs.SessionLaws.{advance-same, advance-below-branches, once-of, made-of, oneWay-sound, request-sound, queue-sound}
+use Rattle.network_syntax.specs.ViewLaws.{own-row, some-inj}
+use Rattle.soundness.specs.Invariant.{ReplyFits, RepliesFit, AnswersAt, QueuedSound, AllQueued, SessionSound, Sound}
+use Rattle.soundness.specs.SessionLaws.{advance-here, advance-below-branches, once-of, made-of, oneWay-sound, request-sound, queue-sound}
 use Rattle.soundness.specs.StartLaws.{StartedBy, FoundStart, startFrom-found, start-sound}
 use Rattle.soundness.specs.ResultLaws.{Keeps, goes-keeps, keeps-15, allowed-16, by-require, by-live, sound-set, live-inj}
 use Rattle.soundness.specs.LocalLaws.{permits-one, permits-two, save-goes, suits-destination, suits-none}
 
 -- What fits a type of the file is a message.
-pub message-formed : (m : Tree Value) (t : MessageType) → GoodTree m → RisingTree t → SmallType t → Fits m t → WellFormed messageDeep messageMany m
+pub message-formed : (m : Tree Value) (t : MessageType) → GoodTree m → RisingTree t → SmallType t → Fits m t → WellFormedTree messageLevelsBelow messageNodesBelow m
 message-formed (tree v k) (tree a l) g rt st f =
     let few = tree-within (_+_) sums k l (g .1 .0) rt (f .children) in
     let low = tree-within max maxima k l (g .1 .0) rt (f .children) in
     record { root = g .0; sound = g .1 .1; rising = g .1 .0; shallow = let z = st .0 in omega arith; few = let z = st .1 in omega arith }
 
 -- The operation found is one of the list, and passes the test.
-pub first-there : (test : Operation → Bool) (l : List Operation) (i : Operation) → firstOf test l ≡ some i → (w : ℕ) × (operationAt l w ≡ some i) × T (test i)
+pub first-there : (test : Operation → Bool) (l : List Operation) (i : Operation) → firstOf test l ≡ some i → (w : ℕ) × (operationOfRow l w ≡ some i) × T (test i)
 unfolding firstOf entry
 first-there test [] i e = absurd (none-some e)
   where
@@ -51,13 +54,13 @@ first-there test [] i e = absurd (none-some e)
     none-some h = let z : _≡_ {A = ℕ} 0 1 = cc in omega arith
 first-there test (o ∷ l) i e = go (test o) refl e (first-there test l i)
   where
-    go : (b : Bool) → test o ≡ b → pick b (some o) (firstOf test l) ≡ some i → (firstOf test l ≡ some i → (w : ℕ) × (operationAt l w ≡ some i) × T (test i))
-        → (w : ℕ) × (operationAt (o ∷ l) w ≡ some i) × T (test i)
+    go : (b : Bool) → test o ≡ b → pick b (some o) (firstOf test l) ≡ some i → (firstOf test l ≡ some i → (w : ℕ) × (operationOfRow l w ≡ some i) × T (test i))
+        → (w : ℕ) × (operationOfRow (o ∷ l) w ≡ some i) × T (test i)
     go true t h ih = (0, h, subst (λ (z : Operation). T (test z)) (some-inj h) (subst T (sym t) tt))
     go false t h ih = let u = ih h in (suc (u .0), u .1, u .2)
 
 -- A service of the file and a session 0 to 3.
-service-below : (l : List Service) (q : ℕ) (s : Service) → serviceAt l q ≡ some s → q < length l
+service-below : (l : List Service) (q : ℕ) (s : Service) → serviceOfRow l q ≡ some s → q < length l
 unfolding entry
 service-below [] q s e = absurd (none-some e)
   where
@@ -70,9 +73,9 @@ no-behaviour : {B : Behaviour} → none ≡ some B → ⊥
 no-behaviour h = let z : _≡_ {A = ℕ} 0 1 = cc in omega arith
 
 pub behaviour-place : (N : Network) (q n : ℕ) (B : Behaviour) → behaviourIn N q n ≡ some B → (q < length (N .services)) × (n ≤ 3)
-behaviour-place N q n B e = go (eqb n 0) refl (leb n 3) refl (serviceAt (N .services) q) refl e
+behaviour-place N q n B e = go (eqb n 0) refl (leb n 3) refl (serviceOfRow (N .services) q) refl e
   where
-    go : (a : Bool) → eqb n 0 ≡ a → (b : Bool) → leb n 3 ≡ b → (s : Optional Service) → serviceAt (N .services) q ≡ s
+    go : (a : Bool) → eqb n 0 ≡ a → (b : Bool) → leb n 3 ≡ b → (s : Optional Service) → serviceOfRow (N .services) q ≡ s
         → pick a (clientOf s) (pick b (starterOf s) none) ≡ some B → (q < length (N .services)) × (n ≤ 3)
     go true ea b eb none es h = absurd (no-behaviour h)
     go true ea b eb (some s) es h =
@@ -131,7 +134,7 @@ module _ (N : Network) (rows : ℕ) (acc : Accepted N rows) where
               (record { before = n2; number = en; options = m; runs = e; found = f .1; derived = d })
 
       go : (n1 : ℕ) → n ≡ n1 → (b : Optional Behaviour) → behaviourIn N (i .service) n ≡ b → (x : Slot) → G (i .service) n ≡ x
-          → TargetInfo N G i n (onBehaviour b (λ B. targetOf w n B x))
+          → TargetInfo N G i n (targetIn b (λ B. targetOf w n B x))
       go n1 en none eb x ex = tt
       go n1 en (some B) eb (live S) ex =
           queue-target (TargetInfo N G i n) (ltb (length (S .queue)) 4)
@@ -176,7 +179,7 @@ module _ (N : Network) (rows : ℕ) (acc : Accepted N rows) where
       (λ j. subst (λ (z : Branches). (Δ : Types) × Derives q (branchAt j z) end Δ) (sym (choice-same (d .isChoice))) (d .branches j))
 
   input-way : (c k l : ℕ) (m : Branches) (a b : Behaviour) → branchAt k m ≡ sequence l a b → Reaches (begun c k) a (choice c m)
-  input-way c k l m a b e = atBranch k (advance-same (λ i. undone) c (taken k)) (subst (λ (z : Behaviour). Reaches (begun c k) a z) (sym e) (atFirst atSelf))
+  input-way c k l m a b e = atBranch k (advance-here (λ i. undone) c (taken k)) (subst (λ (z : Behaviour). Reaches (begun c k) a z) (sym e) (atFirst atSelf))
 
   input-undone : (c k l : ℕ) (m : Branches) (a b : Behaviour) → EachRowOnce (choice c m) → branchAt k m ≡ sequence l a b → begun c k (rowOf a) ≡ undone
   unfolding hasRow EachRowOnce
@@ -191,7 +194,7 @@ module _ (N : Network) (rows : ℕ) (acc : Accepted N rows) where
     here-what = some-inj (sym runs ∙ hs .runs)
 
     same-operation : (o : Operation) → OfFile N o → T (eqb (o .row) (i .row)) → i ≡ o
-    same-operation o f t = some-inj (sym (arr .ofFile) ∙ (ap (operationAt (N .operations)) (sym (eqb→eq (o .row) (i .row) t)) ∙ f))
+    same-operation o f t = some-inj (sym (arr .ofFile) ∙ (ap (operationOfRow (N .operations)) (sym (eqb→eq (o .row) (i .row) t)) ∙ f))
 
     start-one : (r : ℕ) (o : Operation) (y : Path) → branchAt k m ≡ sequence l (oneWay r o y) b → T (eqb (o .row) (i .row))
         → o .twoWay ≡ false → SessionSound N rows q (suc n) (startedBy c k r y (receivedBy back) x)
@@ -221,7 +224,7 @@ module _ (N : Network) (rows : ℕ) (acc : Accepted N rows) where
         let made = made-at N rows way (made-of N rows acc q (suc n) (choice c m) runs) in
         let eo = same-operation o (made .1) t in
         let to = suits-destination N rows (i .service) back i (arr .suit) (ap (λ (w : Operation). w .twoWay) eo ∙ tw) in
-        let ans : Answers N (hs .what) r (to .0) = λ r2 o2 x2 c2 d2 h.
+        let ans : AnswersAt N (hs .what) r (to .0) = λ r2 o2 x2 c2 d2 h.
         let same = some-inj (sym (reaches-atRow (begun c k) X (hs .what) (plain-request r o y z d) (subst EachRowOnce here-what on) way2) ∙ h) in
         subst (λ (w : Operation). ReplyFits N w (to .0)) (eo ∙ request-same same) (subst (RepliesFit N i) (to .1) (arr .destination)) in
         subst (λ (w : Optional Destination). SessionSound N rows q (suc n) (startedBy c k r y (receivedBy w) x)) (sym (to .1))
@@ -236,13 +239,13 @@ module _ (N : Network) (rows : ℕ) (acc : Accepted N rows) where
     start-input r o y (some a) e t u = start-two r o y (a .path) (a .body) e t (permits-two q input o u)
 
   -- Which targets let a message pass.
-  abbrev pub Admits : ℕ → Target → Type 0
-  Admits q noTarget = ⊥
-  Admits q queueFull = ⊥
-  Admits q queued = Unit {0}
-  Admits q (starts c k a) = T (permitsInput q a)
+  abbrev pub LetsPass : ℕ → Target → Type 0
+  LetsPass q noTarget = ⊥
+  LetsPass q queueFull = ⊥
+  LetsPass q queued = Unit {0}
+  LetsPass q (starts c k a) = T (permitsInput q a)
 
-  pub allowed-keeps : (strict : Bool) (q : ℕ) (t : Target) (R : Result) → (Admits q t → Keeps N rows strict R) → Keeps N rows strict (allowed q t R)
+  pub allowed-keeps : (strict : Bool) (q : ℕ) (t : Target) (R : Result) → (LetsPass q t → Keeps N rows strict R) → Keeps N rows strict (allowed q t R)
   allowed-keeps strict q noTarget R f = keeps-15 N rows strict
   allowed-keeps strict q queueFull R f = allowed-16 strict
   allowed-keeps strict q queued R f = f tt
@@ -266,7 +269,7 @@ module _ (N : Network) (rows : ℕ) (acc : Accepted N rows) where
       sym-zero j e = omega arith
 
   pub deliver-keeps : (strict : Bool) (G : State) → Sound N rows G → (i : Operation) (n : ℕ) (x : Tree Value) (back : Optional Destination) → Arriving i x back
-      → (t : Target) → TargetInfo N G i n t → Admits (i .service) t → Keeps N rows strict (deliver G i n t back x)
+      → (t : Target) → TargetInfo N G i n t → LetsPass (i .service) t → Keeps N rows strict (deliver G i n t back x)
   deliver-keeps strict G hG i n x back arr noTarget f a = absurd a
   deliver-keeps strict G hG i n x back arr queueFull f a = absurd a
   deliver-keeps strict G hG i n x back arr queued f a =

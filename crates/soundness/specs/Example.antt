@@ -5,7 +5,7 @@ use mathlib.Core.List.{List, [], _∷_, _++_}
 use Prim.Native.Nat.{ℕ}
 use Rattle.state.specs.Bytes.{zeros}
 use Rattle.soundness.specs.Property3.{Turn}
-use Rattle.moves.specs.Moves.{Move, local, receive, send, reply, outside, close, move}
+use Rattle.move_rules.specs.Moves.{Move, local, receive, send, reply, outerMessage, close, move}
 
 -- P: 5, 6, 9.
 abbrev paths : List ℕ
@@ -87,15 +87,15 @@ inside m = record { move = m; bytes = []; out = room }
 
 -- An outsider's message to that session.
 abbrev pub outsiderSends : List ℕ → Turn
-outsiderSends bytes = record { move = outside 1 8 1 0; bytes = bytes; out = room }
+outsiderSends bytes = record { move = outerMessage 1 8 1 0; bytes = bytes; out = room }
 
 -- The client assigns, and sends: session 1 of service 1 starts.
 abbrev pub asks : List Turn
 asks = inside (local 0 0 1) ∷ inside (send 0 0 2 1) ∷ []
 
 -- That session works out its body and replies; the client is done and closes; the session takes a queued message, and closes.
-abbrev pub answers : List Turn
-answers =
+abbrev pub answerTurns : List Turn
+answerTurns =
     inside (local 1 1 6) ∷ inside (reply 1 1 5) ∷ inside (close 0 0) ∷ outsiderSends withChild ∷ inside (receive 1 1 7) ∷
     inside (close 1 1) ∷ []
 

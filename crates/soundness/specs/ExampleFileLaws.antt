@@ -6,21 +6,21 @@ use Prim.Native.Nat.{ℕ, zero, suc, _<_}
 use native.Mathlib.Omega.{arith}
 use lib.Dec.{T, ltb, ltb→lt}
 use lib.ListN.{getD}
-use Rattle.forest.specs.Compare.{and-l, and-r}
-use Rattle.forest.specs.Forest.{end, node, find, set, measure, mapForest}
-use Rattle.forest.specs.Path.{readSteps, writeSteps}
+use Rattle.basics.specs.TestLaws.{and-l, and-r}
+use Rattle.tree_forest.specs.Forest.{end, node, find, set, measure, mapForest}
+use Rattle.tree_forest.specs.Path.{readSteps, writeSteps}
 use Rattle.wire.specs.Wire.{u16At}
-use Rattle.scalar.specs.Value.{number, isValue}
-use Rattle.syntax.specs.Syntax.{mark, none, some}
-use Rattle.subtyping.specs.Subtype.{areSubtypes}
-use Rattle.typing.specs.Checker.{sameTypes, check}
-use Rattle.typing.specs.Environment.{firmSteps, firmAboveSteps, noMandatory}
-use Rattle.typing.specs.ExpressionTyping.{typeOf}
-use Rattle.typing.specs.NetworkChecker.{checkEach, oneType, oneTypeWith, oneTypeEach, checkServices, checkOutputs, checkNetwork}
-use Rattle.typing.specs.NetworkRules.{Environments, sequencesOf, branchesOf, union, unionOf}
-use Rattle.typing.specs.Occurs.{occursIn, occurs, allRootsIn, allRoots}
-use Rattle.typing.specs.Result.{passed, next}
-use Rattle.typing.specs.Rules.{permits}
+use Rattle.scalar.specs.Value.{unsignedOf, isValue}
+use Rattle.network_syntax.specs.Syntax.{mark, none, some}
+use Rattle.check_subtyping.specs.Subtype.{areSubtypes}
+use Rattle.check_typing.specs.Checker.{sameTypes, check}
+use Rattle.check_typing.specs.Environment.{firmSteps, firmAboveSteps, noMandatory}
+use Rattle.check_typing.specs.ExpressionTyping.{expressionType}
+use Rattle.check_typing.specs.NetworkChecker.{checkEach, oneType, oneTypeWith, oneTypeEach, checkServices, checkOutputs, checkNetwork}
+use Rattle.check_typing.specs.NetworkRules.{Environments, sequencesOf, branchesOf, union, unionOf}
+use Rattle.check_typing.specs.Occurs.{occursIn, occurs, allRootsIn, allRoots}
+use Rattle.check_typing.specs.Result.{passed, next}
+use Rattle.check_typing.specs.Rules.{permits}
 use Rattle.network.specs.Decode.{untilZero, pathOf, markOf, siblings, writtenOut, expressionFrom, expressionTo, operationOf, branchesFrom}
 use Rattle.network.specs.Decode.{behaviourFrom, behaviourTo, behaviourOf, serviceOf, rowsFrom, networkOf}
 use Rattle.network.specs.Form.{formOf}
@@ -28,27 +28,27 @@ use Rattle.network.specs.Kinds.{expressionKind, behaviourKind, expressionFields
 use Rattle.network.specs.Layout.{trailer, start, count, pathAt, typeAt, expressionAt, behaviourAt, operationAt, serviceAt, dataPart, lengthFits}
 use Rattle.network.specs.Layout.{sectionsFollow, endsFit, counted}
 use Rattle.network.specs.Least.{least, rule, leastOver, sumOver}
-use Rattle.syntax.specs.Meets.{someAt, meets, firstOf, metInput}
-use Rattle.syntax.specs.Rows.{entry}
+use Rattle.network_syntax.specs.Meets.{someAt, meets, firstOf, metInput}
+use Rattle.network_syntax.specs.Rows.{entry}
 use Rattle.network.specs.Rows.{laterRun, pathRow, typeId, cardinality, typeBasic, firstChild, childCount, childrenFit, idBefore, childRule, childIds}
 use Rattle.network.specs.Rows.{typeRow, expressionKindAt, kindAt, subFits, inputFits, constantFits, fieldFits, fieldsRule, basicFits, expressionRow}
-use Rattle.network.specs.Rows.{behaviourHead, branchRule, branchRows, choiceRun, behaviourRow, operationService, operationDirection, operationTwoWay}
+use Rattle.network.specs.Rows.{behaviourHead, branchRule, branchRowRule, choiceRun, behaviourRow, operationService, operationDirection, operationTwoWay}
 use Rattle.network.specs.Rows.{operationId, operationLocation, requestType, replyType, rootFits, locationFits, replyFits, sameService, sameName}
 use Rattle.network.specs.Rows.{repeatRule, operationFields, operationLinks, operationRow, serviceLocation, starterRow, clientRow, starterFits}
 use Rattle.network.specs.Rows.{clientFits, locationRule, serviceRow, pathRows, typeRows, expressionRows, behaviourRows, operationRows, serviceRows}
 use Rattle.network.specs.Sizes.{rowsSum, rowsAll, levelsWithin, nodesTo, typeWithin, depthWithin, typeLarge, expressionLarge, typeSizes}
 use Rattle.network.specs.Sizes.{expressionSizes, large}
 use Rattle.network.specs.Uses.{fieldUses, rowUses, serviceUses, usedByRows, used, secondUse, rowUseRule, serviceUseRule, usesRow, usesRows, broken}
-use Rattle.checking.specs.FileChecker.{checkFile}
+use Rattle.check_files.specs.FileChecker.{checkFile}
 use Rattle.tree.specs.Encode.{Octets}
-use Rattle.moves.specs.Moves.{Move, local, receive, send, reply, close}
-use Rattle.moves.specs.Fresh.{freshBytes}
+use Rattle.move_rules.specs.Moves.{Move, local, receive, send, reply, close}
+use Rattle.move_rules.specs.Fresh.{freshBytes}
 use Rattle.soundness.specs.Property3.{Turn, Given, AllGiven, AcceptedFile, Property3, NumberFits}
 use Rattle.soundness.specs.Property3Laws.{property3}
 use Rattle.state.specs.Bytes.{zeros}
 use Rattle.soundness.specs.Runs.{numbersOnBytes, AllRoomy}
 use Rattle.soundness.specs.RunsLaws.{fresh-numbers}
-use Rattle.soundness.specs.Example.{file, inside, withChild, withoutChild, outsiderSends, asks, answers}
+use Rattle.soundness.specs.Example.{file, inside, withChild, withoutChild, outsiderSends, asks, answerTurns}
 use Rattle.soundness.specs.ExampleLaws.{runs, child-missing}
 
 -- Every number of the list is below 256.
@@ -73,13 +73,13 @@ environments =
     record { starter = some (node 5 (mark true 1) end (node 9 (mark true 6) (node 1 (mark true 1) end end) end)); client = none } ∷ []
 
 pub file-passes : checkFile file ≡ passed environments
-unfolding find set measure mapForest readSteps writeSteps u16At number isValue areSubtypes sameTypes check firmSteps firmAboveSteps noMandatory typeOf
+unfolding find set measure mapForest readSteps writeSteps u16At unsignedOf isValue areSubtypes sameTypes check firmSteps firmAboveSteps noMandatory expressionType
     checkEach oneType oneTypeWith oneTypeEach checkServices checkOutputs checkNetwork sequencesOf branchesOf union unionOf occursIn occurs
     allRootsIn allRoots next permits untilZero pathOf markOf siblings writtenOut expressionFrom expressionTo operationOf branchesFrom behaviourFrom
     behaviourTo behaviourOf serviceOf rowsFrom networkOf formOf expressionKind behaviourKind expressionFields behaviourFields trailer start count
     pathAt typeAt expressionAt behaviourAt operationAt serviceAt dataPart lengthFits sectionsFollow endsFit counted least rule leastOver sumOver entry
     someAt meets firstOf metInput laterRun pathRow typeId cardinality typeBasic firstChild childCount childrenFit idBefore childRule childIds typeRow
-    expressionKindAt kindAt subFits inputFits constantFits fieldFits fieldsRule basicFits expressionRow behaviourHead branchRule branchRows choiceRun
+    expressionKindAt kindAt subFits inputFits constantFits fieldFits fieldsRule basicFits expressionRow behaviourHead branchRule branchRowRule choiceRun
     behaviourRow operationService operationDirection operationTwoWay operationId operationLocation requestType replyType rootFits locationFits
     replyFits sameService sameName repeatRule operationFields operationLinks operationRow serviceLocation starterRow clientRow starterFits clientFits
     locationRule serviceRow pathRows typeRows expressionRows behaviourRows operationRows serviceRows rowsSum rowsAll levelsWithin nodesTo typeWithin
@@ -110,7 +110,7 @@ asks-roomy : (l : List Turn) → AllRoomy l → AllRoomy (asks ++ l)
 unfolding AllRoomy zeros
 asks-roomy l r = (tt, (tt, r))
 
-answers-given : AllGiven answers
+answers-given : AllGiven answerTurns
 unfolding AllGiven allSmall
 answers-given = (
   given-inside (local 1 1 6) tt,
@@ -129,13 +129,13 @@ answers-given = (
   ),
 )
 
-answers-roomy : AllRoomy answers
+answers-roomy : AllRoomy answerTurns
 unfolding AllRoomy zeros
 answers-roomy = (tt, (tt, (tt, (tt, (tt, (tt, tt))))))
 
 -- From the file's fresh bytes to the last close.
-pub runs-on-bytes : numbersOnBytes file (freshBytes file) (asks ++ answers) ≡ 0 ∷ 0 ∷ 0 ∷ 0 ∷ 0 ∷ 0 ∷ 0 ∷ 0 ∷ []
-runs-on-bytes = fresh-numbers file accepted-file (asks ++ answers) (asks-given answers answers-given) (asks-roomy answers answers-roomy) ∙ runs
+pub runs-on-bytes : numbersOnBytes file (freshBytes file) (asks ++ answerTurns) ≡ 0 ∷ 0 ∷ 0 ∷ 0 ∷ 0 ∷ 0 ∷ 0 ∷ 0 ∷ []
+runs-on-bytes = fresh-numbers file accepted-file (asks ++ answerTurns) (asks-given answerTurns answers-given) (asks-roomy answerTurns answers-roomy) ∙ runs
 
 -- The message without its mandatory child.
 pub child-missing-on-bytes : numbersOnBytes file (freshBytes file) (asks ++ (outsiderSends withoutChild ∷ [])) ≡ 0 ∷ 0 ∷ 19 ∷ []

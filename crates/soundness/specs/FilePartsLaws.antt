@@ -6,9 +6,10 @@ use mathlib.Core.Bool.{Bool, true, false}
 use mathlib.Core.List.{List, [], _∷_}
 use native.Mathlib.Omega.{arith}
 use lib.Dec.{eqb}
-use Rattle.scalar.specs.Value.{bytesOf, pick}
+use Rattle.scalar.specs.Value.{bytesOf}
+use Rattle.basics.specs.Choice.{pick}
 use Rattle.wire.specs.Wire.{u16At}
-use Rattle.syntax.specs.Syntax.{Expression, constant, valueAt, presence, unary, binary, Behaviour}
+use Rattle.network_syntax.specs.Syntax.{Expression, constant, valueAt, presence, unary, binary, Behaviour}
 use Rattle.network.specs.declared.ExpressionKind.{ExpressionKind}
 use Rattle.network.specs.declared.BehaviourKind.{BehaviourKind}
 use Rattle.network.specs.Layout.{pathCount, expressionCount, behaviourCount, operationCount, D, start, pathAt, expressionAt, behaviourAt, dataPart}
@@ -23,7 +24,7 @@ use Rattle.network.specs.BehaviourLaws.{BranchesKept, Later}
 use Rattle.network.specs.NetworkLaws.{operation-entry}
 use Rattle.tree.specs.Encode.{Octets}
 use Rattle.tree.specs.EncodeLaws.{octets-part, octets-nil}
-use Rattle.state.specs.Shape.{operationAt}
+use Rattle.state.specs.Shape.{operationOfRow}
 use Rattle.soundness.specs.GoodTrees.{AllIds, GoodPath, GoodExpression}
 use Rattle.soundness.specs.Accepted.{OfFile, MadeOf, MadeOfBranches}
 
@@ -114,7 +115,7 @@ operation-row s w = refl
 
 operation-of-file : (s : List ℕ) (w : ℕ) → w < operationCount s → OfFile (networkOf s) (operationOf s w)
 operation-of-file s w l =
-    ap (operationAt (networkOf s .operations)) (operation-row s w) ∙ operation-entry s w l
+    ap (operationOfRow (networkOf s .operations)) (operation-row s w) ∙ operation-entry s w l
 
 -- Behaviours ------------------------------------------------------------------------------------------------------------------------------
 

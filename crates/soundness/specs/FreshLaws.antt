@@ -7,15 +7,15 @@ use mathlib.Core.List.{List}
 use native.Mathlib.Decide.{ℕ-discrete}
 use lib.Dec.{eqb}
 use borrow.Author.Tests.{ne-eqb}
-use Rattle.syntax.specs.Syntax.{Optional, none, some, Network, Behaviour}
+use Rattle.network_syntax.specs.Syntax.{Optional, none, some, Network, Behaviour}
 use Rattle.network.specs.Layout.{behaviourCount}
 use Rattle.network.specs.Decode.{networkOf}
-use Rattle.typing.specs.Result.{passed}
-use Rattle.typing.specs.NetworkRules.{Environments}
-use Rattle.checking.specs.FileChecker.{checkFile}
+use Rattle.check_typing.specs.Result.{passed}
+use Rattle.check_typing.specs.NetworkRules.{Environments}
+use Rattle.check_files.specs.FileChecker.{checkFile}
 use Rattle.tree.specs.Encode.{Octets}
 use Rattle.state.specs.Session.{Session, live}
-use Rattle.state.specs.Shape.{HasShape, serviceAt, clientOf, freshSlot, freshState}
+use Rattle.state.specs.Shape.{HasShape, serviceOfRow, clientOf, freshSlot, freshState}
 use Rattle.state.specs.ShapeLaws.{fresh-shape}
 use Rattle.soundness.specs.Accepted.{Accepted}
 use Rattle.soundness.specs.AcceptedLaws.{accepted}
@@ -25,14 +25,14 @@ use Rattle.soundness.specs.ResultLaws.{live-inj, not-live}
 
 module _ (N : Network) (rows : ℕ) (acc : Accepted N rows) where
   -- The client of the service q, if it has one.
-  client-slot : (q : ℕ) (S : Session) (c : Optional Behaviour) → clientOf (serviceAt (N .services) q) ≡ c → freshSlot c ≡ live S → SessionSound N rows q 0 S
+  client-slot : (q : ℕ) (S : Session) (c : Optional Behaviour) → clientOf (serviceOfRow (N .services) q) ≡ c → freshSlot c ≡ live S → SessionSound N rows q 0 S
   client-slot q S none e h = absurd (not-live h)
   client-slot q S (some B) e h = subst (SessionSound N rows q 0) (live-inj h) (client-sound N rows acc q B e)
 
   slot-sound : (q n : ℕ) (S : Session) → Dec (n ≡ 0) → freshState N q n ≡ live S → SessionSound N rows q n S
   slot-sound q n S (yes z) h =
       subst (λ (m : ℕ). SessionSound N rows q m S) (sym z)
-      (client-slot q S (clientOf (serviceAt (N .services) q)) refl (rw z at h))
+      (client-slot q S (clientOf (serviceOfRow (N .services) q)) refl (rw z at h))
   slot-sound q n S (no z) h = let f : eqb n 0 ≡ false = ne-eqb n 0 z in absurd (not-live (rw f at h))
 
   -- Every session of fresh state is sound.

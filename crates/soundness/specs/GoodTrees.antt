@@ -1,17 +1,17 @@
 -- Trees that a state may hold: ids in order, "u16 .. not 0", every value one of its basic type; paths and expressions that keep to that.
 use Prim.Native.Nat.{ℕ, _<_}
 use mathlib.Core.List.{List, [], _∷_}
-use Rattle.forest.specs.Forest.{Forest, Tree, tree, Lookup, absent, present, Rising}
-use Rattle.forest.specs.Path.{Path, path}
+use Rattle.tree_forest.specs.Forest.{Forest, Tree, tree, Lookup, absent, present, Rising}
+use Rattle.tree_forest.specs.Path.{Path, path}
 use Rattle.scalar.specs.Value.{Value}
-use Rattle.syntax.specs.Syntax.{Expression, constant, valueAt, presence, unary, binary}
-use Rattle.tree.specs.Encode.{Proper, Sound}
+use Rattle.network_syntax.specs.Syntax.{Expression, constant, valueAt, presence, unary, binary}
+use Rattle.tree.specs.Encode.{Proper, SoundValues}
 
-abbrev pub Good : Forest Value → Type 0
-Good F = Rising F × Sound F
+abbrev pub GoodForest : Forest Value → Type 0
+GoodForest F = Rising F × SoundValues F
 
 abbrev pub GoodTree : Tree Value → Type 0
-GoodTree (tree v k) = Proper v × Good k
+GoodTree (tree v k) = Proper v × GoodForest k
 
 abbrev pub GoodLookup : Lookup Value → Type 0
 GoodLookup absent = Unit {0}

@@ -6,17 +6,18 @@ use mathlib.Core.List.{List, [], _∷_}
 use Prim.Native.Nat.{ℕ, _≤_}
 use lib.Dec.{T}
 use lib.ListN.{length}
-use Rattle.forest.specs.Path.{Path}
-use Rattle.syntax.specs.Syntax.{Types, Expression, Optional, none, some, Network, Operation, Behaviour, requestResponse, solicitResponse}
-use Rattle.syntax.specs.Rows.{atRow}
-use Rattle.subtyping.specs.Subtype.{Subtype}
-use Rattle.subtyping.specs.Own.{Fits}
-use Rattle.typing.specs.Environment.{within}
-use Rattle.tree.specs.Encode.{WellFormed, messageDeep, messageMany}
+use Rattle.tree_forest.specs.Path.{Path}
+use Rattle.network_syntax.specs.Syntax.{Types, Expression, Optional, none, some, Network, Operation, Behaviour, requestResponse, solicitResponse}
+use Rattle.network_syntax.specs.Rows.{atRow}
+use Rattle.check_subtyping.specs.Subtype.{Subtype}
+use Rattle.check_subtyping.specs.Own.{Fits}
+use Rattle.check_typing.specs.Environment.{within}
+use Rattle.tree.specs.Encode.{WellFormedTree}
+use Rattle.tree_forest.specs.Limits.{messageLevelsBelow, messageNodesBelow}
 use Rattle.state.specs.Session.{Destination, outsider, waitingRow, undone, received, Queued, Session, live, State}
-use Rattle.state.specs.Shape.{behaviourIn, operationAt, suitsOperation, suits}
-use Rattle.moves.specs.Readiness.{rest}
-use Rattle.soundness.specs.GoodTrees.{Good}
+use Rattle.state.specs.Shape.{behaviourIn, operationOfRow, suitsOperation, suits}
+use Rattle.move_rules.specs.Readiness.{rest}
+use Rattle.soundness.specs.GoodTrees.{GoodForest}
 use Rattle.network.specs.Shapes.{Outside}
 use Rattle.soundness.specs.Parts.{Clean}
 use Rattle.soundness.specs.Parts.{AllOpen}
@@ -35,16 +36,16 @@ RepliesFit N o none = Unit {0}
 RepliesFit N o (some d) = ReplyFits N o d
 
 -- The row i of B, a received request-response, may answer there.
-abbrev pub Answers : Network → Behaviour → ℕ → Destination → Type 0
-Answers N B i to =
+abbrev pub AnswersAt : Network → Behaviour → ℕ → Destination → Type 0
+AnswersAt N B i to =
     (r : ℕ) (o : Operation) (x c : Path) (d : Behaviour) → atRow i B ≡ some (requestResponse r o x c d) → ReplyFits N o to
 
 -- A queued message of the service q.
 pub record QueuedSound (N : Network) (rows q : ℕ) (m : Queued) : Type 0 where
   pub operation : Operation
-  pub there : operationAt (N .operations) (m .operation) ≡ some operation
+  pub there : operationOfRow (N .operations) (m .operation) ≡ some operation
   pub suit : T (suitsOperation N rows q (m .replyTo) (some operation))
-  pub good : WellFormed messageDeep messageMany (m .message)
+  pub good : WellFormedTree messageLevelsBelow messageNodesBelow (m .message)
   pub fit : Fits (m .message) (operation .request)
   pub destination : RepliesFit N operation (m .replyTo)
 
@@ -62,8 +63,8 @@ pub record SessionSound (N : Network) (rows q n : ℕ) (S : Session) : Type 0 wh
   pub suit : T (suits N rows (S .progress) what)
   pub quiet : (r : ℕ) → Outside r what → S .progress r ≡ undone
   pub opened : AllOpen (S .progress) what
-  pub replies : (i : ℕ) (to : Destination) → S .progress i ≡ received to → Answers N what i to
-  pub good : Good (S .tree)
+  pub replies : (i : ℕ) (to : Destination) → S .progress i ≡ received to → AnswersAt N what i to
+  pub good : GoodForest (S .tree)
   pub well : Well q (S .tree) (rest (S .progress) what) last
   pub few : length (S .queue) ≤ 4
   pub queued : AllQueued N rows q (S .queue)

@@ -4,27 +4,27 @@ use mathlib.Core.Path.{_≡_, refl, sym, subst, _∙_}
 use Prim.Native.Nat.{ℕ}
 use mathlib.Core.Bool.{_||_}
 use lib.Dec.{T, eqb→eq}
-use Rattle.forest.specs.Forest.{Forest, Tree, present, Rising}
-use Rattle.forest.specs.Path.{Path, read, replaceAt, setPayloadAt}
+use Rattle.basics.specs.TestLaws.{or-case, or-l, or-r}
+use Rattle.tree_forest.specs.Forest.{Forest, Tree, present, Rising}
+use Rattle.tree_forest.specs.Path.{Path, read, replaceAt, setPayloadAt}
 use Rattle.scalar.specs.Basic.{bool}
 use Rattle.scalar.specs.Value.{Value, basicOf}
-use Rattle.syntax.specs.Syntax.{Types, MessageType, Expression, Operation, Behaviour, nil, oneWay, requestResponse, notification}
-use Rattle.syntax.specs.Syntax.{solicitResponse, ifThenElse, whileDo, sequence, assign, choice, waiting, answering, Branches}
-use Rattle.subtyping.specs.Subtype.{rootBasic, Subtypes}
-use Rattle.subtyping.specs.SubtypeLaws.{subtype-sound, subtype-trans}
-use Rattle.subtyping.specs.Own.{ownTypes, Fits}
-use Rattle.typing.specs.Result.{yields}
-use Rattle.typing.specs.Environment.{assignTo}
-use Rattle.typing.specs.EnvironmentLaws.{receive-ok, assign-ok, read-ok, place-rising}
-use Rattle.typing.specs.Occurs.{isRoot, occursIn, occurs}
-use Rattle.typing.specs.OccursLaws.{or-l, or-r}
-use Rattle.typing.specs.Rules.{WellSorted}
-use Rattle.typing.specs.Typed.{Typed, TypedCondition, TypedSend, TypedReply}
-use Rattle.typing.specs.TypedLaws.{typed-rising}
-use Rattle.moves.specs.Evaluation.{given, evaluate}
-use Rattle.moves.specs.Moves.{rootValue, voidValue}
-use Rattle.network.specs.OnceLaws.{or-case}
-use Rattle.soundness.specs.GoodTrees.{Good, GoodTree, GoodExpression}
+use Rattle.network_syntax.specs.Syntax.{Types, MessageType, Expression, Operation, Behaviour, nil, oneWay, requestResponse, notification}
+use Rattle.network_syntax.specs.Syntax.{solicitResponse, ifThenElse, whileDo, sequence, assign, choice, waiting, answering, Branches}
+use Rattle.check_subtyping.specs.Subtype.{rootBasic, Subtypes}
+use Rattle.check_subtyping.specs.SubtypeLaws.{subtype-sound, subtype-trans}
+use Rattle.check_subtyping.specs.Own.{ownTypes, Fits}
+use Rattle.check_typing.specs.Result.{yields}
+use Rattle.check_typing.specs.Environment.{assignTo}
+use Rattle.check_typing.specs.EnvironmentLaws.{receive-ok, assign-ok, read-ok, place-rising}
+use Rattle.check_typing.specs.Occurs.{isRoot, occursIn, occurs}
+use Rattle.check_typing.specs.Rules.{WellSorted}
+use Rattle.check_typing.specs.Typed.{Typed, TypedCondition, TypedSend, TypedReply}
+use Rattle.check_typing.specs.TypedLaws.{typed-rising}
+use Rattle.move_rules.specs.Evaluation.{given, evaluate}
+use Rattle.move_rules.specs.Moves.{rootValue}
+use Rattle.scalar.specs.Value.{voidValue}
+use Rattle.soundness.specs.GoodTrees.{GoodForest, GoodTree, GoodExpression}
 use Rattle.soundness.specs.GoodTreesLaws.{read-good}
 use Rattle.soundness.specs.EvaluationLaws.{given-inj, progress, basic-of, present-good}
 use Rattle.soundness.specs.Parts.{branchAt}
@@ -87,7 +87,7 @@ leaf-sorted (answers h) w = tt
 leaf-sorted (selects {m} k) w = branch-sorted m k w
 
 module _ (q : ℕ) where
-  pub leaf-well : {F F2 : Forest Value} {L L2 : Behaviour} → Leaf F L F2 L2 → Good F → WellSorted L → (Γ Δ : Types) → Rising Γ → Subtypes (ownTypes F) Γ
+  pub leaf-well : {F F2 : Forest Value} {L L2 : Behaviour} → Leaf F L F2 L2 → GoodForest F → WellSorted L → (Γ Δ : Types) → Rising Γ → Subtypes (ownTypes F) Γ
       → Typed q L Γ Δ → Well q F2 L2 Δ
   unfolding Typed WellSorted
   leaf-well {F} (assigns {r} {x} {e} y ge eq) g ws Γ Δ w s h =
@@ -123,7 +123,7 @@ module _ (q : ℕ) where
   leaf-well (selects {m} k) g ws Γ Δ w s h = record { env = Γ; rising = w; fit = s; typed = branch-typed q m k Γ Δ h }
 
   -- One step of a session, parallel and while included.
-  pub reduction : {F F2 : Forest Value} {L L2 R R2 : Behaviour} {last : Types} → Leaf F L F2 L2 → Active L L2 R R2 → Good F → WellSorted L → WellSorted R
+  pub reduction : {F F2 : Forest Value} {L L2 R R2 : Behaviour} {last : Types} → Leaf F L F2 L2 → Active L L2 R R2 → GoodForest F → WellSorted L → WellSorted R
       → Well q F R last → Well q F2 R2 last
   reduction {last} p a g wl wr h =
       let u = hole q (leaf-occurs p) (leaf-sorted p wl) a wr (h .env) last (h .rising) (h .typed) in
@@ -131,20 +131,20 @@ module _ (q : ℕ) where
       record { env = v .env; rising = v .rising; fit = v .fit; typed = u .again (v .env) (v .rising) (v .typed) }
 
   -- A condition gives a bool.
-  pub condition-gives : (F : Forest Value) (Γ : Types) (e : Expression) → Good F → GoodExpression e → Subtypes (ownTypes F) Γ → TypedCondition Γ e
+  pub condition-gives : (F : Forest Value) (Γ : Types) (e : Expression) → GoodForest F → GoodExpression e → Subtypes (ownTypes F) Γ → TypedCondition Γ e
       → (y : Tree Value) × (evaluate F e ≡ given y) × (basicOf (rootValue y) ≡ bool) × GoodTree y
   condition-gives F Γ e g ge s c =
       let u = progress F Γ g s e ge (c .0) (c .1) in
       (u .what, u .there, basic-of (u .what) (c .0) (u .typed) ∙ eqb→eq (rootBasic (c .0)) bool (c .2), u .good)
 
   -- What is sent is there, and fits.
-  pub send-gives : (F : Forest Value) (Γ : Types) (e : Expression) (t : MessageType) → Good F → GoodExpression e → Subtypes (ownTypes F) Γ → TypedSend Γ e t
+  pub send-gives : (F : Forest Value) (Γ : Types) (e : Expression) (t : MessageType) → GoodForest F → GoodExpression e → Subtypes (ownTypes F) Γ → TypedSend Γ e t
       → (y : Tree Value) × (evaluate F e ≡ given y) × Fits y t × GoodTree y
   send-gives F Γ e t g ge s c =
       let u = progress F Γ g s e ge (c .0) (c .1) in (u .what, u .there, subtype-trans (u .typed) (subtype-sound (c .0) t (c .2)), u .good)
 
   -- What is answered is there, and fits.
-  pub reply-gives : (F : Forest Value) (Γ : Types) (c : Path) (t : MessageType) → Good F → Subtypes (ownTypes F) Γ → TypedReply c Γ t
+  pub reply-gives : (F : Forest Value) (Γ : Types) (c : Path) (t : MessageType) → GoodForest F → Subtypes (ownTypes F) Γ → TypedReply c Γ t
       → (y : Tree Value) × (read c F ≡ present y) × Fits y t × GoodTree y
   reply-gives F Γ c t g s r =
       let u = read-ok c F Γ (r .0) s (r .1) in

@@ -6,28 +6,33 @@ use mathlib.Core.List.{List, [], _∷_}
 use native.Mathlib.Omega.{arith}
 use lib.Dec.{T, eqb, eqb→eq}
 use lib.ListN.{length}
-use Rattle.forest.specs.Compare.{and-l, and-r}
-use Rattle.forest.specs.Forest.{Tree, tree}
-use Rattle.forest.specs.Path.{Path, replaceAt}
-use Rattle.scalar.specs.Value.{Value, pick}
-use Rattle.syntax.specs.Syntax.{Optional, none, some, Network, Operation, Direction, input, output, Expression, Behaviour, oneWay, requestResponse}
-use Rattle.syntax.specs.Syntax.{ifThenElse, whileDo, sequence, assign, choice, Branches}
-use Rattle.syntax.specs.Rows.{rowOf, hasRow, hasRowIn, Response, Input, inputOf, fromInput, Local, assigns, decides, repeats, localOf, fromLocal}
-use Rattle.syntax.specs.Rows.{isInputOperation}
+use Rattle.tree_forest.specs.Forest.{Tree, tree}
+use Rattle.tree_forest.specs.Path.{Path, replaceAt}
+use Rattle.scalar.specs.Value.{Value}
+use Rattle.basics.specs.Choice.{pick}
+use Rattle.basics.specs.TestLaws.{and-l, and-r}
+use Rattle.network_syntax.specs.Syntax.{Optional, none, some, Network, Operation, Direction, input, output, Expression, Behaviour, oneWay, requestResponse}
+use Rattle.network_syntax.specs.Syntax.{ifThenElse, whileDo, sequence, assign, choice, Branches}
+use Rattle.network_syntax.specs.Rows.{rowOf, hasRow, hasRowIn, Response, Input, inputOf, fromInput, Local, assigns, decides, repeats, localOf, fromLocal}
+use Rattle.network_syntax.specs.Rows.{isInputOperation}
 use Rattle.network.specs.Shapes.{EachRowOnce}
 use Rattle.refusal.specs.declared.Refusal.the-variants.{Stuck, MoveNotAllowed}
-use Rattle.subtyping.specs.Own.{Fits}
-use Rattle.typing.specs.Environment.{within}
-use Rattle.typing.specs.Rules.{permits, sameBool, sameDirection}
-use Rattle.tree.specs.Encode.{WellFormed, messageDeep, messageMany}
+use Rattle.check_subtyping.specs.Own.{Fits}
+use Rattle.check_typing.specs.Environment.{within}
+use Rattle.check_typing.specs.Rules.{permits, sameBool, sameDirection}
+use Rattle.tree.specs.Encode.{WellFormedTree}
+use Rattle.tree_forest.specs.Limits.{messageLevelsBelow, messageNodesBelow}
 use Rattle.state.specs.Session.{Destination, Progress, Progresses, undone, done, waits, received, taken, advance, reopen, Queued, Session, withTree, withQueue, withProgress, free, live}
 use Rattle.state.specs.Session.{State, setSlot}
-use Rattle.state.specs.Shape.{operationAt, isDestination, suitsReply, suitsOperation, undoneOrTaken, branches, suits, suitsBranches}
-use Rattle.moves.specs.Readiness.{isDone, Reached, unreached, reached, offered, reach}
-use Rattle.moves.specs.Evaluation.{evaluate}
-use Rattle.moves.specs.Moves.{Result, moved, require, onTree, onBool, rootValue, voidValue, ifReadyWhile}
-use Rattle.moves.specs.Moves.{saveWithin, assigned, decided, repeated, localBy, localAt, localReached, localMove, Taken, nothing, message, keeping, oldest}
-use Rattle.moves.specs.Moves.{takes, receivedBy, receiveBy, receiveAt, receiveReached, receiveMove, closeMove}
+use Rattle.state.specs.Shape.{operationOfRow, isDestination, suitsReply, suitsOperation, undoneOrTaken, branches, suits, suitsBranches}
+use Rattle.move_rules.specs.Readiness.{isDone, Reached, unreached, reached, offered, reach}
+use Rattle.move_rules.specs.Evaluation.{evaluate}
+use Rattle.move_rules.specs.Moves.{Result, moved, require, onTree, onBool, rootValue, ifReadyWhile}
+use Rattle.scalar.specs.Value.{voidValue}
+use Rattle.move_rules.specs.Moves.{saveWithin, assigned, decided, repeated, localBy, localAt, localReached, localMove}
+use Rattle.state.specs.Queue.{QueueSplit, nothing, message, keeping, oldest}
+use Rattle.move_rules.specs.Moves.{receiveMessage, receiveBy, receiveAt, receiveReached, receiveMove, closeMove}
+use Rattle.state.specs.Session.{receivedBy}
 use Rattle.soundness.specs.GoodTrees.{GoodTree}
 use Rattle.soundness.specs.Parts.{branchAt, notTaken, Reaches, atSelf, atFirst, atBranch}
 use Rattle.soundness.specs.RowLaws.{in-own, in-first, branch-rows}
@@ -35,9 +40,9 @@ use Rattle.soundness.specs.CleanLaws.{once-at, suits-at, of-two}
 use Rattle.soundness.specs.ReachLaws.{Offered, Found, reach-found, reaches-stay, reaches-trans}
 use Rattle.soundness.specs.Accepted.{OfFile, MadeOf, Accepted}
 use Rattle.soundness.specs.MadeLaws.{made-at, plain-request, reaches-atRow}
-use Rattle.syntax.specs.ViewLaws.{own-row, some-inj, input-is, local-is}
-use Rattle.soundness.specs.Invariant.{ReplyFits, RepliesFit, Answers, QueuedSound, AllQueued, SessionSound, Sound}
-use Rattle.soundness.specs.SessionLaws.{advance-same, advance-below-branches, advance-other, once-of, made-of, tree-limit, assign-sound, oneWay-sound}
+use Rattle.network_syntax.specs.ViewLaws.{own-row, some-inj, input-is, local-is}
+use Rattle.soundness.specs.Invariant.{ReplyFits, RepliesFit, AnswersAt, QueuedSound, AllQueued, SessionSound, Sound}
+use Rattle.soundness.specs.SessionLaws.{advance-here, advance-below-branches, advance-apart, once-of, made-of, tree-limit, assign-sound, oneWay-sound}
 use Rattle.soundness.specs.SessionLaws.{request-sound, if-sound, while-sound, again-sound, select-sound}
 use Rattle.soundness.specs.ResultLaws.{Keeps, Goes, goes-keeps, keeps-15, by-require, by-undone, by-session, at-tree, at-require, at-bool}
 use Rattle.soundness.specs.ResultLaws.{sound-set}
@@ -49,7 +54,7 @@ pub record TakenSound (N : Network) (rows q w : ℕ) (m : Queued) (l before : Li
   pub others : AllQueued N rows q l
   pub fewer : length l ≤ length before
 
-abbrev pub AnyTaken : Network → ℕ → ℕ → ℕ → List Queued → Taken → Type 0
+abbrev pub AnyTaken : Network → ℕ → ℕ → ℕ → List Queued → QueueSplit → Type 0
 AnyTaken N rows q w before nothing = Unit {0}
 AnyTaken N rows q w before (message m l) = TakenSound N rows q w m l before
 
@@ -58,15 +63,15 @@ unfolding oldest AllQueued
 oldest-sound N rows q w [] a = tt
 oldest-sound N rows q w (m ∷ l) a = go (eqb (m .operation) w) (λ t. eqb→eq (m .operation) w t) (oldest w l) (oldest-sound N rows q w l (a .1))
   where
-    kept : (x : Taken) → AnyTaken N rows q w l x → AnyTaken N rows q w (m ∷ l) (keeping m x)
+    kept : (x : QueueSplit) → AnyTaken N rows q w l x → AnyTaken N rows q w (m ∷ l) (keeping m x)
     kept nothing g = tt
     kept (message y t) g = record { named = g .named; sound = g .sound; others = (a .0, g .others); fewer = let z = g .fewer in omega arith }
 
-    go : (b : Bool) → (T b → m .operation ≡ w) → (x : Taken) → AnyTaken N rows q w l x → AnyTaken N rows q w (m ∷ l) (pick b (message m l) (keeping m x))
+    go : (b : Bool) → (T b → m .operation ≡ w) → (x : QueueSplit) → AnyTaken N rows q w l x → AnyTaken N rows q w (m ∷ l) (pick b (message m l) (keeping m x))
     go true f x g = record { named = f tt; sound = a .0; others = a .1; fewer = omega arith }
     go false f x g = kept x g
 
-pub message-good : (m : Tree Value) → WellFormed messageDeep messageMany m → GoodTree m
+pub message-good : (m : Tree Value) → WellFormedTree messageLevelsBelow messageNodesBelow m → GoodTree m
 message-good (tree v k) w = (w .root, (w .rising, w .sound))
 
 -- What 6 lets pass.
@@ -216,14 +221,14 @@ module _ (N : Network) (rows : ℕ) (acc : Accepted N rows) where
     -- Receive, in the session with `settled` for its progress.
     module _ (settled : Progresses) (hs : SessionSound N rows q n (withProgress S settled)) where
       same-operation : (m : Queued) (o : Operation) (k : QueuedSound N rows q m) → m .operation ≡ o .row → OfFile N o → k .operation ≡ o
-      same-operation m o k e f = some-inj (sym (k .there) ∙ (ap (operationAt (N .operations)) e ∙ f))
+      same-operation m o k e f = some-inj (sym (k .there) ∙ (ap (operationOfRow (N .operations)) e ∙ f))
 
       -- The session once the message is taken.
       abbrev after : Path → ℕ → Queued → List Queued → Optional Destination → Session
       after x r m l to = withQueue (withProgress (withTree S (replaceAt voidValue x (m .message) (S .tree))) (advance settled r (receivedBy to))) l
 
       one-takes : (r : ℕ) (o : Operation) (x : Path) → Reaches settled (oneWay r o x) (hs .what) → settled r ≡ undone → o .twoWay ≡ false
-          → (strict : Bool) (t : Taken) → AnyTaken N rows q (o .row) (S .queue) t → Keeps N rows strict (takes G q n S x settled r t)
+          → (strict : Bool) (t : QueueSplit) → AnyTaken N rows q (o .row) (S .queue) t → Keeps N rows strict (receiveMessage G q n S x settled r t)
       unfolding MadeOf
       one-takes r o x a u tw strict nothing f = keeps-15 N rows strict
       one-takes r o x a u tw strict (message m l) f =
@@ -231,14 +236,14 @@ module _ (N : Network) (rows : ℕ) (acc : Accepted N rows) where
           let made = made-at N rows a (made-of N rows acc q n (hs .what) (hs .runs)) in
           let eo = same-operation m o k (f .named) (made .1) in
           let no = suits-none N rows q (m .replyTo) (k .operation) (k .suit) (ap (λ (z : Operation). z .twoWay) eo ∙ tw) in
-          goes-keeps N rows strict (takes G q n S x settled r (message m l))
+          goes-keeps N rows strict (receiveMessage G q n S x settled r (message m l))
           (subst (λ (z : Optional Destination). Goes N rows (saveWithin G q n (after x r m l z) [])) (sym no) (save-goes G q n (after x r m l none) [] hG
           (oneWay-sound N rows acc q n (withProgress S settled) hs r o x (m .message) a u (message-good (m .message) (k .good))
           (subst (λ (z : Operation). Fits (m .message) (z .request)) eo (k .fit)) l (let z = f .fewer in let w = h .few in omega arith) (f .others))))
 
       two-takes : (r : ℕ) (o : Operation) (x c : Path) (d : Behaviour) → Reaches settled (requestResponse r o x c d) (hs .what) → settled r ≡ undone
           → o .twoWay ≡ true
-          → (strict : Bool) (t : Taken) → AnyTaken N rows q (o .row) (S .queue) t → Keeps N rows strict (takes G q n S x settled r t)
+          → (strict : Bool) (t : QueueSplit) → AnyTaken N rows q (o .row) (S .queue) t → Keeps N rows strict (receiveMessage G q n S x settled r t)
       unfolding MadeOf rowOf
       two-takes r o x c d a u tw strict nothing f = keeps-15 N rows strict
       two-takes r o x c d a u tw strict (message m l) f =
@@ -247,10 +252,10 @@ module _ (N : Network) (rows : ℕ) (acc : Accepted N rows) where
           let made = made-at N rows a (made-of N rows acc q n (hs .what) (hs .runs)) in
           let eo = same-operation m o k (f .named) (made .1) in
           let to = suits-destination N rows q (m .replyTo) (k .operation) (k .suit) (ap (λ (z : Operation). z .twoWay) eo ∙ tw) in
-          let ans : Answers N (hs .what) r (to .0) = λ r2 o2 x2 c2 d2 e.
+          let ans : AnswersAt N (hs .what) r (to .0) = λ r2 o2 x2 c2 d2 e.
           let same = some-inj (sym (reaches-atRow settled (requestResponse r o x c d) (hs .what) (plain-request r o x c d) on a) ∙ e) in
           subst (λ (z : Operation). ReplyFits N z (to .0)) (eo ∙ request-operation same) (subst (RepliesFit N (k .operation)) (to .1) (k .destination)) in
-          goes-keeps N rows strict (takes G q n S x settled r (message m l))
+          goes-keeps N rows strict (receiveMessage G q n S x settled r (message m l))
           (subst (λ (z : Optional Destination). Goes N rows (saveWithin G q n (after x r m l z) [])) (sym (to .1))
           (save-goes G q n (after x r m l (some (to .0))) [] hG
           (request-sound N rows acc q n (withProgress S settled) hs r o x c d (m .message) (to .0) a u (message-good (m .message) (k .good))
@@ -265,12 +270,12 @@ module _ (N : Network) (rows : ℕ) (acc : Accepted N rows) where
           → Reaches settled (fromInput (record { row = r; operation = o; into = x; response = k })) (hs .what) → p r ≡ settled r
           → Keeps N rows strict (receiveBy G q n S settled (some (record { row = r; operation = o; into = x; response = k })))
       receive-by strict r o x none a e =
-          let R = takes G q n S x settled r (oldest (o .row) (S .queue)) in
+          let R = receiveMessage G q n S x settled r (oldest (o .row) (S .queue)) in
           by-undone N rows strict (p r) (require (permits q input false o) MoveNotAllowed R)
           (λ t. by-require N rows strict (permits q input false o) R
           (λ w. one-takes r o x a (sym e ∙ t) (permits-one q input o w) strict (oldest (o .row) (S .queue)) (oldest-sound N rows q (o .row) (S .queue) (h .queued))))
       receive-by strict r o x (some k) a e =
-          let R = takes G q n S x settled r (oldest (o .row) (S .queue)) in
+          let R = receiveMessage G q n S x settled r (oldest (o .row) (S .queue)) in
           by-undone N rows strict (p r) (require (permits q input true o) MoveNotAllowed R)
           (λ t. by-require N rows strict (permits q input true o) R
           (λ w. two-takes r o x (k .path) (k .body) a (sym e ∙ t) (permits-two q input o w) strict (oldest (o .row) (S .queue))
@@ -319,9 +324,9 @@ module _ (N : Network) (rows : ℕ) (acc : Accepted N rows) where
         let sx = of-two N rows (undoneOrTaken (branches m) (p c)) (suitsBranches N rows p m) (suits-at N rows (f .way) on (h .suit)) in
         let hs = select-sound N rows acc q n S h c k m (f .way) (untaken-undone (p c) (branches m) (sx .0) (f .untaken)) (f .inside) in
         let inner : Reaches settled a X =
-        atBranch k (advance-same p c (taken k)) (subst (λ (z : Behaviour). Reaches settled a z) (sym (f .isBranch)) (atFirst atSelf)) in
+        atBranch k (advance-here p c (taken k)) (subst (λ (z : Behaviour). Reaches settled a z) (sym (f .isBranch)) (atFirst atSelf)) in
         let way : Reaches settled a B =
-        reaches-trans inner (reaches-stay p settled X B (λ j g. advance-other p c (taken k) j (λ t. g (in-own j c (hasRowIn j m) t))) on (f .way)) in
+        reaches-trans inner (reaches-stay p settled X B (λ j g. advance-apart p c (taken k) j (λ t. g (in-own j c (hasRowIn j m) t))) on (f .way)) in
         receive-at settled hs strict a (subst (λ (z : Behaviour). Reaches settled a z) (some-inj (sym (h .runs) ∙ hs .runs)) way)
         (advance-below-branches p c (taken k) m (ox .0) (rowOf a) (branch-input m k (f .label) a (f .after) (f .isBranch)))
 

@@ -4,21 +4,19 @@ use Prim.Native.Nat.{ℕ, zero, suc, _<_}
 use mathlib.Core.Bool.{Bool, true, false, _||_}
 use native.Mathlib.Omega.{arith}
 use lib.Dec.{T, eqb, eqb→eq, eqb-refl}
-use Rattle.forest.specs.Compare.{of-T, not-T-false}
-use Rattle.forest.specs.Path.{Path}
-use Rattle.syntax.specs.Syntax.{Types, Optional, none, some, Network, Expression, Operation, Behaviour, nil, oneWay, requestResponse, notification}
-use Rattle.syntax.specs.Syntax.{solicitResponse, ifThenElse, whileDo, sequence, parallel, assign, choice, waiting, answering, Branches}
-use Rattle.syntax.specs.Syntax.{lastBranch, branch}
-use Rattle.syntax.specs.Rows.{rowOf, hasRow, hasRowIn, atRow, atRowIn, orElseSome, itself}
-use Rattle.syntax.specs.ViewLaws.{own-row, some-inj}
+use Rattle.basics.specs.TestLaws.{not-T-false, of-T, or-case, or-l, or-r}
+use Rattle.tree_forest.specs.Path.{Path}
+use Rattle.network_syntax.specs.Syntax.{Types, Optional, none, some, Network, Expression, Operation, Behaviour, nil, oneWay, requestResponse, notification}
+use Rattle.network_syntax.specs.Syntax.{solicitResponse, ifThenElse, whileDo, sequence, parallel, assign, choice, waiting, answering, Branches}
+use Rattle.network_syntax.specs.Syntax.{lastBranch, branch}
+use Rattle.network_syntax.specs.Rows.{rowOf, hasRow, hasRowIn, atRow, atRowIn, orElseSome, itself}
+use Rattle.network_syntax.specs.ViewLaws.{own-row, some-inj}
 use Rattle.network.specs.Shapes.{Outside, Apart, EachRowOnce, EachBranchRowOnce}
-use Rattle.network.specs.OnceLaws.{or-case}
-use Rattle.typing.specs.Occurs.{occurs, occursInBranches}
-use Rattle.typing.specs.OccursLaws.{or-l, or-r}
-use Rattle.typing.specs.Rules.{RisingOperation, WellSorted, WellSortedBranches}
-use Rattle.typing.specs.Typed.{Typed, TypedBranches}
+use Rattle.check_typing.specs.Occurs.{occurs, occursInBranches}
+use Rattle.check_typing.specs.Rules.{RisingOperation, WellSorted, WellSortedBranches}
+use Rattle.check_typing.specs.Typed.{Typed, TypedBranches}
 use Rattle.state.specs.Session.{Progress, Progresses, undone, done, waits, received, taken}
-use Rattle.moves.specs.Readiness.{ifDone, ifWaits, ifReceived, ifTaken, thenOrElse, rest, branchRest}
+use Rattle.move_rules.specs.Readiness.{unlessDone, unlessWaits, unlessReceived, unlessTaken, thenOrElse, rest, branchRest}
 use Rattle.soundness.specs.Parts.{branchAt, Reaches, atSelf, atFirst, atSecond, atLeft, atRight, atThen, atElse}
 use Rattle.soundness.specs.Parts.{atLoop, atServed, atBranch}
 use Rattle.soundness.specs.RowLaws.{in-own, in-first, in-second, in-only, in-branches, in-input, in-then, in-others, branch-rows, branch-once, reaches-rows}
@@ -26,15 +24,15 @@ use Rattle.soundness.specs.Accepted.{OfFile, MadeOf, MadeOfBranches, Acc
 
 -- A row found wherever it stands -------------------------------------------------------------------------------------------------------
 
-abbrev pub StandsAt : ℕ → Behaviour → Optional Behaviour → Type 0
-StandsAt i B none = Unit {0}
-StandsAt i B (some X) = (rowOf X ≡ i) × T (hasRow i B)
+abbrev pub RowStandsAt : ℕ → Behaviour → Optional Behaviour → Type 0
+RowStandsAt i B none = Unit {0}
+RowStandsAt i B (some X) = (rowOf X ≡ i) × T (hasRow i B)
 
-itself-stands : (i : ℕ) (B : Behaviour) (c : Bool) (l : Optional Behaviour) → (T c → T (eqb i (rowOf B))) → StandsAt i B l → StandsAt i B (itself c B l)
+itself-stands : (i : ℕ) (B : Behaviour) (c : Bool) (l : Optional Behaviour) → (T c → T (eqb i (rowOf B))) → RowStandsAt i B l → RowStandsAt i B (itself c B l)
 itself-stands i B true l f g = (sym (eqb→eq i (rowOf B) (f tt)), subst (λ (z : ℕ). T (hasRow z B)) (sym (eqb→eq i (rowOf B) (f tt))) (own-row B))
 itself-stands i B false l f g = g
 
-or-stands : (i : ℕ) (B : Behaviour) (x y : Optional Behaviour) → StandsAt i B x → StandsAt i B y → StandsAt i B (orElseSome x y)
+or-stands : (i : ℕ) (B : Behaviour) (x y : Optional Behaviour) → RowStandsAt i B x → RowStandsAt i B y → RowStandsAt i B (orElseSome x y)
 or-stands i B none y f g = g
 or-stands i B (some X) y f g = f
 
@@ -47,7 +45,7 @@ or-stands-in i m none y f g = g
 or-stands-in i m (some X) y f g = f
 
 -- What stands in a branch, or in the branches, of whatever has their rows.
-stands-in : (i : ℕ) (A : Behaviour) (m : Branches) → (T (hasRow i A) → T (hasRowIn i m)) → (l : Optional Behaviour) → StandsAt i A l → StandsIn i m l
+stands-in : (i : ℕ) (A : Behaviour) (m : Branches) → (T (hasRow i A) → T (hasRowIn i m)) → (l : Optional Behaviour) → RowStandsAt i A l → StandsIn i m l
 stands-in i A m f none g = tt
 stands-in i A m f (some X) g = (g .0, f (g .1))
 
@@ -55,18 +53,18 @@ further-in : (i : ℕ) (n m : Branches) → (T (hasRowIn i n) → T (hasRowIn i 
 further-in i n m f none g = tt
 further-in i n m f (some X) g = (g .0, f (g .1))
 
-in-stands : (i : ℕ) (m : Branches) (B : Behaviour) → (T (hasRowIn i m) → T (hasRow i B)) → (l : Optional Behaviour) → StandsIn i m l → StandsAt i B l
+in-stands : (i : ℕ) (m : Branches) (B : Behaviour) → (T (hasRowIn i m) → T (hasRow i B)) → (l : Optional Behaviour) → StandsIn i m l → RowStandsAt i B l
 in-stands i m B f none g = tt
 in-stands i m B f (some X) g = (g .0, f (g .1))
 
-lift-stands : (i : ℕ) (A B : Behaviour) → (T (hasRow i A) → T (hasRow i B)) → (l : Optional Behaviour) → StandsAt i A l → StandsAt i B l
+lift-stands : (i : ℕ) (A B : Behaviour) → (T (hasRow i A) → T (hasRow i B)) → (l : Optional Behaviour) → RowStandsAt i A l → RowStandsAt i B l
 lift-stands i A B f none g = tt
 lift-stands i A B f (some X) g = (g .0, f (g .1))
 
 mutual
   unfolding atRow rowOf hasRow
 
-  pub atRow-stands : (i : ℕ) (B : Behaviour) → StandsAt i B (atRow i B)
+  pub atRow-stands : (i : ℕ) (B : Behaviour) → RowStandsAt i B (atRow i B)
   atRow-stands i (nil r) = itself-stands i (nil r) (eqb i r) none (λ t. t) tt
   atRow-stands i (oneWay r o x) = itself-stands i (oneWay r o x) (eqb i r) none (λ t. t) tt
   atRow-stands i (requestResponse r o x c d) =
@@ -112,13 +110,13 @@ mutual
 
 -- The row and its place, of what was found.
 pub atRow-row : (i : ℕ) (B X : Behaviour) → atRow i B ≡ some X → (rowOf X ≡ i) × T (hasRow i B)
-atRow-row i B X e = subst (StandsAt i B) e (atRow-stands i B)
+atRow-row i B X e = subst (RowStandsAt i B) e (atRow-stands i B)
 
 -- A row that is none of the behaviour's is not found.
 pub atRow-none : (i : ℕ) (B : Behaviour) → Outside i B → atRow i B ≡ none
 atRow-none i B n = go (atRow i B) (atRow-stands i B)
   where
-    go : (l : Optional Behaviour) → StandsAt i B l → l ≡ none
+    go : (l : Optional Behaviour) → RowStandsAt i B l → l ≡ none
     go none g = refl
     go (some X) g = absurd (n (g .1))
 
@@ -296,7 +294,7 @@ module _ (N : Network) (rows : ℕ) where
 
 -- Rests are well sorted ---------------------------------------------------------------------------------------------------------------
 
-sorted-leaf : (s : Progress) (r : ℕ) (b : Behaviour) → WellSorted b → WellSorted (ifDone s b (nil r))
+sorted-leaf : (s : Progress) (r : ℕ) (b : Behaviour) → WellSorted b → WellSorted (unlessDone s b (nil r))
 unfolding WellSorted
 sorted-leaf undone r b w = w
 sorted-leaf done r b w = tt
@@ -304,21 +302,21 @@ sorted-leaf waits r b w = w
 sorted-leaf (received to) r b w = w
 sorted-leaf (taken k) r b w = w
 
-sorted-taken : (s : Progress) (b : Behaviour) (f : ℕ → Behaviour) → WellSorted b → ((j : ℕ) → WellSorted (f j)) → WellSorted (ifTaken s b f)
+sorted-taken : (s : Progress) (b : Behaviour) (f : ℕ → Behaviour) → WellSorted b → ((j : ℕ) → WellSorted (f j)) → WellSorted (unlessTaken s b f)
 sorted-taken undone b f w h = w
 sorted-taken done b f w h = w
 sorted-taken waits b f w h = w
 sorted-taken (received to) b f w h = w
 sorted-taken (taken k) b f w h = h k
 
-sorted-received : (s : Progress) (b c : Behaviour) → WellSorted b → WellSorted c → WellSorted (ifReceived s b c)
+sorted-received : (s : Progress) (b c : Behaviour) → WellSorted b → WellSorted c → WellSorted (unlessReceived s b c)
 sorted-received undone b c w h = w
 sorted-received done b c w h = w
 sorted-received waits b c w h = w
 sorted-received (received to) b c w h = h
 sorted-received (taken k) b c w h = w
 
-sorted-waits : (s : Progress) (b c : Behaviour) → WellSorted b → WellSorted c → WellSorted (ifWaits s b c)
+sorted-waits : (s : Progress) (b c : Behaviour) → WellSorted b → WellSorted c → WellSorted (unlessWaits s b c)
 sorted-waits undone b c w h = w
 sorted-waits done b c w h = w
 sorted-waits waits b c w h = h
@@ -336,16 +334,16 @@ mutual
   rest-sorted (nil r) p w = tt
   rest-sorted (oneWay r o x) p w = sorted-leaf (p r) r (oneWay r o x) w
   rest-sorted (requestResponse r o x c d) p w =
-      sorted-leaf (p r) r (ifReceived (p r) (requestResponse r o x c d) (answering r o c (rest p d)))
+      sorted-leaf (p r) r (unlessReceived (p r) (requestResponse r o x c d) (answering r o c (rest p d)))
       (sorted-received (p r) (requestResponse r o x c d) (answering r o c (rest p d)) w (w .0, rest-sorted d p (w .1)))
   rest-sorted (notification r o e) p w = sorted-leaf (p r) r (notification r o e) w
   rest-sorted (solicitResponse r o e x) p w =
-      sorted-leaf (p r) r (ifWaits (p r) (solicitResponse r o e x) (waiting r o x)) (sorted-waits (p r) (solicitResponse r o e x) (waiting r o x) w w)
+      sorted-leaf (p r) r (unlessWaits (p r) (solicitResponse r o e x) (waiting r o x)) (sorted-waits (p r) (solicitResponse r o e x) (waiting r o x) w w)
   rest-sorted (ifThenElse r e a b) p w =
       sorted-taken (p r) (ifThenElse r e a b) (λ j. thenOrElse j (rest p a) (rest p b)) w
       (λ j. sorted-either j (rest p a) (rest p b) (rest-sorted a p (w .0)) (rest-sorted b p (w .1)))
   rest-sorted (whileDo r e b) p w =
-      sorted-leaf (p r) r (ifTaken (p r) (whileDo r e b) (λ j. sequence r (rest p b) (whileDo r e b)))
+      sorted-leaf (p r) r (unlessTaken (p r) (whileDo r e b) (λ j. sequence r (rest p b) (whileDo r e b)))
       (sorted-taken (p r) (whileDo r e b) (λ j. sequence r (rest p b) (whileDo r e b)) w (λ j. (rest-sorted b p w, w)))
   rest-sorted (sequence r a b) p w = (rest-sorted a p (w .0), rest-sorted b p (w .1))
   rest-sorted (parallel r a b) p w = (rest-sorted a p (w .0), rest-sorted b p (w .1))

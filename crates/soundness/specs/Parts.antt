@@ -4,12 +4,12 @@ use mathlib.Core.Path.{_≡_}
 use mathlib.Core.Bool.{Bool, true, false}
 use Prim.Native.Nat.{ℕ, zero, suc}
 use lib.Dec.{T}
-use Rattle.forest.specs.Path.{Path}
-use Rattle.syntax.specs.Syntax.{Expression, Operation, Behaviour, nil, oneWay, requestResponse, notification, solicitResponse, ifThenElse, whileDo}
-use Rattle.syntax.specs.Syntax.{sequence, parallel, assign, choice, waiting, answering, Branches, lastBranch, branch}
-use Rattle.syntax.specs.Rows.{hasRow, hasRowIn}
+use Rattle.tree_forest.specs.Path.{Path}
+use Rattle.network_syntax.specs.Syntax.{Expression, Operation, Behaviour, nil, oneWay, requestResponse, notification, solicitResponse, ifThenElse, whileDo}
+use Rattle.network_syntax.specs.Syntax.{sequence, parallel, assign, choice, waiting, answering, Branches, lastBranch, branch}
+use Rattle.network_syntax.specs.Rows.{hasRow, hasRowIn}
 use Rattle.state.specs.Session.{Progress, Progresses, Destination, undone, done, waits, received, taken}
-use Rattle.moves.specs.Readiness.{isDone, firstOr}
+use Rattle.move_rules.specs.Readiness.{isDone, firstOr}
 
 -- The branch k of a choice's branches, counted from 0, as the sequence of its input and what follows; past the last, the last.
 unfoldable pub branchAt : ℕ → Branches → Behaviour
@@ -51,18 +51,29 @@ unfoldable mutual
   CleanBranches p (lastBranch r a b) = Clean p a × Clean p b
   CleanBranches p (branch r a b m) = Clean p a × Clean p b × CleanBranches p m
 
--- The part X of a behaviour is reached: nothing before it is undone, and it stands in parts that are taken.
+-- The part X of a behaviour is reached, by a way from the top down. 01, Moves: "A row is *ready* when it is not done and nothing before it in
+-- a sequence is undone; both sides of a ready parallel, each input of a ready choice, the taken side or body of an if or while, and the body
+-- of a received request-response count likewise." The inputs of a choice with no branch taken are left out, being no assign, if or while, and
+-- so is what lies below a received one of them: no list of moves leaves such an input (docs/DECISIONS.md, 43).
 pub data Reaches (p : Progresses) (X : Behaviour) : Behaviour → Type 0 where
   atSelf : Reaches p X X
+  -- "nothing before it in a sequence is undone"
   atFirst : {r : ℕ} {a b : Behaviour} → Reaches p X a → Reaches p X (sequence r a b)
   atSecond : {r : ℕ} {a b : Behaviour} → T (isDone p a) → Reaches p X b → Reaches p X (sequence r a b)
+  -- "both sides of a ready parallel"
   atLeft : {r : ℕ} {a b : Behaviour} → Reaches p X a → Reaches p X (parallel r a b)
   atRight : {r : ℕ} {a b : Behaviour} → Reaches p X b → Reaches p X (parallel r a b)
-  atThen : {r : ℕ} {e : Expression} {a b : Behaviour} → p r ≡ taken zero → Reaches p X a → Reaches p X (ifThenElse r e a b)
-  atElse : {r : ℕ} {e : Expression} {a b : Behaviour} (k : ℕ) → p r ≡ taken (suc k) → Reaches p X b → Reaches p X (ifThenElse r e a b)
-  atLoop : {r : ℕ} {e : Expression} {b : Behaviour} (k : ℕ) → p r ≡ taken k → Reaches p X b → Reaches p X (whileDo r e b)
+  -- "the taken side or body of an if or while"
+  atThen : {r : ℕ} {e : Expression} {a b : Behaviour} → p r ≡ taken zero → Reaches p X a
+      → Reaches p X (ifThenElse r e a b)
+  atElse : {r : ℕ} {e : Expression} {a b : Behaviour} (k : ℕ) → p r ≡ taken (suc k) → Reaches p X b
+      → Reaches p X (ifThenElse r e a b)
+  atLoop : {r : ℕ} {e : Expression} {b : Behaviour} (k : ℕ) → p r ≡ taken k → Reaches p X b
+      → Reaches p X (whileDo r e b)
+  -- "the body of a received request-response"
   atServed : {r : ℕ} {o : Operation} {x c : Path} {d : Behaviour} (to : Destination) → p r ≡ received to → Reaches p X d
       → Reaches p X (requestResponse r o x c d)
+  -- the taken branch of a choice, "as in a sequence"
   atBranch : {r : ℕ} {m : Branches} (k : ℕ) → p r ≡ taken k → Reaches p X (branchAt k m) → Reaches p X (choice r m)
 
 -- Open rows: those that wait or were received.

@@ -8,34 +8,35 @@ use mathlib.Core.List.{List, [], _∷_}
 use Prim.Native.Nat.{ℕ, _<_}
 use lib.Dec.{T, leb}
 use lib.ListN.{length}
-use Rattle.forest.specs.Forest.{Rising}
-use Rattle.scalar.specs.Value.{pick}
-use Rattle.syntax.specs.Syntax.{Types, Optional, none, some, Network, Operation, Behaviour}
-use Rattle.syntax.specs.Rows.{rowOf, Local, assigns, decides, repeats, localOf}
-use Rattle.subtyping.specs.Subtype.{Subtypes}
-use Rattle.subtyping.specs.Own.{ownTypes, Fits}
-use Rattle.typing.specs.Environment.{within}
-use Rattle.typing.specs.Rules.{Derives}
+use Rattle.tree_forest.specs.Forest.{Rising}
+use Rattle.basics.specs.Choice.{pick}
+use Rattle.network_syntax.specs.Syntax.{Types, Optional, none, some, Network, Operation, Behaviour}
+use Rattle.network_syntax.specs.Rows.{rowOf, Local, assigns, decides, repeats, localOf}
+use Rattle.check_subtyping.specs.Subtype.{Subtypes}
+use Rattle.check_subtyping.specs.Own.{ownTypes, Fits}
+use Rattle.check_typing.specs.Environment.{within}
+use Rattle.check_typing.specs.Rules.{Derives}
 use Rattle.tree.specs.Encode.{Octets}
-use Rattle.refusal.specs.Refusal.{number}
-use Rattle.typing.specs.Result.{passed}
-use Rattle.typing.specs.NetworkRules.{Environments}
-use Rattle.checking.specs.FileChecker.{checkFile}
+use Rattle.refusal.specs.Refusal.{outcomeNumber}
+use Rattle.check_typing.specs.Result.{passed}
+use Rattle.check_typing.specs.NetworkRules.{Environments}
+use Rattle.check_files.specs.FileChecker.{checkFile}
 use Rattle.network.specs.Layout.{behaviourCount}
 use Rattle.network.specs.Decode.{networkOf}
+use Rattle.state.specs.Places.{outRoom}
 use Rattle.state.specs.Session.{Progress, Progresses, undone, done, waits, received, taken, Queued, Session, live, State}
 use Rattle.state.specs.Bytes.{stateBytes}
-use Rattle.state.specs.Shape.{isUndone, behaviourIn, operationAt, Stands}
-use Rattle.moves.specs.Readiness.{isDone, rest}
-use Rattle.moves.specs.Moves.{Move, local, receive, send, reply, outside, outsideReply, close}
-use Rattle.moves.specs.Step.{step}
-use Rattle.moves.specs.Fresh.{freshBytes}
+use Rattle.state.specs.Shape.{isUndone, behaviourIn, operationOfRow, Stands}
+use Rattle.move_rules.specs.Readiness.{isDone, rest}
+use Rattle.move_rules.specs.Moves.{Move, local, receive, send, reply, outerMessage, outerReply, close}
+use Rattle.move_rules.specs.Step.{step}
+use Rattle.move_rules.specs.Fresh.{freshBytes}
 use Rattle.soundness.specs.Parts.{Reaches}
 
 -- "each queued message fits its operation's request type"
 pub record FitsOperation (N : Network) (m : Queued) : Type 0 where
   pub operation : Operation
-  pub there : operationAt (N .operations) (m .operation) ≡ some operation
+  pub there : operationOfRow (N .operations) (m .operation) ≡ some operation
   pub fit : Fits (m .message) (operation .request)
 
 unfoldable pub QueueFits : Network → List Queued → Type 0
@@ -100,8 +101,8 @@ NumberFits (local q n r) = Unit {0}
 NumberFits (receive q n r) = Unit {0}
 NumberFits (send q n r to) = Unit {0}
 NumberFits (reply q n r) = Unit {0}
-NumberFits (outside q id n k) = k < 0x100000000
-NumberFits (outsideReply q n r) = Unit {0}
+NumberFits (outerMessage q id n k) = k < 0x100000000
+NumberFits (outerReply q n r) = Unit {0}
 NumberFits (close q n) = Unit {0}
 
 -- Outside bytes are bytes, and a reply number is a u32; otherwise "any numbers, outside bytes and out buffer".
@@ -119,15 +120,15 @@ after file s [] = s
 after file s (t ∷ l) = after file (step file s (t .out) (t .move) (t .bytes) .state) l
 
 abbrev pub numberOfNext : List ℕ → List ℕ → Turn → ℕ
-numberOfNext file s t = number (step file s (t .out) (t .move) (t .bytes) .outcome)
+numberOfNext file s t = outcomeNumber (step file s (t .out) (t .move) (t .bytes) .outcome)
 
 abbrev pub sendsOrReplies : Move → Bool
 sendsOrReplies (local q n r) = false
 sendsOrReplies (receive q n r) = false
 sendsOrReplies (send q n r to) = true
 sendsOrReplies (reply q n r) = true
-sendsOrReplies (outside q id n k) = false
-sendsOrReplies (outsideReply q n r) = false
+sendsOrReplies (outerMessage q id n k) = false
+sendsOrReplies (outerReply q n r) = false
 sendsOrReplies (close q n) = false
 
 -- The claims about a state G of the file; its next move is on its bytes. "after it live sessions are well typed"
@@ -146,7 +147,8 @@ Never19 file G = (t : Turn) → Given t → T (sendsOrReplies (t .move)) → num
 abbrev pub ReadyMoves : List ℕ → State → Type 0
 ReadyMoves file G =
     (q n r : ℕ) (bytes out : List ℕ) → Ready (networkOf file) G q n r
-    → numberOfNext file (stateBytes G) (record { move = local q n r; bytes = bytes; out = out }) ≡ pick (leb 512 (length out)) 0 1
+    → numberOfNext file (stateBytes G) (record { move = local q n r; bytes = bytes; out = out })
+    ≡ pick (leb outRoom (length out)) 0 1
 
 -- What holds of a state from fresh.
 pub record Holds (file : List ℕ) (G : State) : Type 0 where

@@ -6,14 +6,14 @@ use mathlib.Core.List.{List, [], _∷_}
 use native.Mathlib.Omega.{arith}
 use lib.Dec.{T, eqb, leb}
 use lib.ListN.{length}
-use Rattle.forest.specs.Compare.{of-T}
-use Rattle.scalar.specs.Value.{pick}
-use Rattle.syntax.specs.Syntax.{Optional, none, some, Network, Behaviour}
-use Rattle.syntax.specs.Rows.{Local, assigns, decides, repeats, localOf, fromLocal}
+use Rattle.basics.specs.Choice.{pick}
+use Rattle.basics.specs.TestLaws.{of-T}
+use Rattle.network_syntax.specs.Syntax.{Optional, none, some, Network, Behaviour}
+use Rattle.network_syntax.specs.Rows.{Local, assigns, decides, repeats, localOf, fromLocal}
 use Rattle.refusal.specs.declared.Refusal.the-variants.{BufferSize, MoveNotAllowed}
-use Rattle.refusal.specs.Refusal.{number, doneWith}
-use Rattle.typing.specs.TypedLaws.{within-before}
-use Rattle.typing.specs.DerivesLaws.{typed-derives}
+use Rattle.refusal.specs.Refusal.{outcomeNumber, doneWith}
+use Rattle.check_typing.specs.TypedLaws.{within-before}
+use Rattle.check_typing.specs.DerivesLaws.{typed-derives}
 use Rattle.tree.specs.Encode.{Octets}
 use Rattle.refusal.specs.declared.Verdict.the-variants.{Done}
 use Rattle.network.specs.Form.{formOf}
@@ -23,29 +23,29 @@ use Rattle.state.specs.Session.{Progress, Progresses, undone, done, waits, rece
 use Rattle.state.specs.Bytes.{stateBytes}
 use Rattle.state.specs.Shape.{isUndone, Stands, freshState}
 use Rattle.state.specs.ShapeLaws.{decode-state-complete, stands-length}
-use Rattle.moves.specs.Readiness.{isDone, Reached, reached, reach, rest}
-use Rattle.moves.specs.Evaluation.{evaluate}
-use Rattle.moves.specs.Moves.{Result, refused, moved, require, onTree, onBool, rootValue, ifUndone, ifReadyWhile, assigned, decided, repeated}
-use Rattle.moves.specs.Moves.{localBy, localAt, localReached, onBehaviour, onLive, localMove, Move, local, receive, send, reply, outside, outsideReply, close}
-use Rattle.moves.specs.Moves.{move}
-use Rattle.moves.specs.Step.{Step, refuse, finish, buffersFit, step}
+use Rattle.move_rules.specs.Readiness.{isDone, Reached, reached, reach, rest}
+use Rattle.move_rules.specs.Evaluation.{evaluate}
+use Rattle.move_rules.specs.Moves.{Result, refused, moved, require, onTree, onBool, rootValue, ifUndone, ifReadyWhile, assigned, decided, repeated}
+use Rattle.move_rules.specs.Moves.{localBy, localAt, localReached, onBehaviour, onLive, localMove, Move, local, receive, send, reply, outerMessage, outerReply, close}
+use Rattle.move_rules.specs.Moves.{move}
+use Rattle.move_rules.specs.Step.{Step, refuse, finish, buffersFit, step}
 use Rattle.soundness.specs.Parts.{Reaches}
 use Rattle.soundness.specs.ReadyLaws.{Findable, local-findable, reach-complete}
 use Rattle.soundness.specs.Accepted.{Accepted}
 use Rattle.soundness.specs.MadeLaws.{made-sorted, rest-sorted}
-use Rattle.syntax.specs.ViewLaws.{some-inj, local-is}
+use Rattle.network_syntax.specs.ViewLaws.{some-inj, local-is}
 use Rattle.soundness.specs.Invariant.{AllQueued, SessionSound, Sound}
 use Rattle.soundness.specs.SessionLaws.{once-of, made-of}
 use Rattle.soundness.specs.ResultLaws.{Keeps, Goes}
 use Rattle.soundness.specs.LocalLaws.{local-move, receive-move, close-move, assign-goes, if-goes, while-goes, again-goes}
 use Rattle.soundness.specs.SendLaws.{send-move, outside-move}
 use Rattle.soundness.specs.ReplyLaws.{reply-move, outside-reply-move}
-use Rattle.checking.specs.FileCheckerLaws.{accepted-derived}
+use Rattle.check_files.specs.FileCheckerLaws.{accepted-derived}
 use Rattle.soundness.specs.AcceptedLaws.{accepted}
 use Rattle.soundness.specs.FreshLaws.{fresh-sound}
 use Rattle.soundness.specs.ShapeLaws.{sound-shape}
 use Rattle.soundness.specs.Property3.{QueueFits, LiveWellTyped, isTaken, canMove, isReadyLocal, Ready, Turn, NumberFits, Given, AllGiven, after}
-use Rattle.moves.specs.Fresh.{freshBytes, fresh}
+use Rattle.move_rules.specs.Fresh.{freshBytes, fresh}
 use Rattle.soundness.specs.Property3.{sendsOrReplies, AllWellTyped, Never18, Never19, ReadyMoves, Holds, AcceptedFile, Property3}
 
 is-undone : (s : Progress) → T (isUndone s) → s ≡ undone
@@ -69,8 +69,8 @@ module _ (N : Network) (rows : ℕ) (acc : Accepted N rows) where
   move-keeps G h (receive q n r) bytes k oct = receive-move N rows acc false G h q n r
   move-keeps G h (send q n r to) bytes k oct = send-move N rows acc G h q n r to
   move-keeps G h (reply q n r) bytes k oct = reply-move N rows acc G h q n r
-  move-keeps G h (outside q id n number) bytes k oct = outside-move N rows acc G h q id n number bytes k oct
-  move-keeps G h (outsideReply q n r) bytes k oct = outside-reply-move N rows acc G h q n r bytes oct
+  move-keeps G h (outerMessage q id n number) bytes k oct = outside-move N rows acc G h q id n number bytes k oct
+  move-keeps G h (outerReply q n r) bytes k oct = outside-reply-move N rows acc G h q n r bytes oct
   move-keeps G h (close q n) bytes k oct = close-move N rows acc false G h q n
 
   -- A sound session is well typed.
@@ -203,27 +203,27 @@ module _ (file : List ℕ) (acc : AcceptedFile file) where
     sound-typed q n S e = session-typed N rows network q n S (h .sessions q n S e)
 
     pub sound-never-18 : Never18 file G
-    sound-never-18 t = step-by (λ x. number (x .outcome) ≡ 18 → ⊥) t (λ e. omega arith) go
+    sound-never-18 t = step-by (λ x. outcomeNumber (x .outcome) ≡ 18 → ⊥) t (λ e. omega arith) go
       where
-        go : (R : Result) → Keeps N rows (sendsOrReplies (t .move)) R → number (finish (stateBytes G) (t .out) R .outcome) ≡ 18 → ⊥
+        go : (R : Result) → Keeps N rows (sendsOrReplies (t .move)) R → outcomeNumber (finish (stateBytes G) (t .out) R .outcome) ≡ 18 → ⊥
         go (refused why) k e = k .not18 e
         go (moved G2 out) k e = omega arith
 
     pub sound-never-19 : Never19 file G
-    sound-never-19 t g b = step-by (λ x. number (x .outcome) ≡ 19 → ⊥) t (λ e. omega arith) go g
+    sound-never-19 t g b = step-by (λ x. outcomeNumber (x .outcome) ≡ 19 → ⊥) t (λ e. omega arith) go g
       where
-        go : (R : Result) → Keeps N rows (sendsOrReplies (t .move)) R → number (finish (stateBytes G) (t .out) R .outcome) ≡ 19 → ⊥
+        go : (R : Result) → Keeps N rows (sendsOrReplies (t .move)) R → outcomeNumber (finish (stateBytes G) (t .out) R .outcome) ≡ 19 → ⊥
         go (refused why) k e = k .not19 b e
         go (moved G2 out) k e = omega arith
 
     pub sound-ready : ReadyMoves file G
     unfolding move
     sound-ready q n r bytes out k =
-        ap (λ (x : Step). number (x .outcome)) (step-is (record { move = local q n r; bytes = bytes; out = out }))
+        ap (λ (x : Step). outcomeNumber (x .outcome)) (step-is (record { move = local q n r; bytes = bytes; out = out }))
         ∙ go (leb 512 (length out)) (move N G (local q n r) bytes) (ready-goes N rows network G h q n r k)
       where
         go : (b : Bool) (R : Result) → Goes N rows R
-            → number (pick b (finish (stateBytes G) out R) (refuse BufferSize (stateBytes G) out) .outcome) ≡ pick b 0 1
+            → outcomeNumber (pick b (finish (stateBytes G) out R) (refuse BufferSize (stateBytes G) out) .outcome) ≡ pick b 0 1
         go true (refused why) g = absurd g
         go true (moved G2 o) g = refl
         go false R g = refl

@@ -4,18 +4,17 @@ use Prim.Native.Nat.{ℕ, zero, suc, _+_}
 use mathlib.Core.Bool.{Bool, true, false, _||_, _&&_}
 use native.Mathlib.Omega.{arith}
 use lib.Dec.{T, eqb, ltb, eqb→eq, eqb-refl, ltb→lt, lt→ltb}
-use Rattle.forest.specs.Compare.{and-l, and-r}
-use Rattle.syntax.specs.Syntax.{Network, Behaviour, nil, oneWay, requestResponse, notification, solicitResponse, ifThenElse, whileDo}
-use Rattle.syntax.specs.Syntax.{sequence, parallel, assign, choice, waiting, answering, Branches, lastBranch, branch}
-use Rattle.syntax.specs.Rows.{rowOf, hasRow, hasRowIn}
-use Rattle.syntax.specs.ViewLaws.{own-row}
-use Rattle.network.specs.OnceLaws.{or-left, or-right}
+use Rattle.basics.specs.TestLaws.{and-l, and-r}
+use Rattle.network_syntax.specs.Syntax.{Network, Behaviour, nil, oneWay, requestResponse, notification, solicitResponse, ifThenElse, whileDo}
+use Rattle.network_syntax.specs.Syntax.{sequence, parallel, assign, choice, waiting, answering, Branches, lastBranch, branch}
+use Rattle.network_syntax.specs.Rows.{rowOf, hasRow, hasRowIn}
+use Rattle.network_syntax.specs.ViewLaws.{own-row}
 use Rattle.network.specs.Shapes.{EachRowOnce, EachBranchRowOnce}
-use Rattle.typing.specs.TypedLaws.{by-bool}
+use Rattle.check_typing.specs.TypedLaws.{by-bool}
 use Rattle.state.specs.Session.{Progress, Progresses, Destination, undone, done, waits, received, taken}
 use Rattle.state.specs.Shape.{branches, isUndone, undoneDoneOrReceived, undoneOrTaken, undoneDoneOrBody, suits}
-use Rattle.moves.specs.Readiness.{ifDone, ifReceived, ifTaken, thenOrElse, isDone, branchDone, Reached, unreached, reached, offered, here, orElse, onlyIf}
-use Rattle.moves.specs.Readiness.{offeredIf, offer, reach, reachBranch, served}
+use Rattle.move_rules.specs.Readiness.{unlessDone, unlessReceived, unlessTaken, thenOrElse, isDone, branchDone, Reached, unreached, reached, offered, here, orElse, onlyIf}
+use Rattle.move_rules.specs.Readiness.{offeredIf, offer, reach, reachBranch, served}
 use Rattle.soundness.specs.Parts.{branchAt, FreshBranches, notTaken, Clean, CleanBranches, Reaches, atSelf, atFirst, atSecond, atLeft, atRight, atThen, atElse, atLoop, atServed}
 use Rattle.soundness.specs.Parts.{atBranch, isOpen, Opens, asking, serving, AllOpen}
 use Rattle.soundness.specs.RowLaws.{in-own, in-first, in-second, in-only, in-branches, in-input, in-others, taken-at, branch-done, branch-rows}
@@ -24,14 +23,14 @@ use Rattle.soundness.specs.CleanLaws.{once-at}
 
 -- Done and reached -------------------------------------------------------------------------------------------------------------------
 
-done-then : (s : Progress) (k : ℕ) → s ≡ taken k → (f : ℕ → Bool) → T (ifTaken s false f) → T (f k)
+done-then : (s : Progress) (k : ℕ) → s ≡ taken k → (f : ℕ → Bool) → T (unlessTaken s false f) → T (f k)
 done-then s k e f t = subst T (taken-at s k e false f) t
 
-not-done : (s : Progress) (k : ℕ) → s ≡ taken k → T (ifDone s false true) → ⊥
-not-done s k e t = subst (λ (z : Progress). T (ifDone z false true)) e t
+not-done : (s : Progress) (k : ℕ) → s ≡ taken k → T (unlessDone s false true) → ⊥
+not-done s k e t = subst (λ (z : Progress). T (unlessDone z false true)) e t
 
-not-done-received : (s : Progress) (to : Destination) → s ≡ received to → T (ifDone s false true) → ⊥
-not-done-received s to e t = subst (λ (z : Progress). T (ifDone z false true)) e t
+not-done-received : (s : Progress) (to : Destination) → s ≡ received to → T (unlessDone s false true) → ⊥
+not-done-received s to e t = subst (λ (z : Progress). T (unlessDone z false true)) e t
 
 pub reaches-done : (p : Progresses) {X B : Behaviour} → Reaches p X B → T (isDone p B) → T (isDone p X)
 unfolding isDone
@@ -104,13 +103,13 @@ reaches-stay p q X B f s (atBranch {r} {m} k g x) =
     atBranch k (sym (f r (λ u. s .0 (branch-rows m k r (reaches-rows x r u)))) ∙ g) (reaches-stay p q X (branchAt k m) f (branch-once m k (s .1)) x)
 
 -- Another reached row W, not below X, that is not done, stays reached.
-pub record Beside (p q : Progresses) (X W : Behaviour) : Type 0 where
+pub record BesideWay (p q : Progresses) (X W : Behaviour) : Type 0 where
   pub undoneW : T (isDone p W) → ⊥
   pub undoneX : T (isDone p X) → ⊥
   pub notBelow : Reaches p W X → ⊥
   pub off : Off p q X
 
-pub reaches-keep : (p q : Progresses) (X W : Behaviour) → Beside p q X W → (B : Behaviour) → EachRowOnce B → Reaches p W B → Reaches p X B → Reaches q W B
+pub reaches-keep : (p q : Progresses) (X W : Behaviour) → BesideWay p q X W → (B : Behaviour) → EachRowOnce B → Reaches p W B → Reaches p X B → Reaches q W B
 unfolding EachRowOnce
 reaches-keep p q X W h B s atSelf x = atSelf
 reaches-keep p q X W h B s (atFirst w) atSelf = absurd (h .notBelow (atFirst w))
@@ -188,7 +187,7 @@ unfolding hasRow
 open-row {i} asking = eqb-refl i
 open-row {i} (serving {d}) = in-own i i (hasRow i d) (eqb-refl i)
 
-open-not-done : (s : Progress) → T (isOpen s) → T (ifDone s false true) → ⊥
+open-not-done : (s : Progress) → T (isOpen s) → T (unlessDone s false true) → ⊥
 open-not-done undone t d = t
 open-not-done done t d = t
 open-not-done waits t d = d
@@ -265,14 +264,14 @@ only-found P true x f g = g tt
 only-found P false x f g = f
 
 taken-found : (P : Reached → Type 0) (s : Progress) (x : Reached) (f : ℕ → Reached) → (T (notTaken s) → P x) → ((k : ℕ) → s ≡ taken k → P (f k))
-    → P (ifTaken s x f)
+    → P (unlessTaken s x f)
 taken-found P undone x f a b = a tt
 taken-found P done x f a b = a tt
 taken-found P waits x f a b = a tt
 taken-found P (received to) x f a b = a tt
 taken-found P (taken k) x f a b = b k refl
 
-received-found : (P : Reached → Type 0) (s : Progress) (x y : Reached) → P x → ((to : Destination) → s ≡ received to → P y) → P (ifReceived s x y)
+received-found : (P : Reached → Type 0) (s : Progress) (x y : Reached) → P x → ((to : Destination) → s ≡ received to → P y) → P (unlessReceived s x y)
 received-found P undone x y a b = a
 received-found P done x y a b = a
 received-found P waits x y a b = a
@@ -394,7 +393,7 @@ mutual
   reach-found p i (requestResponse r w x c d) o h =
       let ih = reach-found p i d (o .1) (h .1) in
       let B = requestResponse r w x c d in
-      here-found (Found p i B) (eqb i r) B (ifReceived (p r) unreached (reach p i d)) (self-found p i B)
+      here-found (Found p i B) (eqb i r) B (unlessReceived (p r) unreached (reach p i d)) (self-found p i B)
       (received-found (Found p i B) (p r) unreached (reach p i d) tt (λ to e. lift p i d B (λ X y. atServed to e y) (reach p i d) ih))
   reach-found p i (notification r w e) o h =
       here-found (Found p i (notification r w e)) (eqb i r) (notification r w e) unreached (self-found p i (notification r w e)) tt
@@ -404,7 +403,7 @@ mutual
       let iha = reach-found p i a (o .3) (h .2) in
       let ihb = reach-found p i b (o .4) (h .3) in
       let B = ifThenElse r e a b in
-      here-found (Found p i B) (eqb i r) B (ifTaken (p r) unreached (λ j. thenOrElse j (reach p i a) (reach p i b))) (self-found p i B)
+      here-found (Found p i B) (eqb i r) B (unlessTaken (p r) unreached (λ j. thenOrElse j (reach p i a) (reach p i b))) (self-found p i B)
       (taken-found (Found p i B) (p r) unreached (λ j. thenOrElse j (reach p i a) (reach p i b)) (λ t. tt) (λ j g. go j g iha ihb))
     where
       go : (j : ℕ) → p r ≡ taken j → Found p i a (reach p i a) → Found p i b (reach p i b)
@@ -414,7 +413,7 @@ mutual
   reach-found p i (whileDo r e b) o h =
       let ih = reach-found p i b (o .1) h in
       let B = whileDo r e b in
-      here-found (Found p i B) (eqb i r) B (ifTaken (p r) unreached (λ j. reach p i b)) (self-found p i B)
+      here-found (Found p i B) (eqb i r) B (unlessTaken (p r) unreached (λ j. reach p i b)) (self-found p i B)
       (taken-found (Found p i B) (p r) unreached (λ j. reach p i b) (λ t. tt) (λ j g. lift p i b B (λ X y. atLoop j g y) (reach p i b) ih))
   reach-found p i (sequence r a b) o h =
       let iha = reach-found p i a (o .3) (h .0) in
@@ -433,7 +432,7 @@ mutual
   reach-found p i (assign r x e) o h = here-found (Found p i (assign r x e)) (eqb i r) (assign r x e) unreached (self-found p i (assign r x e)) tt
   reach-found p i (choice r m) o h =
       let B = choice r m in
-      here-found (Found p i B) (eqb i r) B (ifTaken (p r) (orElse (offer r 0 i m) (served p i m)) (λ j. reachBranch p j i m)) (self-found p i B)
+      here-found (Found p i B) (eqb i r) B (unlessTaken (p r) (orElse (offer r 0 i m) (served p i m)) (λ j. reachBranch p j i m)) (self-found p i B)
       (taken-found (Found p i B) (p r) (orElse (offer r 0 i m) (served p i m)) (λ j. reachBranch p j i m)
       (λ t. or-found (Found p i B) (offer r 0 i m) (served p i m) (offers p r i m t (offer r 0 i m) (offer-found r i m 0))
       (subst (Found p i B) (sym (served-none p i m (h .0 t))) tt))

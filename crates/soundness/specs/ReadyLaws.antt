@@ -4,14 +4,14 @@ use Prim.Native.Nat.{ℕ, zero, suc}
 use native.Mathlib.Omega.{arith}
 use mathlib.Core.Bool.{Bool, true, false, _&&_, _||_}
 use lib.Dec.{T, eqb, eqb→eq, eqb-refl}
-use Rattle.forest.specs.Compare.{of-T, not-T-false}
-use Rattle.syntax.specs.Syntax.{Behaviour, requestResponse, ifThenElse, whileDo, sequence, parallel, choice, Branches, lastBranch, branch}
-use Rattle.syntax.specs.Rows.{rowOf, hasRow, hasRowIn, Local, assigns, decides, repeats, fromLocal}
-use Rattle.syntax.specs.ViewLaws.{own-row}
+use Rattle.basics.specs.TestLaws.{not-T-false, of-T}
+use Rattle.network_syntax.specs.Syntax.{Behaviour, requestResponse, ifThenElse, whileDo, sequence, parallel, choice, Branches, lastBranch, branch}
+use Rattle.network_syntax.specs.Rows.{rowOf, hasRow, hasRowIn, Local, assigns, decides, repeats, fromLocal}
+use Rattle.network_syntax.specs.ViewLaws.{own-row}
 use Rattle.network.specs.Shapes.{Outside, EachRowOnce, EachBranchRowOnce}
 use Rattle.state.specs.Session.{Progress, Progresses, received, taken}
-use Rattle.moves.specs.Readiness.{ifReceived, ifTaken, thenOrElse, isDone, Reached, unreached, reached, offered, here, orElse, onlyIf, offer, reach}
-use Rattle.moves.specs.Readiness.{reachBranch, served}
+use Rattle.move_rules.specs.Readiness.{unlessReceived, unlessTaken, thenOrElse, isDone, Reached, unreached, reached, offered, here, orElse, onlyIf, offer, reach}
+use Rattle.move_rules.specs.Readiness.{reachBranch, served}
 use Rattle.soundness.specs.Parts.{branchAt, Clean, CleanBranches, Reaches, atSelf, atFirst, atSecond, atLeft, atRight, atThen, atElse, atLoop}
 use Rattle.soundness.specs.Parts.{atServed, atBranch}
 use Rattle.soundness.specs.RowLaws.{in-first, in-branches, taken-at, branch-rows, branch-once, branch-clean, reaches-rows}
@@ -116,25 +116,25 @@ reach-complete p X B f s c (atRight {r} {a} {b} h) =
     ∙ or-next (reach p i a) (reach p i b) X (reach-outside p i a (s .3) (c .0) (λ t. s .2 i t ib)) (reach-complete p X b f (s .4) (c .1) h)
 reach-complete p X B f s c (atThen {r} {e} {a} {b} g h) =
     let i = rowOf X in
-    here-other i r (ifThenElse r e a b) (ifTaken (p r) unreached (λ k. thenOrElse k (reach p i a) (reach p i b)))
+    here-other i r (ifThenElse r e a b) (unlessTaken (p r) unreached (λ k. thenOrElse k (reach p i a) (reach p i b)))
     (row-other i r a (s .0) (reaches-rows h i (own-row X)))
     ∙ (taken-at (p r) zero g unreached (λ k. thenOrElse k (reach p i a) (reach p i b)) ∙ reach-complete p X a f (s .3) (c .2) h)
 reach-complete p X B f s c (atElse {r} {e} {a} {b} k g h) =
     let i = rowOf X in
-    here-other i r (ifThenElse r e a b) (ifTaken (p r) unreached (λ k. thenOrElse k (reach p i a) (reach p i b)))
+    here-other i r (ifThenElse r e a b) (unlessTaken (p r) unreached (λ k. thenOrElse k (reach p i a) (reach p i b)))
     (row-other i r b (s .1) (reaches-rows h i (own-row X)))
     ∙ (taken-at (p r) (suc k) g unreached (λ k. thenOrElse k (reach p i a) (reach p i b)) ∙ reach-complete p X b f (s .4) (c .3) h)
 reach-complete p X B f s c (atLoop {r} {e} {b} k g h) =
     let i = rowOf X in
-    here-other i r (whileDo r e b) (ifTaken (p r) unreached (λ k. reach p i b)) (row-other i r b (s .0) (reaches-rows h i (own-row X)))
+    here-other i r (whileDo r e b) (unlessTaken (p r) unreached (λ k. reach p i b)) (row-other i r b (s .0) (reaches-rows h i (own-row X)))
     ∙ (taken-at (p r) k g unreached (λ k. reach p i b) ∙ reach-complete p X b f (s .1) c h)
 reach-complete p X B f s w (atServed {r} {o} {x} {c} {d} to g h) =
     let i = rowOf X in
-    here-other i r (requestResponse r o x c d) (ifReceived (p r) unreached (reach p i d)) (row-other i r d (s .0) (reaches-rows h i (own-row X)))
-    ∙ (ap (λ (z : Progress). ifReceived z unreached (reach p i d)) g ∙ reach-complete p X d f (s .1) (w .1) h)
+    here-other i r (requestResponse r o x c d) (unlessReceived (p r) unreached (reach p i d)) (row-other i r d (s .0) (reaches-rows h i (own-row X)))
+    ∙ (ap (λ (z : Progress). unlessReceived z unreached (reach p i d)) g ∙ reach-complete p X d f (s .1) (w .1) h)
 reach-complete p X B f s c (atBranch {r} {m} k g h) =
     let i = rowOf X in
-    here-other i r (choice r m) (ifTaken (p r) (orElse (offer r 0 i m) (served p i m)) (λ k. reachBranch p k i m))
+    here-other i r (choice r m) (unlessTaken (p r) (orElse (offer r 0 i m) (served p i m)) (λ k. reachBranch p k i m))
     (row-other-in i r m (s .0) (branch-rows m k i (reaches-rows h i (own-row X))))
     ∙ (taken-at (p r) k g (orElse (offer r 0 i m) (served p i m)) (λ k. reachBranch p k i m)
     ∙ branch-reach p X m k i (f .noSequence)

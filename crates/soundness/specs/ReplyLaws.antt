@@ -4,33 +4,35 @@ use Prim.Native.Nat.{ℕ}
 use mathlib.Core.Bool.{Bool, true, false}
 use mathlib.Core.List.{List, [], _++_}
 use lib.Dec.{T, eqb, eqb→eq}
-use Rattle.forest.specs.Forest.{Tree, tree, present}
-use Rattle.forest.specs.Path.{Path, read, replaceAt}
-use Rattle.scalar.specs.Value.{Value, pick}
-use Rattle.syntax.specs.Syntax.{Optional, none, some, Network, Operation, input, output, Expression, Behaviour, requestResponse}
-use Rattle.syntax.specs.Syntax.{solicitResponse}
-use Rattle.syntax.specs.Rows.{rowOf, atRow, Response, Input, inputOf, fromInput, Output, outputOf, fromOutput}
-use Rattle.syntax.specs.Meets.{inFile}
+use Rattle.tree_forest.specs.Forest.{Tree, tree, present}
+use Rattle.tree_forest.specs.Path.{Path, read, replaceAt}
+use Rattle.scalar.specs.Value.{Value}
+use Rattle.basics.specs.Choice.{pick}
+use Rattle.network_syntax.specs.Syntax.{Optional, none, some, Network, Operation, input, output, Expression, Behaviour, requestResponse}
+use Rattle.network_syntax.specs.Syntax.{solicitResponse}
+use Rattle.network_syntax.specs.Rows.{rowOf, atRow, Response, Input, inputOf, fromInput, Output, outputOf, fromOutput}
+use Rattle.network_syntax.specs.Meets.{inFile}
 use Rattle.refusal.specs.declared.Refusal.the-variants.{MoveNotAllowed}
-use Rattle.subtyping.specs.SubtypeLaws.{subtype-sound, subtype-trans}
-use Rattle.subtyping.specs.Own.{ownType, Fits}
-use Rattle.typing.specs.Rules.{permits}
+use Rattle.check_subtyping.specs.SubtypeLaws.{subtype-sound, subtype-trans}
+use Rattle.check_subtyping.specs.Own.{ownType, Fits}
+use Rattle.check_typing.specs.Rules.{permits}
 use Rattle.tree.specs.Encode.{Octets}
 use Rattle.tree.specs.Decode.{decodeMessage}
 use Rattle.state.specs.Session.{Destination, outsider, waitingRow, Progress, Progresses, done, waits, received, advance, Session, withTree, withProgress, live, State}
 use Rattle.state.specs.Bytes.{messageBytes, u32Bytes}
 use Rattle.state.specs.Shape.{behaviourIn}
-use Rattle.moves.specs.Readiness.{isDone}
-use Rattle.moves.specs.Moves.{Result, moved, notAllowed, require, onFound, onMessage, voidValue, saveWithin, mustFit}
-use Rattle.moves.specs.Moves.{onWaitingOutput, onWaitingRow, takeReply, goneOn, replyTo, replyBy, replyAt, replyMove, outerReply}
+use Rattle.move_rules.specs.Readiness.{isDone}
+use Rattle.move_rules.specs.Moves.{Result, moved, notAllowed, require, onFound, onMessage, saveWithin, mustFit}
+use Rattle.scalar.specs.Value.{voidValue}
+use Rattle.move_rules.specs.Moves.{onWaitingOutput, onWaitingRow, takeReply, goneOn, replyTo, replyBy, replyAt, replyMove, outerReplyMove}
 use Rattle.soundness.specs.GoodTrees.{GoodTree}
 use Rattle.soundness.specs.Parts.{Reaches}
 use Rattle.soundness.specs.Parts.{isOpen, Opens, asking, serving}
 use Rattle.soundness.specs.Accepted.{OfFile, MadeOf, Accepted}
 use Rattle.soundness.specs.MadeLaws.{made-at, Plain, plain-request, plain-solicit, reaches-atRow, atRow-row}
-use Rattle.syntax.specs.ViewLaws.{some-inj, input-is, output-is}
+use Rattle.network_syntax.specs.ViewLaws.{some-inj, input-is, output-is}
 use Rattle.soundness.specs.Invariant.{SessionSound, Sound}
-use Rattle.soundness.specs.SessionLaws.{once-of, made-of, advance-other, answer-sound, waiting-sound, waits-received}
+use Rattle.soundness.specs.SessionLaws.{once-of, made-of, advance-apart, answer-sound, waiting-sound, waits-received}
 use Rattle.soundness.specs.ResultLaws.{Keeps, goes-keeps, keeps-15, by-require, by-received, by-waiting, by-session, by-live, by-message}
 use Rattle.soundness.specs.ResultLaws.{live-inj, set-elim, by-pick, keeps-found, keeps-fit, outside-fit, sound-set}
 use Rattle.soundness.specs.LocalLaws.{save-goes}
@@ -144,7 +146,7 @@ module _ (N : Network) (rows : ℕ) (acc : Accepted N rows) where
             let sameS : S2 ≡ S = live-inj (sym eS2 ∙ (subst (λ (z : ℕ). G z n2 ≡ live S) (sym a) (subst (λ (z : ℕ). G q z ≡ live S) (sym b) eS))) in
             let ew2 : p r2 ≡ waits = subst (λ (z : Session). z .progress r2 ≡ waits) sameS ew in
             let other : T (eqb r2 r) → ⊥ = λ z. waits-received (sym ew2 ∙ (ap p (eqb→eq r2 r z) ∙ t)) in
-            subst (λ (z : Session). z .progress r2 ≡ waits) (live-inj c3) (sym (advance-other p r done r2 other) ∙ ew2))
+            subst (λ (z : Session). z .progress r2 ≡ waits) (live-inj c3) (sym (advance-apart p r done r2 other) ∙ ew2))
             (λ g. subst (λ (z : Session). z .progress r2 ≡ waits) (live-inj (sym eS2 ∙ g)) ew) e3)))))
 
     reply-by : (r r2 : ℕ) (o : Operation) (x : Path) (a : Optional Response)
@@ -180,7 +182,7 @@ module _ (N : Network) (rows : ℕ) (acc : Accepted N rows) where
       (reply-at G hG q n S eS h r (atRow r (h .what)) refl))
 
   -- A reply from outside, of bytes.
-  pub outside-reply-move : (G : State) → Sound N rows G → (q n r : ℕ) (bytes : List ℕ) → Octets bytes → Keeps N rows false (outerReply N G q n r bytes)
+  pub outside-reply-move : (G : State) → Sound N rows G → (q n r : ℕ) (bytes : List ℕ) → Octets bytes → Keeps N rows false (outerReplyMove N G q n r bytes)
   outside-reply-move G hG q n r bytes oct =
       let K : Operation → Path → Result = λ o x. pick (inFile N (o .location)) notAllowed
       (onMessage (decodeMessage bytes) (λ m. mustFit m (o .reply) (takeReply G q n r x m))) in

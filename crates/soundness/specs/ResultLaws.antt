@@ -4,44 +4,45 @@ use Prim.Native.Nat.{ℕ, _+_, max}
 use mathlib.Core.Bool.{Bool, true, false, _&&_}
 use native.Mathlib.Omega.{arith}
 use lib.Dec.{T, eqb, leb, eqb→eq, le→leb}
-use Rattle.forest.specs.Compare.{of-T, not-T-false, and-r, and-i}
-use Rattle.forest.specs.Forest.{Tree, tree, Lookup, absent, present, RisingTree, nodes, levels}
+use Rattle.tree_forest.specs.Forest.{Tree, tree, Lookup, absent, present, RisingTree, nodes, levels}
 use Rattle.scalar.specs.Basic.{bool}
-use Rattle.scalar.specs.Value.{Value, value, basicOf, pick, number}
-use Rattle.syntax.specs.Syntax.{MessageType, Optional, none, some, Network, Operation, Behaviour}
+use Rattle.scalar.specs.Value.{Value, value, basicOf, unsignedOf}
+use Rattle.basics.specs.Choice.{pick}
+use Rattle.basics.specs.TestLaws.{and-i, and-r, not-T-false, of-T}
+use Rattle.network_syntax.specs.Syntax.{MessageType, Optional, none, some, Network, Operation, Behaviour}
 use Rattle.refusal.specs.declared.Refusal.{Refusal}
 use Rattle.refusal.specs.declared.Refusal.the-variants.{MoveNotAllowed, QueueFull, NoMessage, Stuck, MessageMisfit}
 use Rattle.refusal.specs.Refusal.{numberOf}
-use Rattle.subtyping.specs.SubtypeLaws.{subtype-complete}
-use Rattle.subtyping.specs.Own.{ownType, Fits, fits}
-use Rattle.subtyping.specs.OwnLaws.{tree-within, own-rising}
-use Rattle.typing.specs.EnvironmentLaws.{sums, maxima}
-use Rattle.typing.specs.TypedLaws.{by-bool}
-use Rattle.tree.specs.Encode.{messageDeep, messageMany}
+use Rattle.check_subtyping.specs.SubtypeLaws.{subtype-complete}
+use Rattle.check_subtyping.specs.Own.{ownType, Fits, fits}
+use Rattle.check_subtyping.specs.OwnLaws.{tree-within, own-rising}
+use Rattle.check_typing.specs.EnvironmentLaws.{sums, maxima}
+use Rattle.check_typing.specs.TypedLaws.{by-bool}
+use Rattle.tree_forest.specs.Limits.{messageLevelsBelow, messageNodesBelow}
 use Rattle.state.specs.Session.{Destination, Progress, undone, done, waits, received, taken, Session, Slot, free, live, State, setSlot}
 use Rattle.state.specs.Shape.{behaviourIn}
-use Rattle.moves.specs.Evaluation.{Evaluation, given}
-use Rattle.moves.specs.Moves.{Result, refused, moved, notAllowed, require, onTree, onFound, onBool, onLive, onBehaviour, onOperation, inSession}
-use Rattle.moves.specs.Moves.{ifUndone, ifWaiting, onReceived, onMessage, isMessageTree, mustFit}
+use Rattle.move_rules.specs.Evaluation.{Evaluation, given}
+use Rattle.move_rules.specs.Moves.{Result, refused, moved, notAllowed, require, onTree, onFound, onBool, onLive, onBehaviour, onOperation, inSession}
+use Rattle.move_rules.specs.Moves.{ifUndone, ifWaiting, onReceived, onMessage, isMessageTree, mustFit}
 use Rattle.soundness.specs.GoodTrees.{GoodTree}
 use Rattle.soundness.specs.Accepted.{SmallType}
 use Rattle.soundness.specs.Invariant.{SessionSound, Sound}
 
 -- A refusal that may come from fresh: not 18, and, of a send or reply, not 19.
-pub record Allowed (strict : Bool) (why : Refusal) : Type 0 where
+pub record Tolerated (strict : Bool) (why : Refusal) : Type 0 where
   pub not18 : numberOf why ≡ 18 → ⊥
   pub not19 : T strict → numberOf why ≡ 19 → ⊥
 
-allowed-15 : (strict : Bool) → Allowed strict MoveNotAllowed
+allowed-15 : (strict : Bool) → Tolerated strict MoveNotAllowed
 allowed-15 strict = record { not18 = λ e. omega arith; not19 = λ t e. omega arith }
 
-pub allowed-16 : (strict : Bool) → Allowed strict QueueFull
+pub allowed-16 : (strict : Bool) → Tolerated strict QueueFull
 allowed-16 strict = record { not18 = λ e. omega arith; not19 = λ t e. omega arith }
 
-allowed-17 : (strict : Bool) → Allowed strict NoMessage
+allowed-17 : (strict : Bool) → Tolerated strict NoMessage
 allowed-17 strict = record { not18 = λ e. omega arith; not19 = λ t e. omega arith }
 
-pub allowed-19 : Allowed false MessageMisfit
+pub allowed-19 : Tolerated false MessageMisfit
 allowed-19 = record { not18 = λ e. omega arith; not19 = λ t e. absurd t }
 
 pub live-inj : {a b : Session} → live a ≡ live b → a ≡ b
@@ -63,7 +64,7 @@ set-elim G q n x i j y f g e =
 
 module _ (N : Network) (rows : ℕ) where
   abbrev pub Keeps : Bool → Result → Type 0
-  Keeps strict (refused why) = Allowed strict why
+  Keeps strict (refused why) = Tolerated strict why
   Keeps strict (moved G out) = Sound N rows G
 
   -- It is made, and the state after it is sound.
@@ -143,7 +144,7 @@ module _ (N : Network) (rows : ℕ) where
 
   pub at-bool : (v : Value) (k : Bool → Result) → basicOf v ≡ bool → ((c : Bool) → Goes (k c)) → Goes (onBool v k)
   at-bool (value b w) k e f =
-      at-require (eqb b bool) Stuck (k (eqb (number w) 1)) (subst (λ (z : ℕ). T (eqb z bool)) (sym e) tt) (f (eqb (number w) 1))
+      at-require (eqb b bool) Stuck (k (eqb (unsignedOf w) 1)) (subst (λ (z : ℕ). T (eqb z bool)) (sym e) tt) (f (eqb (unsignedOf w) 1))
 
   -- A tree that fits a type of the file is a message, and passes the test.
   fit-test : (m : Tree Value) (t : MessageType) → GoodTree m → RisingTree t → SmallType t → Fits m t → T (isMessageTree m && fits m t)
@@ -151,8 +152,8 @@ module _ (N : Network) (rows : ℕ) where
       let few = tree-within (_+_) sums k l (g .1 .0) rt (f .children) in
       let low = tree-within max maxima k l (g .1 .0) rt (f .children) in
       and-i (isMessageTree (tree v k)) (fits (tree v k) (tree a l))
-      (and-i (leb (levels k) messageDeep) (leb (nodes k) messageMany) (le→leb (levels k) messageDeep (let z = st .0 in omega arith))
-      (le→leb (nodes k) messageMany (let z = st .1 in omega arith)))
+      (and-i (leb (levels k) messageLevelsBelow) (leb (nodes k) messageNodesBelow) (le→leb (levels k) messageLevelsBelow (let z = st .0 in omega arith))
+      (le→leb (nodes k) messageNodesBelow (let z = st .1 in omega arith)))
       (subtype-complete (ownType (tree v k)) (tree a l) (own-rising k (g .1 .0)) rt f)
 
   pub at-fit : (m : Tree Value) (t : MessageType) (r : Result) → GoodTree m → RisingTree t → SmallType t → Fits m t → Goes r → Goes (mustFit m t r)

@@ -3,14 +3,14 @@ use mathlib.Core.Path.{_≡_, refl, sym, ap, subst, _∙_}
 use Prim.Native.Nat.{ℕ, zero, suc}
 use mathlib.Core.Bool.{Bool, true, false, _&&_, _||_}
 use lib.Dec.{T, eqb, eqb-refl}
-use Rattle.forest.specs.Path.{Path}
-use Rattle.syntax.specs.Syntax.{Expression, Operation, Behaviour, nil, oneWay, requestResponse, notification, solicitResponse, ifThenElse, whileDo}
-use Rattle.syntax.specs.Syntax.{sequence, parallel, assign, choice, waiting, answering, Branches, lastBranch, branch}
-use Rattle.syntax.specs.Rows.{hasRow, hasRowIn}
+use Rattle.basics.specs.TestLaws.{and-false, or-l, or-r}
+use Rattle.tree_forest.specs.Path.{Path}
+use Rattle.network_syntax.specs.Syntax.{Expression, Operation, Behaviour, nil, oneWay, requestResponse, notification, solicitResponse, ifThenElse, whileDo}
+use Rattle.network_syntax.specs.Syntax.{sequence, parallel, assign, choice, waiting, answering, Branches, lastBranch, branch}
+use Rattle.network_syntax.specs.Rows.{hasRow, hasRowIn}
 use Rattle.network.specs.Shapes.{EachRowOnce, EachBranchRowOnce}
-use Rattle.typing.specs.OccursLaws.{or-l, or-r}
 use Rattle.state.specs.Session.{Progress, Progresses, Destination, undone, done, waits, received, taken}
-use Rattle.moves.specs.Readiness.{ifDone, ifWaits, ifReceived, ifTaken, thenOrElse, firstOr, isDone, branchDone, rest, branchRest}
+use Rattle.move_rules.specs.Readiness.{unlessDone, unlessWaits, unlessReceived, unlessTaken, thenOrElse, firstOr, isDone, branchDone, rest, branchRest}
 use Rattle.soundness.specs.Parts.{branchAt, Fresh, Clean, CleanBranches, Reaches, atSelf, atFirst, atSecond, atLeft, atRight, atThen, atElse, atLoop}
 use Rattle.soundness.specs.Parts.{atServed, atBranch}
 use Rattle.soundness.specs.ContextLaws.{finished, Active, itself, inFirst, inSecond, onLeft, onRight, inBody}
@@ -41,10 +41,10 @@ pub in-others : (i r : ℕ) (a b : Behaviour) (m : Branches) → T (hasRowIn i m
 in-others i r a b m t = or-r (eqb i r) _ (or-r (hasRow i a || hasRow i b) (hasRowIn i m) t)
 
 -- Case pickers at a known progress.
-pub taken-at : {A : Type 0} (s : Progress) (k : ℕ) → s ≡ taken k → (x : A) (f : ℕ → A) → ifTaken s x f ≡ f k
-taken-at s k e x f = ap (λ (z : Progress). ifTaken z x f) e
+pub taken-at : {A : Type 0} (s : Progress) (k : ℕ) → s ≡ taken k → (x : A) (f : ℕ → A) → unlessTaken s x f ≡ f k
+taken-at s k e x f = ap (λ (z : Progress). unlessTaken z x f) e
 
-pub taken-same : {A : Type 0} (s : Progress) (x y : A) (f g : ℕ → A) → x ≡ y → ((j : ℕ) → f j ≡ g j) → ifTaken s x f ≡ ifTaken s y g
+pub taken-same : {A : Type 0} (s : Progress) (x y : A) (f g : ℕ → A) → x ≡ y → ((j : ℕ) → f j ≡ g j) → unlessTaken s x f ≡ unlessTaken s y g
 taken-same undone x y f g e h = e
 taken-same done x y f g e h = e
 taken-same waits x y f g e h = e
@@ -93,7 +93,7 @@ branch-clean (branch r a b m) (suc k) p c = branch-clean m k p (c .2)
 
 -- Done is what the rest says -------------------------------------------------------------------------------------------------------
 
-done-leaf : (s : Progress) (r : ℕ) (b : Behaviour) → finished b ≡ false → ifDone s false true ≡ finished (ifDone s b (nil r))
+done-leaf : (s : Progress) (r : ℕ) (b : Behaviour) → finished b ≡ false → unlessDone s false true ≡ finished (unlessDone s b (nil r))
 unfolding finished
 done-leaf undone r b e = sym e
 done-leaf done r b e = refl
@@ -102,16 +102,12 @@ done-leaf (received to) r b e = sym e
 done-leaf (taken k) r b e = sym e
 
 done-taken : (s : Progress) (b : Behaviour) (f : ℕ → Bool) (g : ℕ → Behaviour) → finished b ≡ false → ((j : ℕ) → f j ≡ finished (g j))
-    → ifTaken s false f ≡ finished (ifTaken s b g)
+    → unlessTaken s false f ≡ finished (unlessTaken s b g)
 done-taken undone b f g e h = sym e
 done-taken done b f g e h = sym e
 done-taken waits b f g e h = sym e
 done-taken (received to) b f g e h = sym e
 done-taken (taken k) b f g e h = h k
-
-and-false : (b : Bool) → (b && false) ≡ false
-and-false true = refl
-and-false false = refl
 
 both : (a b c d : Bool) → a ≡ c → b ≡ d → (a && b) ≡ (c && d)
 both a b c d e f = rw (e, f)
@@ -124,7 +120,7 @@ mutual
   done-rest (oneWay r o x) p = done-leaf (p r) r (oneWay r o x) refl
   done-rest (requestResponse r o x c d) p = go (p r)
     where
-      go : (s : Progress) → ifDone s false true ≡ finished (ifDone s (ifReceived s (requestResponse r o x c d) (answering r o c (rest p d))) (nil r))
+      go : (s : Progress) → unlessDone s false true ≡ finished (unlessDone s (unlessReceived s (requestResponse r o x c d) (answering r o c (rest p d))) (nil r))
       go undone = refl
       go done = refl
       go waits = refl
@@ -133,7 +129,7 @@ mutual
   done-rest (notification r o e) p = done-leaf (p r) r (notification r o e) refl
   done-rest (solicitResponse r o e x) p = go (p r)
     where
-      go : (s : Progress) → ifDone s false true ≡ finished (ifDone s (ifWaits s (solicitResponse r o e x) (waiting r o x)) (nil r))
+      go : (s : Progress) → unlessDone s false true ≡ finished (unlessDone s (unlessWaits s (solicitResponse r o e x) (waiting r o x)) (nil r))
       go undone = refl
       go done = refl
       go waits = refl
@@ -150,7 +146,7 @@ mutual
   done-rest (whileDo r e b) p = go (p r)
     where
       go : (s : Progress)
-          → ifDone s false true ≡ finished (ifDone s (ifTaken s (whileDo r e b) (λ j. sequence r (rest p b) (whileDo r e b))) (nil r))
+          → unlessDone s false true ≡ finished (unlessDone s (unlessTaken s (whileDo r e b) (λ j. sequence r (rest p b) (whileDo r e b))) (nil r))
       go undone = refl
       go done = refl
       go waits = refl
@@ -193,7 +189,7 @@ mutual
       rw (rest-same a p q (λ i t. h i (in-first i r a b t)), rest-same b p q (λ i t. h i (in-second i r a b t)))
   rest-same (assign r x e) p q h = rw (h r (eqb-refl r))
   rest-same (choice r m) p q h =
-      ap (λ (s : Progress). ifTaken s (choice r m) (λ j. branchRest p j m)) (h r (in-own r r (hasRowIn r m) (eqb-refl r)))
+      ap (λ (s : Progress). unlessTaken s (choice r m) (λ j. branchRest p j m)) (h r (in-own r r (hasRowIn r m) (eqb-refl r)))
       ∙ taken-same (q r) (choice r m) (choice r m) (λ j. branchRest p j m) (λ j. branchRest q j m) refl
       (λ j. branch-rest-same m j p q (λ i t. h i (in-branches i r m t)))
   rest-same (waiting r o x) p q h = refl
@@ -227,7 +223,7 @@ rest-fresh (sequence r a b) p h =
 rest-fresh (parallel r a b) p h =
     rw (rest-fresh a p (λ i t. h i (in-first i r a b t)), rest-fresh b p (λ i t. h i (in-second i r a b t)))
 rest-fresh (assign r x e) p h = rw (h r (eqb-refl r))
-rest-fresh (choice r m) p h = ap (λ (z : Progress). ifTaken z (choice r m) (λ j. branchRest p j m)) (h r (in-own r r (hasRowIn r m) (eqb-refl r)))
+rest-fresh (choice r m) p h = ap (λ (z : Progress). unlessTaken z (choice r m) (λ j. branchRest p j m)) (h r (in-own r r (hasRowIn r m) (eqb-refl r)))
 rest-fresh (waiting r o x) p h = refl
 rest-fresh (answering r o c d) p h = refl
 
@@ -262,13 +258,13 @@ pub rest-loop : (p : Progresses) (r : ℕ) (e : Expression) (b : Behaviour) (k :
     → rest p (whileDo r e b) ≡ sequence r (rest p b) (whileDo r e b)
 unfolding rest
 rest-loop p r e b k g =
-    ap (λ (s : Progress). ifDone s (ifTaken s (whileDo r e b) (λ j. sequence r (rest p b) (whileDo r e b))) (nil r)) g
+    ap (λ (s : Progress). unlessDone s (unlessTaken s (whileDo r e b) (λ j. sequence r (rest p b) (whileDo r e b))) (nil r)) g
 
 pub rest-served : (p : Progresses) (r : ℕ) (o : Operation) (x c : Path) (d : Behaviour) (to : Destination) → p r ≡ received to
     → rest p (requestResponse r o x c d) ≡ answering r o c (rest p d)
 unfolding rest
 rest-served p r o x c d to g =
-    ap (λ (s : Progress). ifDone s (ifReceived s (requestResponse r o x c d) (answering r o c (rest p d))) (nil r)) g
+    ap (λ (s : Progress). unlessDone s (unlessReceived s (requestResponse r o x c d) (answering r o c (rest p d))) (nil r)) g
 
 pub rest-branch : (p : Progresses) (r : ℕ) (m : Branches) (k : ℕ) → p r ≡ taken k → rest p (choice r m) ≡ rest p (branchAt k m)
 unfolding rest

@@ -3,11 +3,11 @@ use mathlib.Core.List.{List, [], _∷_}
 use Prim.Native.Nat.{ℕ}
 use lib.Dec.{T, leb}
 use lib.ListN.{length}
-use Rattle.syntax.specs.Syntax.{Network}
+use Rattle.network_syntax.specs.Syntax.{Network}
 use Rattle.refusal.specs.Refusal.{numberOf}
 use Rattle.state.specs.Session.{State}
-use Rattle.moves.specs.Moves.{Result, refused, moved, move}
-use Rattle.moves.specs.Step.{step}
+use Rattle.move_rules.specs.Moves.{Result, refused, moved, move}
+use Rattle.move_rules.specs.Step.{step}
 use Rattle.soundness.specs.Property3.{Turn, numberOfNext}
 
 -- What a move gives: its number, and the state after it.

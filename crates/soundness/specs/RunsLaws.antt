@@ -5,22 +5,22 @@ use mathlib.Core.List.{List, [], _∷_}
 use Prim.Native.Nat.{ℕ}
 use lib.Dec.{T, leb}
 use lib.ListN.{length}
-use Rattle.forest.specs.Compare.{of-T}
-use Rattle.scalar.specs.Value.{pick}
+use Rattle.basics.specs.Choice.{pick}
+use Rattle.basics.specs.TestLaws.{of-T}
 use Rattle.refusal.specs.declared.Refusal.the-variants.{BufferSize}
-use Rattle.refusal.specs.Refusal.{number as outcomeNumber}
+use Rattle.refusal.specs.Refusal.{outcomeNumber}
 use Rattle.network.specs.Layout.{behaviourCount}
 use Rattle.network.specs.Decode.{networkOf}
-use Rattle.syntax.specs.Syntax.{Network}
+use Rattle.network_syntax.specs.Syntax.{Network}
 use Rattle.state.specs.Session.{State}
 use Rattle.state.specs.Bytes.{stateBytes}
 use Rattle.state.specs.Shape.{freshState}
-use Rattle.moves.specs.Moves.{Result, refused, moved, move}
-use Rattle.moves.specs.Step.{Step, refuse, finish, step}
+use Rattle.move_rules.specs.Moves.{Result, refused, moved, move}
+use Rattle.move_rules.specs.Step.{Step, refuse, finish, step}
 use Rattle.soundness.specs.Invariant.{Sound}
 use Rattle.soundness.specs.ResultLaws.{Keeps}
 use Rattle.soundness.specs.FreshLaws.{fresh-sound}
-use Rattle.moves.specs.Fresh.{freshBytes}
+use Rattle.move_rules.specs.Fresh.{freshBytes}
 use Rattle.soundness.specs.Property3.{Turn, AllGiven, AcceptedFile, numberOfNext, sendsOrReplies}
 use Rattle.soundness.specs.Property3Laws.{network, move-keeps, step-is}
 use Rattle.soundness.specs.Runs.{given, stateAfter, numbers, numbersOnBytes, AllRoomy}

@@ -5,60 +5,62 @@ use mathlib.Core.Bool.{Bool, true, false, _&&_}
 use mathlib.Core.List.{List}
 use lib.Dec.{T, eqb, leb, ltb, eqb→eq, eqb-refl, le→leb, lt→ltb}
 use lib.ListN.{length}
-use Rattle.forest.specs.Compare.{and-l, and-r, and-i}
-use Rattle.forest.specs.Forest.{Tree, tree, present}
-use Rattle.forest.specs.Path.{Path}
-use Rattle.scalar.specs.Value.{Value, pick}
-use Rattle.syntax.specs.Syntax.{Optional, none, some, Network, Direction, Operation, output, Expression, Behaviour, notification, solicitResponse}
-use Rattle.syntax.specs.Rows.{rowOf, atRow, Output, outputOf, fromOutput, isInputOperation}
-use Rattle.syntax.specs.Meets.{inFile, metInput}
+use Rattle.tree_forest.specs.Forest.{Tree, tree, present}
+use Rattle.tree_forest.specs.Path.{Path}
+use Rattle.scalar.specs.Value.{Value}
+use Rattle.basics.specs.Choice.{pick}
+use Rattle.basics.specs.TestLaws.{and-i, and-l, and-r}
+use Rattle.network_syntax.specs.Syntax.{Optional, none, some, Network, Direction, Operation, output, Expression, Behaviour, notification, solicitResponse}
+use Rattle.network_syntax.specs.Rows.{rowOf, atRow, Output, outputOf, fromOutput, isInputOperation}
+use Rattle.network_syntax.specs.Meets.{inFile, metInput}
 use Rattle.network.specs.MeetsLaws.{met-input, met-entry}
 use Rattle.refusal.specs.declared.Refusal.the-variants.{MoveNotAllowed}
-use Rattle.subtyping.specs.Subtype.{Subtype}
-use Rattle.subtyping.specs.SubtypeLaws.{subtype-sound, subtype-trans}
-use Rattle.subtyping.specs.Own.{ownType, Fits}
-use Rattle.typing.specs.Rules.{permits}
-use Rattle.typing.specs.NetworkRules.{Agrees}
-use Rattle.tree.specs.Encode.{Octets, messageDeep, messageMany}
+use Rattle.check_subtyping.specs.Subtype.{Subtype}
+use Rattle.check_subtyping.specs.SubtypeLaws.{subtype-sound, subtype-trans}
+use Rattle.check_subtyping.specs.Own.{ownType, Fits}
+use Rattle.check_typing.specs.Rules.{permits}
+use Rattle.check_typing.specs.NetworkRules.{Agrees}
+use Rattle.tree.specs.Encode.{Octets}
+use Rattle.tree_forest.specs.Limits.{messageLevelsBelow, messageNodesBelow}
 use Rattle.tree.specs.Decode.{decodeMessage}
 use Rattle.tree.specs.DecodeLaws.{decode-sound}
 use Rattle.state.specs.Session.{Destination, outsider, waitingRow, Progress, Progresses, done, waits, advance, Session, withProgress, live, State}
 use Rattle.state.specs.Session.{setSlot}
 use Rattle.state.specs.Bytes.{messageBytes}
-use Rattle.state.specs.Shape.{operationAt, suitsReply, suitsOperation}
-use Rattle.moves.specs.Readiness.{Reached, unreached, reached, offered, reach}
-use Rattle.moves.specs.Evaluation.{given, evaluate}
-use Rattle.moves.specs.Targets.{Target, noTarget, queueFull, queued, starts, target}
-use Rattle.moves.specs.Moves.{Result, moved, require, onTree, onOperation, onMessage, mustFit, deliver, goneOn, admit, sendInside}
-use Rattle.moves.specs.Moves.{sendOutside, sendBy, sendOutput, sendAt, sendReached, sendMove, isInputNamed, inputNamed, outerMessage}
+use Rattle.state.specs.Shape.{operationOfRow, suitsReply, suitsOperation}
+use Rattle.move_rules.specs.Readiness.{Reached, unreached, reached, offered, reach}
+use Rattle.move_rules.specs.Evaluation.{given, evaluate}
+use Rattle.move_rules.specs.Targets.{Target, noTarget, queueFull, queued, starts, target}
+use Rattle.move_rules.specs.Moves.{Result, moved, require, onTree, onOperation, onMessage, mustFit, deliver, goneOn, admit, sendInside}
+use Rattle.move_rules.specs.Moves.{sendOutside, sendBy, sendOutput, sendAt, sendReached, sendMove, isInputNamed, inputNamed, outerMessageMove}
 use Rattle.soundness.specs.GoodTrees.{GoodTree}
 use Rattle.soundness.specs.Parts.{Reaches}
 use Rattle.soundness.specs.ReachLaws.{Found, reach-found}
 use Rattle.soundness.specs.Accepted.{OfFile, MadeOf, Accepted}
 use Rattle.soundness.specs.MadeLaws.{made-at, plain-solicit, reaches-atRow}
-use Rattle.syntax.specs.ViewLaws.{some-inj, output-is}
+use Rattle.network_syntax.specs.ViewLaws.{some-inj, output-is}
 use Rattle.soundness.specs.Invariant.{RepliesFit, SessionSound, Sound}
 use Rattle.soundness.specs.SessionLaws.{once-of, made-of, notification-sound, solicit-sound}
 use Rattle.soundness.specs.ResultLaws.{Keeps, keeps-15, by-require, by-undone, by-session, by-operation, by-message, by-pick, keeps-tree}
 use Rattle.soundness.specs.ResultLaws.{live-inj, set-elim, keeps-fit, outside-fit, sound-set}
 use Rattle.soundness.specs.LocalLaws.{permits-one, permits-two, permits-output, message-good}
-use Rattle.soundness.specs.DeliverLaws.{TargetInfo, target-info, Admits, allowed-keeps, deliver-keeps, first-there, behaviour-place}
+use Rattle.soundness.specs.DeliverLaws.{TargetInfo, target-info, LetsPass, allowed-keeps, deliver-keeps, first-there, behaviour-place}
 
 solicit-same : {r r2 : ℕ} {o o2 : Operation} {e e2 : Expression} {x x2 : Path} → solicitResponse r o e x ≡ solicitResponse r2 o2 e2 x2 → o ≡ o2
 solicit-same h = cc
 
 module _ (N : Network) (rows : ℕ) (acc : Accepted N rows) where
   -- An operation found among the file's.
-  pub of-file : (w : ℕ) (i : Operation) → operationAt (N .operations) w ≡ some i → OfFile N i
-  of-file w i e = ap (operationAt (N .operations)) (acc .operations w i e .row) ∙ e
+  pub of-file : (w : ℕ) (i : Operation) → operationOfRow (N .operations) w ≡ some i → OfFile N i
+  of-file w i e = ap (operationOfRow (N .operations)) (acc .operations w i e .row) ∙ e
 
   -- The input that an output meets.
-  pub record Met (o i : Operation) : Type 0 where
+  pub record MetInput (o i : Operation) : Type 0 where
     pub ofFile : OfFile N i
     pub isIn : T (isInputOperation (i .direction))
     pub alike : i .twoWay ≡ o .twoWay
 
-  met : (o i : Operation) → metInput N o ≡ some i → Met o i
+  met : (o i : Operation) → metInput N o ≡ some i → MetInput o i
   met o i e =
       let u = met-entry N o i e in
       let m = met-input N o i e in
@@ -92,7 +94,7 @@ module _ (N : Network) (rows : ℕ) (acc : Accepted N rows) where
 
     send-by : (r : ℕ) (o : Operation) (e : Expression) (after : Progress) (back : Optional Destination) → OfFile N o → o .direction ≡ output
         → (y : Tree Value) → evaluate (S .tree) e ≡ given y → Fits y (o .request) → GoodTree y → SessionSound N rows q n (withProgress S (advance p r after))
-        → ((i : Operation) → Met o i → Agrees o i → RepliesFit N i back × T (suitsReply N rows (i .twoWay) back))
+        → ((i : Operation) → MetInput o i → Agrees o i → RepliesFit N i back × T (suitsReply N rows (i .twoWay) back))
         → Keeps N rows true (sendBy N G q n S to r o e after back)
     send-by r o e after back fo dir y ev fit gy hs dest =
         let G2 = goneOn G q n S r after in
@@ -179,7 +181,7 @@ module _ (N : Network) (rows : ℕ) (acc : Accepted N rows) where
 
   -- A message from outside, of bytes, with a u32 reply number.
   pub decoded-good : (bytes : List ℕ) (m : Tree Value) → Octets bytes → decodeMessage bytes ≡ present m → GoodTree m
-  decoded-good bytes m oct e = message-good m (decode-sound messageDeep messageMany bytes m oct e .good)
+  decoded-good bytes m oct e = message-good m (decode-sound messageLevelsBelow messageNodesBelow bytes m oct e .good)
 
   outside-pick : (b : Bool) (k : ℕ) → k < 0x100000000 → T (suitsReply N rows b (pick b (some (outsider k)) none))
   outside-pick true k small = lt→ltb k 0x100000000 small
@@ -190,7 +192,7 @@ module _ (N : Network) (rows : ℕ) (acc : Accepted N rows) where
   outside-destination i false k = tt
 
   pub outside-move : (G : State) → Sound N rows G → (q id n number : ℕ) (bytes : List ℕ) → number < 0x100000000 → Octets bytes
-      → Keeps N rows false (outerMessage N G q id n number bytes)
+      → Keeps N rows false (outerMessageMove N G q id n number bytes)
   outside-move G hG q id n number bytes small oct =
       let K : Operation → Result = λ i. admit N G i n (onMessage (decodeMessage bytes)) G (pick (i .twoWay) (some (outsider number)) none) in
       by-operation N rows false (inputNamed N q id) K

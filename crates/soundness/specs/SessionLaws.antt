@@ -6,32 +6,32 @@ use mathlib.Core.List.{List, [], _∷_, _++_}
 use native.Mathlib.Omega.{arith}
 use lib.Dec.{T, eqb, ltb, eqb→eq, eqb-refl}
 use lib.ListN.{length, length-append}
-use Rattle.forest.specs.Compare.{of-T, not-T-false, and-i}
-use Rattle.forest.specs.Forest.{Forest, Tree, tree, present}
-use Rattle.forest.specs.Path.{Path, read, replaceAt, setPayloadAt}
+use Rattle.tree_forest.specs.Forest.{Forest, Tree, tree, present}
+use Rattle.tree_forest.specs.Path.{Path, read, replaceAt, setPayloadAt}
 use Rattle.scalar.specs.Basic.{bool}
-use Rattle.scalar.specs.Value.{Value, basicOf, pick}
-use Rattle.syntax.specs.Syntax.{Types, Expression, some, Network, Operation, Behaviour, nil, oneWay, requestResponse, notification, solicitResponse}
-use Rattle.syntax.specs.Syntax.{ifThenElse, whileDo, sequence, assign, choice, waiting, answering, Branches}
-use Rattle.syntax.specs.Rows.{hasRow, hasRowIn}
+use Rattle.scalar.specs.Value.{Value, basicOf}
+use Rattle.basics.specs.Choice.{pick}
+use Rattle.basics.specs.TestLaws.{and-i, not-T-false, of-T, or-case, or-l, or-r}
+use Rattle.network_syntax.specs.Syntax.{Types, Expression, some, Network, Operation, Behaviour, nil, oneWay, requestResponse, notification, solicitResponse}
+use Rattle.network_syntax.specs.Syntax.{ifThenElse, whileDo, sequence, assign, choice, waiting, answering, Branches}
+use Rattle.network_syntax.specs.Rows.{hasRow, hasRowIn}
 use Rattle.network.specs.Shapes.{Outside, OutsideBranches, EachRowOnce}
-use Rattle.network.specs.OnceLaws.{or-case}
-use Rattle.subtyping.specs.Subtype.{Subtypes}
-use Rattle.subtyping.specs.Own.{ownTypes, Fits}
-use Rattle.subtyping.specs.OwnLaws.{tree-within}
-use Rattle.typing.specs.Environment.{within}
-use Rattle.typing.specs.EnvironmentLaws.{sums, maxima, within-smaller}
-use Rattle.typing.specs.OccursLaws.{or-l, or-r}
-use Rattle.typing.specs.Rules.{WellSorted}
-use Rattle.typing.specs.Typed.{Typed}
-use Rattle.typing.specs.TypedLaws.{by-bool, within-before}
+use Rattle.check_subtyping.specs.Subtype.{Subtypes}
+use Rattle.check_subtyping.specs.Own.{ownTypes, Fits}
+use Rattle.check_subtyping.specs.OwnLaws.{tree-within}
+use Rattle.check_typing.specs.Environment.{within}
+use Rattle.check_typing.specs.EnvironmentLaws.{sums, maxima, within-smaller}
+use Rattle.check_typing.specs.Rules.{WellSorted}
+use Rattle.check_typing.specs.Typed.{Typed}
+use Rattle.check_typing.specs.TypedLaws.{by-bool, within-before}
 use Rattle.state.specs.Session.{Destination, Progress, Progresses, undone, done, waits, received, taken, advance, reopen, Queued, Session, withTree, withQueue, withProgress}
 use Rattle.state.specs.Shape.{behaviourIn, isDestination, undoneOrDone, undoneDoneOrWaits, undoneDoneOrReceived, undoneOrTaken, undoneDoneOrBody}
 use Rattle.state.specs.Shape.{branches, suits, suitsBranches}
-use Rattle.moves.specs.Readiness.{ifDone, ifWaits, ifReceived, ifTaken, thenOrElse, isDone, branchDone, rest, branchRest}
-use Rattle.moves.specs.Evaluation.{given, evaluate}
-use Rattle.moves.specs.Moves.{rootValue, voidValue}
-use Rattle.soundness.specs.GoodTrees.{Good, GoodTree}
+use Rattle.move_rules.specs.Readiness.{unlessDone, unlessWaits, unlessReceived, unlessTaken, thenOrElse, isDone, branchDone, rest, branchRest}
+use Rattle.move_rules.specs.Evaluation.{given, evaluate}
+use Rattle.move_rules.specs.Moves.{rootValue}
+use Rattle.scalar.specs.Value.{voidValue}
+use Rattle.soundness.specs.GoodTrees.{GoodForest, GoodTree}
 use Rattle.soundness.specs.GoodTreesLaws.{replace-good, payload-set-good}
 use Rattle.soundness.specs.EvaluationLaws.{progress, root-proper}
 use Rattle.soundness.specs.Parts.{branchAt, Fresh, FreshBranches, Clean, Reaches, atSelf, atServed, atLoop}
@@ -46,41 +46,41 @@ use Rattle.soundness.specs.Accepted.{MadeOf, Accepted}
 use Rattle.soundness.specs.MadeLaws.{made-at, made-sorted, rest-sorted}
 use Rattle.soundness.specs.LeafLaws.{Leaf, assigns, takesThen, takesElse, enters, leaves, reenters, ends, receivesOne, receivesTwo, getsReply}
 use Rattle.soundness.specs.LeafLaws.{notifies, asks, answers, selects, reduction, condition-gives, send-gives, reply-gives}
-use Rattle.soundness.specs.Invariant.{Answers, QueuedSound, AllQueued, SessionSound}
+use Rattle.soundness.specs.Invariant.{AnswersAt, QueuedSound, AllQueued, SessionSound}
 
 -- One row advanced ------------------------------------------------------------------------------------------------------------------------
 
-pub advance-same : (p : Progresses) (r : ℕ) (s : Progress) → advance p r s r ≡ s
-advance-same p r s = ap (λ (b : Bool). pick b s (p r)) (of-T (eqb r r) (eqb-refl r))
+pub advance-here : (p : Progresses) (r : ℕ) (s : Progress) → advance p r s r ≡ s
+advance-here p r s = ap (λ (b : Bool). pick b s (p r)) (of-T (eqb r r) (eqb-refl r))
 
 pub advance-at : (p : Progresses) (r : ℕ) (s : Progress) (i : ℕ) → T (eqb i r) → advance p r s i ≡ s
 advance-at p r s i t = ap (λ (b : Bool). pick b s (p i)) (of-T (eqb i r) t)
 
-pub advance-other : (p : Progresses) (r : ℕ) (s : Progress) (i : ℕ) → (T (eqb i r) → ⊥) → p i ≡ advance p r s i
-advance-other p r s i f = sym (ap (λ (b : Bool). pick b s (p i)) (not-T-false (eqb i r) f))
+pub advance-apart : (p : Progresses) (r : ℕ) (s : Progress) (i : ℕ) → (T (eqb i r) → ⊥) → p i ≡ advance p r s i
+advance-apart p r s i f = sym (ap (λ (b : Bool). pick b s (p i)) (not-T-false (eqb i r) f))
 
 -- Rows of a part without r.
 pub advance-below : (p : Progresses) (r : ℕ) (s : Progress) (d : Behaviour) → Outside r d → (i : ℕ) → T (hasRow i d) → p i ≡ advance p r s i
-advance-below p r s d n i t = advance-other p r s i (λ e. n (subst (λ (z : ℕ). T (hasRow z d)) (eqb→eq i r e) t))
+advance-below p r s d n i t = advance-apart p r s i (λ e. n (subst (λ (z : ℕ). T (hasRow z d)) (eqb→eq i r e) t))
 
 pub advance-below-branches : (p : Progresses) (r : ℕ) (s : Progress) (m : Branches) → OutsideBranches r m → (i : ℕ) → T (hasRowIn i m)
     → p i ≡ advance p r s i
-advance-below-branches p r s m n i t = advance-other p r s i (λ e. n (subst (λ (z : ℕ). T (hasRowIn z m)) (eqb→eq i r e) t))
+advance-below-branches p r s m n i t = advance-apart p r s i (λ e. n (subst (λ (z : ℕ). T (hasRowIn z m)) (eqb→eq i r e) t))
 
 advance-off : (p : Progresses) (r : ℕ) (s : Progress) (X : Behaviour) → ((i : ℕ) → T (eqb i r) → T (hasRow i X)) → Off p (advance p r s) X
-advance-off p r s X h i f = advance-other p r s i (λ t. f (h i t))
+advance-off p r s X h i f = advance-apart p r s i (λ t. f (h i t))
 
 -- A progress that is not the new one was there before.
 advance-before : (p : Progresses) (r : ℕ) (s t : Progress) → (s ≡ t → ⊥) → (i : ℕ) → advance p r s i ≡ t → p i ≡ t
 advance-before p r s t n i e =
-    by-bool (eqb i r) (λ u. absurd (n (sym (advance-at p r s i u) ∙ e))) (λ u. advance-other p r s i u ∙ e)
+    by-bool (eqb i r) (λ u. absurd (n (sym (advance-at p r s i u) ∙ e))) (λ u. advance-apart p r s i u ∙ e)
 
 advance-opens : (p : Progresses) (X : Behaviour) (r : ℕ) (s : Progress) → ((i : ℕ) → T (hasRow i X) → T (isOpen (p i)) → T (eqb i r))
     → (T (isOpen s) → Opens r X) → (i : ℕ) → T (hasRow i X) → T (isOpen (advance p r s i)) → (W : Behaviour) × Opens i W × Reaches (advance p r s) W X
 advance-opens p X r s only new i t g =
     by-bool (eqb i r)
     (λ u. (X, subst (λ (z : ℕ). Opens z X) (sym (eqb→eq i r u)) (new (subst (λ (z : Progress). T (isOpen z)) (advance-at p r s i u) g)), atSelf))
-    (λ u. absurd (u (only i t (subst (λ (z : Progress). T (isOpen z)) (sym (advance-other p r s i u)) g))))
+    (λ u. absurd (u (only i t (subst (λ (z : Progress). T (isOpen z)) (sym (advance-apart p r s i u)) g))))
 
 done-received : {to : Destination} → done ≡ received to → ⊥
 done-received e = let z : _≡_ {A = ℕ} 0 1 = cc in omega arith
@@ -103,8 +103,8 @@ received-inj h = cc
 undone-open : (s : Progress) → s ≡ undone → T (isOpen s) → ⊥
 undone-open s e t = subst (λ (z : Progress). T (isOpen z)) e t
 
-undone-not-done : (s : Progress) → s ≡ undone → T (ifDone s false true) → ⊥
-undone-not-done s e t = subst (λ (z : Progress). T (ifDone z false true)) e t
+undone-not-done : (s : Progress) → s ≡ undone → T (unlessDone s false true) → ⊥
+undone-not-done s e t = subst (λ (z : Progress). T (unlessDone z false true)) e t
 
 -- The body's rows begun anew ---------------------------------------------------------------------------------------------------------------
 
@@ -123,16 +123,16 @@ again-fresh p r b n i t = sym (advance-below (reopen p b) r (taken 0) b n i t) �
 again-off : (p : Progresses) (r : ℕ) (e : Expression) (b : Behaviour) → Off p (advance (reopen p b) r (taken 0)) (whileDo r e b)
 unfolding hasRow
 again-off p r e b i f =
-    reopen-other p b i (λ t. f (or-r (eqb i r) (hasRow i b) t)) ∙ advance-other (reopen p b) r (taken 0) i (λ t. f (or-l (eqb i r) (hasRow i b) t))
+    reopen-other p b i (λ t. f (or-r (eqb i r) (hasRow i b) t)) ∙ advance-apart (reopen p b) r (taken 0) i (λ t. f (or-l (eqb i r) (hasRow i b) t))
 
 -- An if, a while and a choice that are not begun are not done.
 if-undone : (p : Progresses) (r : ℕ) (e : Expression) (x y : Behaviour) → p r ≡ undone → T (isDone p (ifThenElse r e x y)) → ⊥
 unfolding isDone
-if-undone p r e x y t z = subst (λ (s : Progress). T (ifTaken s false (λ j. thenOrElse j (isDone p x) (isDone p y)))) t z
+if-undone p r e x y t z = subst (λ (s : Progress). T (unlessTaken s false (λ j. thenOrElse j (isDone p x) (isDone p y)))) t z
 
 choice-undone : (p : Progresses) (r : ℕ) (m : Branches) → p r ≡ undone → T (isDone p (choice r m)) → ⊥
 unfolding isDone
-choice-undone p r m t z = subst (λ (s : Progress). T (ifTaken s false (λ j. branchDone p j m))) t z
+choice-undone p r m t z = subst (λ (s : Progress). T (unlessTaken s false (λ j. branchDone p j m))) t z
 
 -- Nothing is open below a while that is at its test, or below a request-response whose body is done, but that row itself.
 quiet-while : (p : Progresses) {i r : ℕ} {W b : Behaviour} {e : Expression} → Opens i W → T (isOpen (p i)) → T (isDone p b)
@@ -169,8 +169,8 @@ module _ (N : Network) (rows : ℕ) (acc : Accepted N rows) where
     pub clean : Clean p2 X
     pub suit : T (suits N rows p2 X)
     pub opens : (i : ℕ) → T (hasRow i X) → T (isOpen (p2 i)) → (W : Behaviour) × Opens i W × Reaches p2 W X
-    pub replies : (i : ℕ) (to : Destination) → p2 i ≡ received to → Answers N B i to
-    pub good : Good F2
+    pub replies : (i : ℕ) (to : Destination) → p2 i ≡ received to → AnswersAt N B i to
+    pub good : GoodForest F2
     pub before : Behaviour
     pub after : Behaviour
     pub isBefore : rest p X ≡ before
@@ -202,9 +202,9 @@ module _ (N : Network) (rows : ℕ) (acc : Accepted N rows) where
     sorted-at : (X : Behaviour) → Reaches p X B → WellSorted (rest p X)
     sorted-at X a = rest-sorted X p (made-sorted N rows acc X (made-at N rows a madeB))
 
-    pub changed : (X : Behaviour) → Reaches p X B → (F2 : Forest Value) (p2 : Progresses) → Change B (S .tree) p X F2 p2 → (l : List Queued) → length l ≤ 4
+    pub changed-sound : (X : Behaviour) → Reaches p X B → (F2 : Forest Value) (p2 : Progresses) → Change B (S .tree) p X F2 p2 → (l : List Queued) → length l ≤ 4
         → AllQueued N rows q l → SessionSound N rows q n (withQueue (withProgress (withTree S F2) p2) l)
-    changed X a F2 p2 c l few ql =
+    changed-sound X a F2 p2 c l few ql =
         let act = row-active p p2 X B a onceB (c .off) in
         let act2 = subst (λ (z : Behaviour). Active z (rest p2 X) (rest p B) (rest p2 B)) (c .isBefore) act in
         record {
@@ -242,8 +242,8 @@ module _ (N : Network) (rows : ℕ) (acc : Accepted N rows) where
 
     -- A step that advances the row r of X to s.
     advanced : (X : Behaviour) (r : ℕ) (s : Progress) (F2 : Forest Value) → ((i : ℕ) → T (eqb i r) → T (hasRow i X)) → (T (isDone p X) → ⊥)
-        → ((i : ℕ) → T (hasRow i X) → T (isOpen (p i)) → T (eqb i r)) → (T (isOpen s) → Opens r X) → ((to : Destination) → s ≡ received to → Answers N B r to)
-        → Clean (advance p r s) X → T (suits N rows (advance p r s) X) → Good F2 → (L L2 : Behaviour) → rest p X ≡ L → rest (advance p r s) X ≡ L2
+        → ((i : ℕ) → T (hasRow i X) → T (isOpen (p i)) → T (eqb i r)) → (T (isOpen s) → Opens r X) → ((to : Destination) → s ≡ received to → AnswersAt N B r to)
+        → Clean (advance p r s) X → T (suits N rows (advance p r s) X) → GoodForest F2 → (L L2 : Behaviour) → rest p X ≡ L → rest (advance p r s) X ≡ L2
         → Leaf (S .tree) L F2 L2 → Change B (S .tree) p X F2 (advance p r s)
     advanced X r s F2 own nd only new ans cl su gd L L2 e1 e2 lf =
         record {
@@ -253,8 +253,8 @@ module _ (N : Network) (rows : ℕ) (acc : Accepted N rows) where
           suit = su;
           opens = advance-opens p X r s only new;
           replies = λ i to e. by-bool (eqb i r)
-              (λ u. subst (λ (z : ℕ). Answers N B z to) (sym (eqb→eq i r u)) (ans to (sym (advance-at p r s i u) ∙ e)))
-              (λ u. h .replies i to (advance-other p r s i u ∙ e));
+              (λ u. subst (λ (z : ℕ). AnswersAt N B z to) (sym (eqb→eq i r u)) (ans to (sym (advance-at p r s i u) ∙ e)))
+              (λ u. h .replies i to (advance-apart p r s i u ∙ e));
           good = gd;
           before = L;
           after = L2;
@@ -273,16 +273,16 @@ module _ (N : Network) (rows : ℕ) (acc : Accepted N rows) where
         let m = made-at N rows a madeB in
         let u = row-typed X a in
         let k : Typed q X (h .well .env) (u .0) = subst (λ (z : Behaviour). Typed q z (h .well .env) (u .0))
-        (ap (λ (s : Progress). ifDone s X (nil r)) t) (u .1) in
+        (ap (λ (s : Progress). unlessDone s X (nil r)) t) (u .1) in
         let g = progress (S .tree) (h .well .env) (h .good) (h .well .fit) e (m .2) (k .0) (k .1) in
         let F2 = setPayloadAt voidValue x (rootValue (g .what)) (S .tree) in (
           g .what,
           g .there,
-          changed X a F2 (advance p r done)
+          changed-sound X a F2 (advance p r done)
               (advanced X r done F2 (λ i z. z) (λ d. undone-not-done (p r) t d) (λ i z w. z) (λ z. absurd z) (λ to z. absurd (done-received z)) tt
-              (subst (λ (s : Progress). T (undoneOrDone s)) (sym (advance-same p r done)) tt)
+              (subst (λ (s : Progress). T (undoneOrDone s)) (sym (advance-here p r done)) tt)
               (payload-set-good x (rootValue (g .what)) (S .tree) (m .1) (root-proper (g .what) (g .good)) (h .good)) X (nil r)
-              (ap (λ (s : Progress). ifDone s X (nil r)) t) (ap (λ (s : Progress). ifDone s X (nil r)) (advance-same p r done))
+              (ap (λ (s : Progress). unlessDone s X (nil r)) t) (ap (λ (s : Progress). unlessDone s X (nil r)) (advance-here p r done))
               (assigns (g .what) (m .2) (g .there)))
               (S .queue) (h .few) (h .queued),
         )
@@ -295,11 +295,11 @@ module _ (N : Network) (rows : ℕ) (acc : Accepted N rows) where
     oneWay-sound r o x m a t gm f l few ql =
         let X = oneWay r o x in
         let F2 = replaceAt voidValue x m (S .tree) in
-        changed X a F2 (advance p r done)
+        changed-sound X a F2 (advance p r done)
         (advanced X r done F2 (λ i z. z) (λ d. undone-not-done (p r) t d) (λ i z w. z) (λ z. absurd z) (λ to z. absurd (done-received z)) tt
-        (subst (λ (s : Progress). T (undoneOrDone s)) (sym (advance-same p r done)) tt)
+        (subst (λ (s : Progress). T (undoneOrDone s)) (sym (advance-here p r done)) tt)
         (replace-good x m (S .tree) (made-at N rows a madeB .2) gm (h .good)) X (nil r)
-        (ap (λ (s : Progress). ifDone s X (nil r)) t) (ap (λ (s : Progress). ifDone s X (nil r)) (advance-same p r done)) (receivesOne m f))
+        (ap (λ (s : Progress). unlessDone s X (nil r)) t) (ap (λ (s : Progress). unlessDone s X (nil r)) (advance-here p r done)) (receivesOne m f))
         l few ql
 
     -- Send: notification. What is sent is there and fits.
@@ -310,16 +310,16 @@ module _ (N : Network) (rows : ℕ) (acc : Accepted N rows) where
         let X = notification r o e in
         let u = row-typed X a in
         let k : Typed q X (h .well .env) (u .0) = subst (λ (z : Behaviour). Typed q z (h .well .env) (u .0))
-        (ap (λ (s : Progress). ifDone s X (nil r)) t) (u .1) in
+        (ap (λ (s : Progress). unlessDone s X (nil r)) t) (u .1) in
         let g = send-gives q (S .tree) (h .well .env) e (o .request) (h .good) (made-at N rows a madeB .2) (h .well .fit) (k .1) in (
           g .0,
           g .1,
           g .2,
           g .3,
-          changed X a (S .tree) (advance p r done)
+          changed-sound X a (S .tree) (advance p r done)
               (advanced X r done (S .tree) (λ i z. z) (λ d. undone-not-done (p r) t d) (λ i z w. z) (λ z. absurd z) (λ to z. absurd (done-received z)) tt
-              (subst (λ (s : Progress). T (undoneOrDone s)) (sym (advance-same p r done)) tt) (h .good) X (nil r)
-              (ap (λ (s : Progress). ifDone s X (nil r)) t) (ap (λ (s : Progress). ifDone s X (nil r)) (advance-same p r done)) notifies)
+              (subst (λ (s : Progress). T (undoneOrDone s)) (sym (advance-here p r done)) tt) (h .good) X (nil r)
+              (ap (λ (s : Progress). unlessDone s X (nil r)) t) (ap (λ (s : Progress). unlessDone s X (nil r)) (advance-here p r done)) notifies)
               (S .queue) (h .few) (h .queued),
         )
 
@@ -330,17 +330,17 @@ module _ (N : Network) (rows : ℕ) (acc : Accepted N rows) where
     solicit-sound r o e x a t =
         let X = solicitResponse r o e x in
         let u = row-typed X a in
-        let e1 = ap (λ (s : Progress). ifDone s (ifWaits s X (waiting r o x)) (nil r)) t in
+        let e1 = ap (λ (s : Progress). unlessDone s (unlessWaits s X (waiting r o x)) (nil r)) t in
         let k : Typed q X (h .well .env) (u .0) = subst (λ (z : Behaviour). Typed q z (h .well .env) (u .0)) e1 (u .1) in
         let g = send-gives q (S .tree) (h .well .env) e (o .request) (h .good) (made-at N rows a madeB .2) (h .well .fit) (k .1) in (
           g .0,
           g .1,
           g .2,
           g .3,
-          changed X a (S .tree) (advance p r waits)
+          changed-sound X a (S .tree) (advance p r waits)
               (advanced X r waits (S .tree) (λ i z. z) (λ d. undone-not-done (p r) t d) (λ i z w. z) (λ z. asking) (λ to z. absurd (waits-received z)) tt
-              (subst (λ (s : Progress). T (undoneDoneOrWaits s)) (sym (advance-same p r waits)) tt) (h .good) X (waiting r o x) e1
-              (ap (λ (s : Progress). ifDone s (ifWaits s X (waiting r o x)) (nil r)) (advance-same p r waits)) asks)
+              (subst (λ (s : Progress). T (undoneDoneOrWaits s)) (sym (advance-here p r waits)) tt) (h .good) X (waiting r o x) e1
+              (ap (λ (s : Progress). unlessDone s (unlessWaits s X (waiting r o x)) (nil r)) (advance-here p r waits)) asks)
               (S .queue) (h .few) (h .queued),
         )
 
@@ -352,19 +352,19 @@ module _ (N : Network) (rows : ℕ) (acc : Accepted N rows) where
     waiting-sound r o e x m a t gm f =
         let X = solicitResponse r o e x in
         let F2 = replaceAt voidValue x m (S .tree) in
-        changed X a F2 (advance p r done)
-        (advanced X r done F2 (λ i z. z) (λ d. subst (λ (s : Progress). T (ifDone s false true)) t d) (λ i z w. z) (λ z. absurd z)
+        changed-sound X a F2 (advance p r done)
+        (advanced X r done F2 (λ i z. z) (λ d. subst (λ (s : Progress). T (unlessDone s false true)) t d) (λ i z w. z) (λ z. absurd z)
         (λ to z. absurd (done-received z)) tt
-        (subst (λ (s : Progress). T (undoneDoneOrWaits s)) (sym (advance-same p r done)) tt)
+        (subst (λ (s : Progress). T (undoneDoneOrWaits s)) (sym (advance-here p r done)) tt)
         (replace-good x m (S .tree) (made-at N rows a madeB .3) gm (h .good)) (waiting r o x) (nil r)
-        (ap (λ (s : Progress). ifDone s (ifWaits s X (waiting r o x)) (nil r)) t)
-        (ap (λ (s : Progress). ifDone s (ifWaits s X (waiting r o x)) (nil r)) (advance-same p r done)) (getsReply m f))
+        (ap (λ (s : Progress). unlessDone s (unlessWaits s X (waiting r o x)) (nil r)) t)
+        (ap (λ (s : Progress). unlessDone s (unlessWaits s X (waiting r o x)) (nil r)) (advance-here p r done)) (getsReply m f))
         (S .queue) (h .few) (h .queued)
 
     -- Receive: request-response, which keeps where its reply goes.
     pub request-sound : (r : ℕ) (o : Operation) (x c : Path) (d : Behaviour) (m : Tree Value) (to : Destination) → Reaches p (requestResponse r o x c d) B
         → p r ≡ undone
-        → GoodTree m → Fits m (o .request) → T (isDestination N rows to) → Answers N B r to → (l : List Queued) → length l ≤ 4 → AllQueued N rows q l
+        → GoodTree m → Fits m (o .request) → T (isDestination N rows to) → AnswersAt N B r to → (l : List Queued) → length l ≤ 4 → AllQueued N rows q l
         → SessionSound N rows q n (withQueue (withProgress (withTree S (replaceAt voidValue x m (S .tree))) (advance p r (received to))) l)
     unfolding MadeOf isDone hasRow rest Clean suits EachRowOnce
     request-sound r o x c d m to a t gm f dest ans l few ql =
@@ -376,16 +376,16 @@ module _ (N : Network) (rows : ℕ) (acc : Accepted N rows) where
         let same = advance-below p r (received to) d (od .0) in
         let fr : Fresh p2 d = λ i u. sym (same i u) ∙ cx .0 t i u in
         let sd : T (suits N rows p2 d) = suits-fresh N rows d p2 fr in
-        changed X a F2 p2
+        changed-sound X a F2 p2
         (advanced X r (received to) F2 (λ i z. in-own i r (hasRow i d) z) (λ z. undone-not-done (p r) t z)
         (λ i z w. or-case (eqb i r) (hasRow i d) (λ v. v) (λ v. absurd (undone-open (p i) (cx .0 t i v) w)) z) (λ z. serving)
-        (λ to2 z. subst (λ (y : Destination). Answers N B r y) (received-inj z) ans)
+        (λ to2 z. subst (λ (y : Destination). AnswersAt N B r y) (received-inj z) ans)
         ((λ z i u. fr i u), clean-fresh d p2 fr)
         (and-i (undoneDoneOrReceived N rows (p2 r)) (suits N rows p2 d)
-        (subst (λ (s : Progress). T (undoneDoneOrReceived N rows s)) (sym (advance-same p r (received to))) dest) sd)
+        (subst (λ (s : Progress). T (undoneDoneOrReceived N rows s)) (sym (advance-here p r (received to))) dest) sd)
         (replace-good x m (S .tree) (made-at N rows a madeB .2) gm (h .good)) X (answering r o c d)
-        (ap (λ (s : Progress). ifDone s (ifReceived s X (answering r o c (rest p d))) (nil r)) t)
-        (rest-served p2 r o x c d to (advance-same p r (received to)) ∙ ap (answering r o c) (rest-fresh d p2 fr)) (receivesTwo m f))
+        (ap (λ (s : Progress). unlessDone s (unlessReceived s X (answering r o c (rest p d))) (nil r)) t)
+        (rest-served p2 r o x c d to (advance-here p r (received to)) ∙ ap (answering r o c) (rest-fresh d p2 fr)) (receivesTwo m f))
         l few ql
 
     -- Reply: what is answered is there, and fits.
@@ -410,16 +410,16 @@ module _ (N : Network) (rows : ℕ) (acc : Accepted N rows) where
           g .1,
           g .2,
           g .3,
-          changed X a (S .tree) p2
-              (advanced X r done (S .tree) (λ i z. in-own i r (hasRow i d) z) (λ z. subst (λ (s : Progress). T (ifDone s false true)) t z)
+          changed-sound X a (S .tree) p2
+              (advanced X r done (S .tree) (λ i z. in-own i r (hasRow i d) z) (λ z. subst (λ (s : Progress). T (unlessDone s false true)) t z)
               (λ i z w. let v = open-below p X B i onceB a (h .opened) z w in quiet-served p (v .1) w dn (v .2)) (λ z. absurd z)
               (λ to2 z. absurd (done-received z))
-              ((λ z. undone-done (p2 r) (advance-same p r done) z), clean-same d p p2 same (cx .1))
+              ((λ z. undone-done (p2 r) (advance-here p r done) z), clean-same d p p2 same (cx .1))
               (and-i (undoneDoneOrReceived N rows (p2 r)) (suits N rows p2 d)
-              (subst (λ (s : Progress). T (undoneDoneOrReceived N rows s)) (sym (advance-same p r done)) tt)
+              (subst (λ (s : Progress). T (undoneDoneOrReceived N rows s)) (sym (advance-here p r done)) tt)
               (subst T (suits-same N rows d p p2 same) (sx .1)))
               (h .good) (answering r o c (rest p d)) (nil r) e1
-              (ap (λ (s : Progress). ifDone s (ifReceived s X (answering r o c (rest p2 d))) (nil r)) (advance-same p r done)) (answers fd))
+              (ap (λ (s : Progress). unlessDone s (unlessReceived s X (answering r o c (rest p2 d))) (nil r)) (advance-here p r done)) (answers fd))
               (S .queue) (h .few) (h .queued),
         )
 
@@ -438,16 +438,16 @@ module _ (N : Network) (rows : ℕ) (acc : Accepted N rows) where
         let sy = advance-below p r (taken k) y (od .1) in
         let fx : Fresh p2 x = λ i u. sym (sx i u) ∙ cx .0 t i u in
         let fy : Fresh p2 y = λ i u. sym (sy i u) ∙ cx .1 t i u in
-        changed X a (S .tree) p2
+        changed-sound X a (S .tree) p2
         (advanced X r (taken k) (S .tree) (λ i z. in-own i r (hasRow i x || hasRow i y) z) (λ z. if-undone p r e x y t z)
         (λ i z w. or-case (eqb i r) (hasRow i x || hasRow i y) (λ v. v)
         (or-case (hasRow i x) (hasRow i y) (λ v. absurd (undone-open (p i) (cx .0 t i v) w)) (λ v. absurd (undone-open (p i) (cx .1 t i v) w))) z)
         (λ z. absurd z) (λ to z. absurd (taken-received z))
         ((λ z. fx), (λ z. fy), clean-fresh x p2 fx, clean-fresh y p2 fy)
         (three N rows (undoneOrTaken 2 (p2 r)) (suits N rows p2 x) (suits N rows p2 y)
-        (subst (λ (s : Progress). T (undoneOrTaken 2 s)) (sym (advance-same p r (taken k))) small)
+        (subst (λ (s : Progress). T (undoneOrTaken 2 s)) (sym (advance-here p r (taken k))) small)
         (suits-fresh N rows x p2 fx) (suits-fresh N rows y p2 fy))
-        (h .good) X L2 (ap (λ (s : Progress). ifTaken s X (λ j. thenOrElse j (rest p x) (rest p y))) t) (e2 p2 (advance-same p r (taken k)) fx fy) lf)
+        (h .good) X L2 (ap (λ (s : Progress). unlessTaken s X (λ j. thenOrElse j (rest p x) (rest p y))) t) (e2 p2 (advance-here p r (taken k)) fx fy) lf)
         (S .queue) (h .few) (h .queued)
 
     pub if-sound : (r : ℕ) (e : Expression) (x y : Behaviour) → Reaches p (ifThenElse r e x y) B → p r ≡ undone
@@ -457,7 +457,7 @@ module _ (N : Network) (rows : ℕ) (acc : Accepted N rows) where
     if-sound r e x y a t =
         let X = ifThenElse r e x y in
         let u = row-typed X a in
-        let e1 = ap (λ (s : Progress). ifTaken s X (λ j. thenOrElse j (rest p x) (rest p y))) t in
+        let e1 = ap (λ (s : Progress). unlessTaken s X (λ j. thenOrElse j (rest p x) (rest p y))) t in
         let k : Typed q X (h .well .env) (u .0) = subst (λ (z : Behaviour). Typed q z (h .well .env) (u .0)) e1 (u .1) in
         let g = condition-gives q (S .tree) (h .well .env) e (h .good) (made-at N rows a madeB .1) (h .well .fit) (k .0) in
         let od = once-at a onceB in (
@@ -486,16 +486,16 @@ module _ (N : Network) (rows : ℕ) (acc : Accepted N rows) where
         let none-open : (i : ℕ) → T (hasRow i X) → T (isOpen (p2 i)) → ⊥ = λ i z w.
         or-case (eqb i r) (hasRow i b) (λ v. subst (λ (s : Progress). T (isOpen s)) (advance-at (reopen p b) r (taken 0) i v) w)
         (λ v. undone-open (p2 i) (fr i v) w) z in
-        let back : (i : ℕ) (to : Destination) → p2 i ≡ received to → Answers N B i to = λ i to g.
+        let back : (i : ℕ) (to : Destination) → p2 i ≡ received to → AnswersAt N B i to = λ i to g.
         by-bool (hasRow i X) (λ z. absurd (none-open i z (subst (λ (s : Progress). T (isOpen s)) (sym g) tt)))
         (λ z. h .replies i to (again-off p r e b i z ∙ g)) in (
-          changed X a (S .tree) p2
+          changed-sound X a (S .tree) p2
               (record {
                 undoneBefore = nd;
                 off = again-off p r e b;
                 clean = clean-fresh b p2 fr;
                 suit = and-i (undoneDoneOrBody (p2 r)) (suits N rows p2 b)
-                    (subst (λ (s : Progress). T (undoneDoneOrBody s)) (sym (advance-same (reopen p b) r (taken 0))) tt)
+                    (subst (λ (s : Progress). T (undoneDoneOrBody s)) (sym (advance-here (reopen p b) r (taken 0))) tt)
                     (suits-fresh N rows b p2 fr);
                 opens = λ i z w. absurd (none-open i z w);
                 replies = back;
@@ -503,17 +503,17 @@ module _ (N : Network) (rows : ℕ) (acc : Accepted N rows) where
                 before = L;
                 after = sequence r b X;
                 isBefore = e1;
-                isAfter = rest-loop p2 r e b 0 (advance-same (reopen p b) r (taken 0)) ∙ ap (λ (z : Behaviour). sequence r z X) (rest-fresh b p2 fr);
+                isAfter = rest-loop p2 r e b 0 (advance-here (reopen p b) r (taken 0)) ∙ ap (λ (z : Behaviour). sequence r z X) (rest-fresh b p2 fr);
                 leaf = enter;
               })
               (S .queue) (h .few) (h .queued),
-          changed X a (S .tree) p3
+          changed-sound X a (S .tree) p3
               (advanced X r done (S .tree) (λ i z. in-own i r (hasRow i b) z) nd only (λ z. absurd z) (λ to z. absurd (done-received z))
               (clean-same b p p3 same cx)
-              (and-i (undoneDoneOrBody (p3 r)) (suits N rows p3 b) (subst (λ (s : Progress). T (undoneDoneOrBody s)) (sym (advance-same p r done)) tt)
+              (and-i (undoneDoneOrBody (p3 r)) (suits N rows p3 b) (subst (λ (s : Progress). T (undoneDoneOrBody s)) (sym (advance-here p r done)) tt)
               (subst T (suits-same N rows b p p3 same) (sx .1)))
               (h .good) L (nil r) e1
-              (ap (λ (s : Progress). ifDone s (ifTaken s X (λ j. sequence r (rest p3 b) X)) (nil r)) (advance-same p r done)) leave)
+              (ap (λ (s : Progress). unlessDone s (unlessTaken s X (λ j. sequence r (rest p3 b) X)) (nil r)) (advance-here p r done)) leave)
               (S .queue) (h .few) (h .queued),
         )
 
@@ -524,7 +524,7 @@ module _ (N : Network) (rows : ℕ) (acc : Accepted N rows) where
     while-sound r e b a t =
         let X = whileDo r e b in
         let u = row-typed X a in
-        let e1 = ap (λ (s : Progress). ifDone s (ifTaken s X (λ j. sequence r (rest p b) X)) (nil r)) t in
+        let e1 = ap (λ (s : Progress). unlessDone s (unlessTaken s X (λ j. sequence r (rest p b) X)) (nil r)) t in
         let k : Typed q X (h .well .env) (u .0) = subst (λ (z : Behaviour). Typed q z (h .well .env) (u .0)) e1 (u .1) in
         let g = condition-gives q (S .tree) (h .well .env) e (h .good) (made-at N rows a madeB .1) (h .well .fit) (k .0) in
         let w = while-both r e b a (λ z. undone-not-done (p r) t z)
@@ -544,7 +544,7 @@ module _ (N : Network) (rows : ℕ) (acc : Accepted N rows) where
         let ed = finished-same q (rest p b) (h .well .env) (k .0) fd (k .1) in
         let g = condition-gives q (S .tree) (k .0) e (h .good) (made-at N rows a madeB .1)
         (subst (λ (z : Types). Subtypes (ownTypes (S .tree)) z) ed (h .well .fit)) (k .2 .0) in
-        let w = while-both r e b a (λ z. subst (λ (s : Progress). T (ifDone s false true)) t z)
+        let w = while-both r e b a (λ z. subst (λ (s : Progress). T (unlessDone s false true)) t z)
         (λ i z o. let v = open-below p X B i onceB a (h .opened) z o in absurd (quiet-while p (v .1) o dn (v .2))) (sequence r (rest p b) X) e1
         (reenters fd) (ends fd) in
         (g .0, g .1, g .2, w .0, w .1)
@@ -560,16 +560,16 @@ module _ (N : Network) (rows : ℕ) (acc : Accepted N rows) where
         let cx = clean-at a (h .clean) in
         let none = cx .0 (undone-untaken (p c) t) in
         let fr : FreshBranches p2 m = λ i u. sym (advance-below-branches p c (taken k) m (od .0) i u) ∙ none i u in
-        changed X a (S .tree) p2
+        changed-sound X a (S .tree) p2
         (advanced X c (taken k) (S .tree) (λ i z. in-own i c (hasRowIn i m) z) (choice-undone p c m t)
         (λ i z w. or-case (eqb i c) (hasRowIn i m) (λ v. v) (λ v. absurd (undone-open (p i) (none i v) w)) z) (λ z. absurd z)
         (λ to z. absurd (taken-received z))
         ((λ z. fr), clean-fresh-branches m p2 fr)
         (and-i (undoneOrTaken (branches m) (p2 c)) (suitsBranches N rows p2 m)
-        (subst (λ (s : Progress). T (undoneOrTaken (branches m) s)) (sym (advance-same p c (taken k))) small)
+        (subst (λ (s : Progress). T (undoneOrTaken (branches m) s)) (sym (advance-here p c (taken k))) small)
         (suits-fresh-branches N rows m p2 fr))
-        (h .good) X (branchAt k m) (ap (λ (s : Progress). ifTaken s X (λ j. branchRest p j m)) t)
-        (rest-branch p2 c m k (advance-same p c (taken k)) ∙ rest-fresh (branchAt k m) p2
+        (h .good) X (branchAt k m) (ap (λ (s : Progress). unlessTaken s X (λ j. branchRest p j m)) t)
+        (rest-branch p2 c m k (advance-here p c (taken k)) ∙ rest-fresh (branchAt k m) p2
         (λ i u. fr i (branch-rows m k i u))) (selects k))
         (S .queue) (h .few) (h .queued)
 

@@ -7,14 +7,13 @@ use mathlib.Core.Logic.{_⊎_, inl, inr}
 use native.Mathlib.Omega.{arith}
 use lib.Dec.{T, leb, leb→le}
 use lib.ListN.{length}
-use Rattle.forest.specs.Compare.{and-l, and-r, and-i, of-T}
-use Rattle.forest.specs.Forest.{tree, nodes, levels}
-use Rattle.syntax.specs.Syntax.{Optional, some, Network, Operation, Behaviour}
-use Rattle.syntax.specs.Rows.{hasRow}
-use Rattle.typing.specs.TypedLaws.{by-bool}
-use Rattle.typing.specs.OccursLaws.{or-l, or-r}
+use Rattle.basics.specs.TestLaws.{and-i, and-l, and-r, of-T, or-l, or-r}
+use Rattle.tree_forest.specs.Forest.{tree, nodes, levels}
+use Rattle.network_syntax.specs.Syntax.{Optional, some, Network, Operation, Behaviour}
+use Rattle.network_syntax.specs.Rows.{hasRow}
+use Rattle.check_typing.specs.TypedLaws.{by-bool}
 use Rattle.state.specs.Session.{Progress, Progresses, undone, Queued, Session, Slot, free, live, State}
-use Rattle.state.specs.Shape.{operationAt, suitsOperation, suitsQueue, isUndone, suits, quietElsewhere, suitsBehaviour, suitsSlot, AllMessages}
+use Rattle.state.specs.Shape.{operationOfRow, suitsOperation, suitsQueue, isUndone, suits, quietElsewhere, suitsBehaviour, suitsSlot, AllMessages}
 use Rattle.state.specs.Shape.{WellMade, MadeSlot, HasShape}
 use Rattle.soundness.specs.GoodTreesLaws.{proper-void}
 use Rattle.network.specs.Shapes.{Outside}
@@ -33,7 +32,7 @@ queue-suits : (N : Network) (rows q : ℕ) (l : List Queued) → AllQueued N row
 unfolding AllQueued suitsQueue
 queue-suits N rows q [] a = tt
 queue-suits N rows q (m ∷ l) a =
-    and-i (suitsOperation N rows q (m .replyTo) (operationAt (N .operations) (m .operation))) (suitsQueue N rows q l)
+    and-i (suitsOperation N rows q (m .replyTo) (operationOfRow (N .operations) (m .operation))) (suitsQueue N rows q l)
     (subst (λ (o : Optional Operation). T (suitsOperation N rows q (m .replyTo) o)) (sym (a .0 .there)) (a .0 .suit)) (queue-suits N rows q l (a .1))
 
 quiet-suits : (n : ℕ) (p : Progresses) (B : Behaviour) → ((r : ℕ) → Outside r B → p r ≡ undone) → T (quietElsewhere n p B)

@@ -5,23 +5,23 @@ use mathlib.Core.Bool.{Bool, true, false}
 use mathlib.Core.List.{[]}
 use native.Mathlib.Omega.{arith}
 use lib.Dec.{T, eqb, ltb, lt→ltb}
-use Rattle.forest.specs.Compare.{and-i}
-use Rattle.forest.specs.Forest.{end, measure}
-use Rattle.scalar.specs.Value.{pick}
-use Rattle.syntax.specs.Syntax.{Mark, Types, Optional, none, some, Network, Behaviour, sequence, choice, Branches, lastBranch, branch}
-use Rattle.syntax.specs.Rows.{hasRow, hasRowIn, Input, inputOf, fromInput}
-use Rattle.syntax.specs.ViewLaws.{input-is}
+use Rattle.tree_forest.specs.Forest.{end, measure}
+use Rattle.basics.specs.Choice.{pick}
+use Rattle.basics.specs.TestLaws.{and-i}
+use Rattle.network_syntax.specs.Syntax.{Mark, Types, Optional, none, some, Network, Behaviour, sequence, choice, Branches, lastBranch, branch}
+use Rattle.network_syntax.specs.Rows.{hasRow, hasRowIn, Input, inputOf, fromInput}
+use Rattle.network_syntax.specs.ViewLaws.{input-is}
 use Rattle.network.specs.Shapes.{EachRowOnce}
-use Rattle.subtyping.specs.OwnLaws.{own-end}
-use Rattle.typing.specs.Environment.{within}
-use Rattle.typing.specs.Rules.{Derives, WellSorted}
-use Rattle.typing.specs.Typed.{Typed}
-use Rattle.typing.specs.DerivesLaws.{derives-typed, derives-within}
-use Rattle.typing.specs.NetworkLaws.{end-rising}
+use Rattle.check_subtyping.specs.OwnLaws.{own-end}
+use Rattle.check_typing.specs.Environment.{within}
+use Rattle.check_typing.specs.Rules.{Derives, WellSorted}
+use Rattle.check_typing.specs.Typed.{Typed}
+use Rattle.check_typing.specs.DerivesLaws.{derives-typed, derives-within}
+use Rattle.check_typing.specs.NetworkLaws.{end-rising}
 use Rattle.state.specs.Session.{Destination, Progress, Progresses, undone, received, taken, advance, newSession, withProgress}
 use Rattle.state.specs.Shape.{behaviourIn, undoneOrTaken, branches, suits, suitsBranches}
-use Rattle.moves.specs.Readiness.{rest}
-use Rattle.moves.specs.Targets.{Target, noTarget, queueFull, queued, starts, startBy, startFrom}
+use Rattle.move_rules.specs.Readiness.{rest}
+use Rattle.move_rules.specs.Targets.{Target, noTarget, queueFull, queued, starts, startBy, startFrom}
 use Rattle.soundness.specs.GoodTreesLaws.{good-end}
 use Rattle.soundness.specs.Parts.{branchAt, FreshBranches, Clean}
 use Rattle.soundness.specs.RowLaws.{in-own, branch-rows, rest-fresh, rest-branch}
@@ -31,7 +31,7 @@ use Rattle.soundness.specs.Parts.{isOpen}
 use Rattle.soundness.specs.Accepted.{Accepted}
 use Rattle.soundness.specs.MadeLaws.{made-sorted, branch-sorted}
 use Rattle.soundness.specs.Invariant.{AllQueued, SessionSound}
-use Rattle.soundness.specs.SessionLaws.{advance-same, advance-other, advance-below-branches, once-of, made-of}
+use Rattle.soundness.specs.SessionLaws.{advance-here, advance-apart, advance-below-branches, once-of, made-of}
 
 -- The empty environment.
 within-end : T (within {A = Mark} end)
@@ -161,17 +161,17 @@ module _ (N : Network) (rows : ℕ) (acc : Accepted N rows) where
       let ws = made-sorted N rows acc X (made-of N rows acc q (suc n) X e) in
       let fr : FreshBranches p m = λ i t. sym (advance-below-branches u c (taken k) m (on .0) i t) in
       let er : rest p X ≡ branchAt k m =
-      rest-branch p c m k (advance-same u c (taken k)) ∙ rest-fresh (branchAt k m) p (λ i t. fr i (branch-rows m k i t)) in
+      rest-branch p c m k (advance-here u c (taken k)) ∙ rest-fresh (branchAt k m) p (λ i t. fr i (branch-rows m k i t)) in
       record {
         what = X;
         runs = e;
         last = d k .0;
         limit = derives-within q (branchAt k m) end (d k .0) within-end (d k .1);
-        clean = ((λ z. untaken-taken (p c) (advance-same u c (taken k)) z), clean-fresh-branches m p fr);
+        clean = ((λ z. untaken-taken (p c) (advance-here u c (taken k)) z), clean-fresh-branches m p fr);
         suit = and-i (undoneOrTaken (branches m) (p c)) (suitsBranches N rows p m)
-            (subst (λ (s : Progress). T (undoneOrTaken (branches m) s)) (sym (advance-same u c (taken k))) small)
+            (subst (λ (s : Progress). T (undoneOrTaken (branches m) s)) (sym (advance-here u c (taken k))) small)
             (suits-fresh-branches N rows m p fr);
-        quiet = λ r f. sym (advance-other u c (taken k) r (λ t. f (in-own r c (hasRowIn r m) t)));
+        quiet = λ r f. sym (advance-apart u c (taken k) r (λ t. f (in-own r c (hasRowIn r m) t)));
         opened = λ i t g. absurd (none-open i g);
         replies = λ i to g. absurd (none-open i (subst (λ (s : Progress). T (isOpen s)) (sym g) tt));
         good = good-end;

@@ -6,11 +6,13 @@ use mathlib.Core.List.{List, [], _∷_, _++_}
 use Prim.Native.Nat.{ℕ, zero, suc, _+_, _-_, _/_, _%_}
 use lib.Dec.{eqb, ltb}
 use lib.ListN.{length}
-use Rattle.forest.specs.Forest.{Forest, end, Tree, tree, Lookup, absent, present, childrenOf}
-use Rattle.scalar.specs.Value.{Value, pick}
-use Rattle.syntax.specs.Syntax.{Optional, none, some}
+use Rattle.tree_forest.specs.Forest.{Forest, end, Tree, tree, Lookup, absent, present, childrenOf}
+use Rattle.scalar.specs.Value.{Value}
+use Rattle.basics.specs.Choice.{pick}
+use Rattle.network_syntax.specs.Syntax.{Optional, none, some}
 use Rattle.wire.specs.Wire.{byteAt, u16At, u32At, part}
-use Rattle.tree.specs.Encode.{encode, rooted, empty, treeDeep, treeMany}
+use Rattle.tree.specs.Encode.{encode, rooted, empty}
+use Rattle.tree_forest.specs.Limits.{sessionLevels, sessionNodes}
 use Rattle.tree.specs.Decode.{decode, decodeMessage}
 use Rattle.state.specs.Places.{slotSize, treeRoom, messageRoom, entrySize, lengthPlace, treePlace, queuePlace, keptSize, slotStart, rowStart}
 use Rattle.state.specs.Session.{Destination, outsider, waitingRow, Progress, undone, done, waits, received, taken, Progresses, Queued, Session, sessionOf, Slot, free, live, State}
@@ -99,7 +101,8 @@ headBytes S = (1 ∷ 0 ∷ u16Bytes (length (treeBytes (S .tree)))) ++ zeros 12
 unfoldable pub slotBytes : Slot → List ℕ
 slotBytes free = zeros slotSize
 slotBytes (live S) =
-    headBytes S ++ (padded treeRoom (treeBytes (S .tree)) ++ (queueBytes 4 (S .queue) ++ (rowsBytes (S .progress) ++ zeros keptSize)))
+    headBytes S ++ (padded treeRoom (treeBytes (S .tree))
+    ++ (queueBytes 4 (S .queue) ++ (rowsBytes (S .progress) ++ zeros keptSize)))
 
 -- The slot k = 4 x service + session.
 abbrev pub slotAt : State → ℕ → Slot
@@ -111,7 +114,8 @@ stateBytes G = joined (λ k. slotBytes (slotAt G k)) 0 16
 
 -- Reading, total on any bytes. What is read from bytes that stand for no state means nothing. First where a reply goes, from its kind.
 unfoldable pub readDestination : List ℕ → ℕ → ℕ → Destination
-readDestination s kind at = pick (eqb kind 1) (outsider (u32At s at)) (waitingRow (byteAt s at) (byteAt s (at + 1)) (u16At s (at + 2)))
+readDestination s kind at =
+    pick (eqb kind 1) (outsider (u32At s at)) (waitingRow (byteAt s at) (byteAt s (at + 1)) (u16At s (at + 2)))
 
 unfoldable pub readReply : List ℕ → ℕ → ℕ → Optional Destination
 readReply s kind at = pick (eqb kind 0) none (some (readDestination s kind at))
@@ -152,11 +156,12 @@ abbrev pub treeLength : List ℕ → ℕ → ℕ
 treeLength s at = u16At s (at + lengthPlace)
 
 abbrev pub readTree : List ℕ → ℕ → Forest Value
-readTree s at = childrenOf (decode treeDeep treeMany (part s (at + treePlace) (treeLength s at)))
+readTree s at = childrenOf (decode sessionLevels sessionNodes (part s (at + treePlace) (treeLength s at)))
 
 -- The session in the slot that starts at `at`; rows past 255 have no progress.
 unfoldable pub readSession : List ℕ → ℕ → Session
-readSession s at = sessionOf (readTree s at) (readQueue s 4 (at + queuePlace)) (λ r. pick (ltb r 256) (readRow s at r) undone)
+readSession s at =
+    sessionOf (readTree s at) (readQueue s 4 (at + queuePlace)) (λ r. pick (ltb r 256) (readRow s at r) undone)
 
 -- The slot that starts at `at`.
 unfoldable pub readSlot : List ℕ → ℕ → Slot

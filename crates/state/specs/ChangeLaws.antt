@@ -8,7 +8,7 @@ use native.Mathlib.Decide.{ℕ-discrete}
 use lib.ListN.{length, take, drop}
 use lib.Seq.{drop-at}
 use borrow.Author.Tests.{eq-eqb, ne-eqb}
-use Rattle.forest.specs.Forest.{Forest}
+use Rattle.tree_forest.specs.Forest.{Forest}
 use Rattle.scalar.specs.Value.{Value}
 use Rattle.wire.specs.Wire.{part, withPart}
 use Rattle.wire.specs.WireLaws.{length-part, length-withPart}
@@ -17,14 +17,14 @@ use Rattle.state.specs.Session.{Progress, Progresses, advance, Queued, S
 use Rattle.state.specs.Bytes.{zeros, padded, u16Bytes, messageBytes, entryBytes, queueBytes, progressBytes, rowsBytes, treeBytes, headBytes, slotBytes, slotAt, stateBytes, readSlot}
 use Rattle.state.specs.Shape.{AllMessages, MadeSlot}
 use Rattle.state.specs.PartLaws.{take-past, drop-past, length-zeros, length-padded, holds-part, replace-middle, replace-rest, replace-first, replace-within, replace-both, replace-joined}
-use Rattle.state.specs.SizeLaws.{message-size, entry-size, progress-size, rows-size, Fits, Sized, sized-length}
+use Rattle.state.specs.SizeLaws.{message-size, entry-size, progress-size, rows-size, SessionFits, Sized, sized-length}
 use Rattle.state.specs.HeadLaws.{head-size, head-tree, head-queue, head-progress}
 use Rattle.state.specs.ReadLaws.{read-slot, state-slot}
 
 -- ---- one slot of a state
 
-pub set-same : (G : State) (q n : ℕ) (x : Slot) → setSlot G q n x q n ≡ x
-set-same G q n x = rw (eq-eqb q q refl, eq-eqb n n refl)
+pub slot-same : (G : State) (q n : ℕ) (x : Slot) → setSlot G q n x q n ≡ x
+slot-same G q n x = rw (eq-eqb q q refl, eq-eqb n n refl)
 
 pub set-other : (G : State) (q n : ℕ) (x : Slot) (i j : ℕ) → (i ≡ q → j ≡ n → ⊥) → setSlot G q n x i j ≡ G i j
 set-other G q n x i j h = by (ℕ-discrete i q) (ℕ-discrete j n)
@@ -39,7 +39,7 @@ module _ {G : State} (z : Sized G) (q n : ℕ) (x : Slot) (size : length (slotBy
   set-sized = record { each = λ k. by k (ℕ-discrete (k / 4) q) (ℕ-discrete (k % 4) n) }
     where
       by : (k : ℕ) → Dec (k / 4 ≡ q) → Dec (k % 4 ≡ n) → length (slotBytes (slotAt (setSlot G q n x) k)) ≡ slotSize
-      by k (yes e) (yes f) = rw (e, f, set-same G q n x) size
+      by k (yes e) (yes f) = rw (e, f, slot-same G q n x) size
       by k (yes e) (no f) = rw (set-other G q n x (k / 4) (k % 4) (λ a b. f b)) (z .each k)
       by k (no e) f = rw (set-other G q n x (k / 4) (k % 4) (λ a b. e a)) (z .each k)
 
@@ -52,13 +52,13 @@ module _ {G : State} (z : Sized G) (q n : ℕ) (x : Slot) (size : length (slotBy
       let g : ℕ → List ℕ = λ k. slotBytes (slotAt (setSlot G q n x) k) in
       let a : k / 4 ≡ q = omega arith in
       let b : k % 4 ≡ n = omega arith in
-      let e : g (0 + k) ≡ slotBytes x = rw (zero-add k, a, b, set-same G q n x) refl in
+      let e : g (0 + k) ≡ slotBytes x = rw (zero-add k, a, b, slot-same G q n x) refl in
       rw e at (replace-joined f slotSize (z .each) g 0 16 k (omega arith) (ap length e ∙ size)
       (λ m d. ap slotBytes (set-other G q n x (m / 4) (m % 4) (λ u v. d (omega arith)))))
 
   -- Reading back: the slot that was written, and every other.
   pub read-set-same : q < 4 → n < 4 → MadeSlot x → readSlot (stateBytes (setSlot G q n x)) (slotStart q n) ≡ x
-  read-set-same i j m = read-slot x m (rw (set-same G q n x) at (state-slot set-sized q n i j))
+  read-set-same i j m = read-slot x m (rw (slot-same G q n x) at (state-slot set-sized q n i j))
 
   pub read-set-other : (i j : ℕ) → i < 4 → j < 4 → (i ≡ q → j ≡ n → ⊥) → MadeSlot (G i j)
       → readSlot (stateBytes (setSlot G q n x)) (slotStart i j) ≡ G i j
@@ -120,7 +120,7 @@ advance-bytes p r x l =
 
 -- ---- within a live slot
 
-module _ (S : Session) (f : Fits S) where
+module _ (S : Session) (f : SessionFits S) where
   -- The tree: its length, at 2 and 3, and its bytes, at 16 to 1039.
   pub change-tree : (F : Forest Value) → length (treeBytes F) ≤ treeRoom
       → slotBytes (live (withTree S F))

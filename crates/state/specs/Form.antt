@@ -4,8 +4,8 @@ use mathlib.Core.Bool.{Bool, true, _&&_, _||_}
 use mathlib.Core.List.{List}
 use Prim.Native.Nat.{ℕ, zero, suc, _+_, _-_, _*_, _/_, _%_}
 use lib.Dec.{eqb, leb}
-use Rattle.scalar.specs.Value.{pick}
-use Rattle.syntax.specs.Syntax.{Network}
+use Rattle.basics.specs.Choice.{pick}
+use Rattle.network_syntax.specs.Syntax.{Network}
 use Rattle.wire.specs.Wire.{byteAt, u16At, part}
 use Rattle.tree.specs.Decode.{isMessage, isSessionTree}
 use Rattle.state.specs.Places.{slotSize, treeRoom, messageRoom, entrySize, rowSize, treePlace, queuePlace, rowsPlace, keptPlace, keptSize}

@@ -9,31 +9,34 @@ use native.Mathlib.Decide.{decLt}
 use lib.ListN.{length, drop, take-append-drop, length-append}
 use lib.Dec.{eqb, leb, ltb}
 use borrow.Author.Tests.{eq-eqb, ne-eqb, eqb-true, eqb-false, leb-true, le-leb, lt-leb, lt-ltb}
-use Rattle.forest.specs.Forest.{Forest, tree, childrenOf}
-use Rattle.scalar.specs.Value.{Value, pick}
-use Rattle.syntax.specs.Syntax.{Optional, none, some, Network}
+use Rattle.tree_forest.specs.Forest.{Forest, tree, childrenOf}
+use Rattle.scalar.specs.Value.{Value}
+use Rattle.basics.specs.Choice.{pick}
+use Rattle.basics.specs.TestLaws.{agree, and-left, and-right}
+use Rattle.network_syntax.specs.Syntax.{Optional, none, some, Network}
 use Rattle.wire.specs.Wire.{byteAt, u16At, u32At, part}
 use Rattle.wire.specs.WireLaws.{length-part}
-use Rattle.tree.specs.Encode.{Octets, WellFormed, empty, messageDeep, messageMany, treeDeep, treeMany}
+use Rattle.tree.specs.Encode.{Octets, WellFormedTree, empty}
+use Rattle.tree_forest.specs.Limits.{messageLevelsBelow, messageNodesBelow, sessionLevels, sessionNodes}
 use Rattle.tree.specs.Decode.{decode, decodeMessage, isMessage, isSessionTree}
 use Rattle.tree.specs.DecodeLaws.{decode-complete, message-sound, message-complete, session-sound, session-complete}
-use Rattle.tree.specs.EncodeLaws.{and-left, and-right, octets-part}
+use Rattle.tree.specs.EncodeLaws.{octets-part}
 use Rattle.state.specs.Places.{slotSize, headSize, treeRoom, messageRoom, entrySize, queueSize, rowSize, rowsSize, treePlace, queuePlace, rowsPlace, keptPlace, keptSize, slotStart}
 use Rattle.state.specs.Session.{Destination, outsider, waitingRow, Progress, undone, done, waits, received, taken, Progresses, Queued, Session, Slot, free, live}
 use Rattle.state.specs.Bytes.{zeros, joined, padded, u16Bytes, u32Bytes, replyKind, replyBytes, messageBytes, entryBytes, queueBytes, progressBytes, rowsBytes, treeBytes, headBytes, slotBytes, slotAt, stateBytes, readDestination, readReply, treeOr, readEntry, readQueue, readProgress, treeLength, readSession, readSlot, readState}
 use Rattle.state.specs.Shape.{AllMessages, MadeSlot, suitsSlot, suitsServices, sameBytes, decodeState}
 use Rattle.state.specs.Form.{allZero, progressForm, rowsForm, entryForm, queueForm, headForm, treeForm, liveForm, slotForm, slotsStand, slotsForm}
-use Rattle.state.specs.PartLaws.{length-padded, Holds, holds-first, holds-rest, holds-part}
-use Rattle.state.specs.SizeLaws.{message-size, session-tree-size, entry-size, reply-size, progress-size, rows-size, Fits, made-fits, slot-size, Sized, sized-length}
+use Rattle.state.specs.PartLaws.{length-padded, HoldsAt, holds-first, holds-rest, holds-part}
+use Rattle.state.specs.SizeLaws.{message-size, session-tree-size, entry-size, reply-size, progress-size, rows-size, SessionFits, made-fits, slot-size, Sized, sized-length}
 use Rattle.state.specs.HoldLaws.{holds-head, holds-tail, holds-zeros, holds-u16, holds-nil, holds-join, holds-cons, zero-holds, holds-zero, two-holds, u16-holds, u32-holds}
 use Rattle.state.specs.HeadLaws.{head-size, head-live, head-length, head-tested, tested-head}
 use Rattle.state.specs.ReadLaws.{entry-used, Parts, slot-parts, state-slot}
 use Rattle.state.specs.FreshLaws.{no-queue}
-use Rattle.state.specs.ShapeLaws.{services-suit, suit-services, both-ways, same-true, same-equal, below-next, entry-made, session-made, slot-made}
+use Rattle.state.specs.ShapeLaws.{services-suit, suit-services, same-true, same-equal, below-next, entry-made, session-made, slot-made}
 
 -- ---- a row's progress
 
-holds-progress : {s : List ℕ} {at : ℕ} (p : Progress) → Holds s at (progressBytes p) → progressForm s at ≡ true
+holds-progress : {s : List ℕ} {at : ℕ} (p : Progress) → HoldsAt s at (progressBytes p) → progressForm s at ≡ true
 unfolding progressForm progressBytes zeros
 holds-progress undone h = rw (holds-head h) (holds-zero 5 (holds-tail h))
 holds-progress done h = rw (holds-head h) (holds-zero 5 (holds-tail h))
@@ -73,16 +76,16 @@ progress-code s at h = by (decLt (byteAt s at) 6)
         absurd (let z : _≡_ {A = ℕ} 0 1 = cc in omega arith)
 
 module _ (s : List ℕ) (o : Octets s) where
-  waiting-holds : (at : ℕ) → at + 4 ≤ length s → Holds s at (byteAt s at ∷ byteAt s (at + 1) ∷ u16Bytes (u16At s (at + 2)))
+  waiting-holds : (at : ℕ) → at + 4 ≤ length s → HoldsAt s at (byteAt s at ∷ byteAt s (at + 1) ∷ u16Bytes (u16At s (at + 2)))
   waiting-holds at i =
       holds-join (byteAt s at ∷ byteAt s (at + 1) ∷ []) (u16Bytes (u16At s (at + 2))) 2 refl
       (two-holds s o at (omega arith) refl refl) (u16-holds s o (at + 2) (omega arith))
 
-  progress-holds : (at : ℕ) → at + rowSize ≤ length s → progressForm s at ≡ true → Holds s at (progressBytes (readProgress s at))
+  progress-holds : (at : ℕ) → at + rowSize ≤ length s → progressForm s at ≡ true → HoldsAt s at (progressBytes (readProgress s at))
   unfolding progressForm readProgress progressBytes readDestination zeros
   progress-holds at i h = by (byteAt s at) refl (code (byteAt s at) (progress-code s at h))
     where
-      by : (c : ℕ) → byteAt s at ≡ c → Code c → Holds s at (progressBytes (readProgress s at))
+      by : (c : ℕ) → byteAt s at ≡ c → Code c → HoldsAt s at (progressBytes (readProgress s at))
       by c e undone′ = rw e (holds-cons (omega arith) e (zero-holds s (at + 1) 5 (omega arith) (rw e at h)))
       by c e done′ = rw e (holds-cons (omega arith) e (zero-holds s (at + 1) 5 (omega arith) (rw e at h)))
       by c e waits′ = rw e (holds-cons (omega arith) e (zero-holds s (at + 1) 5 (omega arith) (rw e at h)))
@@ -98,7 +101,7 @@ module _ (s : List ℕ) (o : Octets s) where
 
 -- ---- rows
 
-holds-rows : {s : List ℕ} {at : ℕ} (p : Progresses) (k n : ℕ) → Holds s at (joined (λ r. progressBytes (p r)) k n) → rowsForm s at n ≡ true
+holds-rows : {s : List ℕ} {at : ℕ} (p : Progresses) (k n : ℕ) → HoldsAt s at (joined (λ r. progressBytes (p r)) k n) → rowsForm s at n ≡ true
 unfolding rowsForm joined
 holds-rows p k zero h = refl
 holds-rows p k (suc n) h =
@@ -108,14 +111,14 @@ holds-rows p k (suc n) h =
     rw (holds-progress (p k) a, holds-rows p (suc k) n b)
 
 rows-hold : (s : List ℕ) → Octets s → (p : Progresses) (at k n : ℕ) → at + rowSize * n ≤ length s → ((i : ℕ) → i < n → p (k + i) ≡ readProgress s (at + rowSize * i))
-    → rowsForm s at n ≡ true → Holds s at (joined (λ r. progressBytes (p r)) k n)
+    → rowsForm s at n ≡ true → HoldsAt s at (joined (λ r. progressBytes (p r)) k n)
 unfolding rowsForm joined
 rows-hold s o p at k zero i e h = holds-nil s at
 rows-hold s o p at k (suc n) i e h =
     let f : p k ≡ readProgress s at = rw (add-zero k, add-zero at) at (e 0 (omega arith)) in
     let a = progressForm s at in
     let b = rowsForm s (at + rowSize) n in
-    let one : Holds s at (progressBytes (p k)) = rw f (progress-holds s o at (omega arith) (and-left a b h)) in
+    let one : HoldsAt s at (progressBytes (p k)) = rw f (progress-holds s o at (omega arith) (and-left a b h)) in
     let rest = rows-hold s o p (at + rowSize) (suc k) n (omega arith) (λ i l. later i (e (suc i) (omega arith))) (and-right a b h) in
     holds-join (progressBytes (p k)) (joined (λ r. progressBytes (p r)) (suc k) n) rowSize (progress-size (p k)) one rest
   where
@@ -132,12 +135,12 @@ small-kind none = refl
 small-kind (some (outsider k)) = refl
 small-kind (some (waitingRow q n r)) = refl
 
-holds-reply : {s : List ℕ} {at : ℕ} (to : Optional Destination) → Holds s at (replyBytes to) → pick (eqb (replyKind to) 0) (allZero s at 4) true ≡ true
+holds-reply : {s : List ℕ} {at : ℕ} (to : Optional Destination) → HoldsAt s at (replyBytes to) → pick (eqb (replyKind to) 0) (allZero s at 4) true ≡ true
 holds-reply none h = holds-zero 4 h
 holds-reply (some (outsider k)) h = refl
 holds-reply (some (waitingRow q n r)) h = refl
 
-holds-entry-form : {s : List ℕ} {at : ℕ} (m : Queued) → WellFormed messageDeep messageMany (m .message) → Holds s at (entryBytes m) → entryForm s at ≡ true
+holds-entry-form : {s : List ℕ} {at : ℕ} (m : Queued) → WellFormedTree messageLevelsBelow messageNodesBelow (m .message) → HoldsAt s at (entryBytes m) → entryForm s at ≡ true
 unfolding entryForm entryBytes
 holds-entry-form {s} {at} m w h =
     let to = m .replyTo in
@@ -147,7 +150,7 @@ holds-entry-form {s} {at} m w h =
     let len : u16At s (at + 2) ≡ length l = holds-u16 (length l) (holds-rest ((m .operation + 1) ∷ replyKind to ∷ []) _ 2 refl h) in
     let r : pick (eqb (replyKind to) 0) (allZero s (at + 4) 4) true ≡ true = holds-reply to (holds-first (replyBytes to) (padded messageRoom l) tail) in
     let e : at + 4 + 4 ≡ at + 8 = omega arith in
-    let bytes : Holds s (at + 8) (padded messageRoom l) = rw e at (holds-rest (replyBytes to) (padded messageRoom l) 4 (reply-size to) tail) in
+    let bytes : HoldsAt s (at + 8) (padded messageRoom l) = rw e at (holds-rest (replyBytes to) (padded messageRoom l) 4 (reply-size to) tail) in
     let is = message-complete l (m .message) (record { bytes = refl; good = w }) in
     let p : part s (at + 8) (length l) ≡ l = holds-part (holds-first l (zeros (messageRoom - length l)) bytes) (length l) refl in
     let z = holds-zero (messageRoom - length l) (holds-rest l (zeros (messageRoom - length l)) (length l) refl bytes) in
@@ -155,7 +158,7 @@ holds-entry-form {s} {at} m w h =
     rw (k, small-kind to, r, len, f, p, is, z)
 
 module _ (s : List ℕ) (o : Octets s) where
-  reply-holds : (c at : ℕ) → at + 4 ≤ length s → leb c 2 ≡ true → pick (eqb c 0) (allZero s at 4) true ≡ true → Holds s at (replyBytes (readReply s c at))
+  reply-holds : (c at : ℕ) → at + 4 ≤ length s → leb c 2 ≡ true → pick (eqb c 0) (allZero s at 4) true ≡ true → HoldsAt s at (replyBytes (readReply s c at))
   unfolding readReply readDestination
   reply-holds zero at i k h = zero-holds s at 4 i h
   reply-holds (suc zero) at i k h = u32-holds s o at i
@@ -170,17 +173,17 @@ module _ (s : List ℕ) (o : Octets s) where
   kind-back (suc (suc (suc c))) at k = absurd (omega (arith, leb-true (suc (suc (suc c))) 2 k))
 
   -- Bytes of a length, then zeros.
-  padded-holds : (at n len : ℕ) (l : List ℕ) → at + n ≤ length s → len ≤ n → part s at len ≡ l → allZero s (at + len) (n - len) ≡ true → Holds s at (padded n l)
+  padded-holds : (at n len : ℕ) (l : List ℕ) → at + n ≤ length s → len ≤ n → part s at len ≡ l → allZero s (at + len) (n - len) ≡ true → HoldsAt s at (padded n l)
   padded-holds at n len l i k e h =
       let z : length l ≡ len = ap length (sym e) ∙ length-part s at len (omega arith) in
       let d : n - length l ≡ n - len = omega arith in
-      let a : Holds s at l = record { after = drop len (drop at s); bytes = sym (take-append-drop len (drop at s)) ∙ rw e refl } in
+      let a : HoldsAt s at l = record { after = drop len (drop at s); bytes = sym (take-append-drop len (drop at s)) ∙ rw e refl } in
       holds-join l (zeros (n - length l)) len z a (rw d (zero-holds s (at + len) (n - len) (omega arith) h))
 
   message-back : (l : List ℕ) → Octets l → isMessage l ≡ true → messageBytes (treeOr (decodeMessage l)) ≡ l
-  message-back l p h = let w = message-sound l p h in rw (decode-complete messageDeep messageMany l (w .0) (w .1)) (sym (w .1 .bytes))
+  message-back l p h = let w = message-sound l p h in rw (decode-complete messageLevelsBelow messageNodesBelow l (w .0) (w .1)) (sym (w .1 .bytes))
 
-  entry-holds : (at : ℕ) → at + entrySize ≤ length s → (byteAt s at ≡ 0 → ⊥) → entryForm s at ≡ true → Holds s at (entryBytes (readEntry s at))
+  entry-holds : (at : ℕ) → at + entrySize ≤ length s → (byteAt s at ≡ 0 → ⊥) → entryForm s at ≡ true → HoldsAt s at (entryBytes (readEntry s at))
   unfolding entryForm entryBytes readEntry
   entry-holds at i u h =
       let c = byteAt s (at + 1) in
@@ -199,9 +202,9 @@ module _ (s : List ℕ) (o : Octets s) where
       let e : at + 4 + 4 ≡ at + 8 = omega arith in
       let to = readReply s c (at + 4) in
       let a = two-holds s o at (omega arith) op (sym (kind-back c (at + 4) kc)) in
-      let b : Holds s (at + 2) (u16Bytes (length l)) = rw len (u16-holds s o (at + 2) (omega arith)) in
+      let b : HoldsAt s (at + 2) (u16Bytes (length l)) = rw len (u16-holds s o (at + 2) (omega arith)) in
       let d = reply-holds c (at + 4) (omega arith) kc (and-right (leb c 2) r h1) in
-      let f : Holds s (at + 4 + 4) (padded messageRoom l) = rw e (padded-holds (at + 8) messageRoom n l (omega arith) small refl (and-right (isMessage l) z h3)) in
+      let f : HoldsAt s (at + 4 + 4) (padded messageRoom l) = rw e (padded-holds (at + 8) messageRoom n l (omega arith) small refl (and-right (isMessage l) z h3)) in
       let front : List ℕ = (byteAt s at - 1 + 1) ∷ replyKind to ∷ [] in
       rw back (holds-join (front ++ u16Bytes (length l)) (replyBytes to ++ padded messageRoom l) 4 refl (holds-join front (u16Bytes (length l)) 2 refl a b)
       (holds-join (replyBytes to) (padded messageRoom l) 4 (reply-size to) d f))
@@ -212,25 +215,25 @@ module _ (s : List ℕ) (o : Octets s) where
 
 -- ---- the queue
 
-holds-queue : {s : List ℕ} {at : ℕ} (n : ℕ) (l : List Queued) → AllMessages l → Holds s at (queueBytes n l) → queueForm s at n ≡ true
+holds-queue : {s : List ℕ} {at : ℕ} (n : ℕ) (l : List Queued) → AllMessages l → HoldsAt s at (queueBytes n l) → queueForm s at n ≡ true
 unfolding queueForm queueBytes AllMessages
 holds-queue zero l w h = refl
 holds-queue {s} {at} (suc n) [] w h =
-    let z : Holds s at (zeros (entrySize * suc n)) = rw (no-queue (suc n)) at h in
+    let z : HoldsAt s at (zeros (entrySize * suc n)) = rw (no-queue (suc n)) at h in
     rw (holds-zeros (omega arith) z) (holds-zero (entrySize * suc n) z)
 holds-queue {s} {at} (suc n) (m ∷ l) w h =
     let a = holds-first (entryBytes m) (queueBytes n l) h in
     let b = holds-rest (entryBytes m) (queueBytes n l) entrySize (entry-size m (message-size (m .message) (w .0))) h in
     rw (entry-used m a, holds-entry-form m (w .0) a, holds-queue n l (w .1) b)
 
-queue-holds : (s : List ℕ) → Octets s → (at n : ℕ) → at + entrySize * n ≤ length s → queueForm s at n ≡ true → Holds s at (queueBytes n (readQueue s n at))
+queue-holds : (s : List ℕ) → Octets s → (at n : ℕ) → at + entrySize * n ≤ length s → queueForm s at n ≡ true → HoldsAt s at (queueBytes n (readQueue s n at))
 unfolding queueForm queueBytes readQueue
 queue-holds s o at zero i h = holds-nil s at
 queue-holds s o at (suc n) i h = by (eqb (byteAt s at) 0) refl h (queue-holds s o (at + entrySize) n (omega arith))
   where
     by : (t : Bool) → eqb (byteAt s at) 0 ≡ t → pick t (allZero s at (entrySize * suc n)) (entryForm s at && queueForm s (at + entrySize) n) ≡ true
-        → (queueForm s (at + entrySize) n ≡ true → Holds s (at + entrySize) (queueBytes n (readQueue s n (at + entrySize))))
-        → Holds s at (queueBytes (suc n) (pick t [] (readEntry s at ∷ readQueue s n (at + entrySize))))
+        → (queueForm s (at + entrySize) n ≡ true → HoldsAt s (at + entrySize) (queueBytes n (readQueue s n (at + entrySize))))
+        → HoldsAt s at (queueBytes (suc n) (pick t [] (readEntry s at ∷ readQueue s n (at + entrySize))))
     by true e h k = rw (no-queue (suc n)) (zero-holds s at (entrySize * suc n) i h)
     by false e h k =
         let a = and-left (entryForm s at) (queueForm s (at + entrySize) n) h in
@@ -241,11 +244,11 @@ queue-holds s o at (suc n) i h = by (eqb (byteAt s at) 0) refl h (queue-holds s 
 
 -- ---- a live slot's tree
 
-tree-back : (l : List ℕ) → Octets l → isSessionTree l ≡ true → treeBytes (childrenOf (decode treeDeep treeMany l)) ≡ l
-tree-back l o h = let w = session-sound l o h in rw (decode-complete treeDeep treeMany l (tree empty (w .0)) (w .1)) (sym (w .1 .bytes))
+tree-back : (l : List ℕ) → Octets l → isSessionTree l ≡ true → treeBytes (childrenOf (decode sessionLevels sessionNodes l)) ≡ l
+tree-back l o h = let w = session-sound l o h in rw (decode-complete sessionLevels sessionNodes l (tree empty (w .0)) (w .1)) (sym (w .1 .bytes))
 
-holds-tree : {s : List ℕ} (at : ℕ) (F : Forest Value) → WellFormed treeDeep treeMany (tree empty F) → treeLength s at ≡ length (treeBytes F)
-    → Holds s (at + treePlace) (padded treeRoom (treeBytes F)) → treeForm s at ≡ true
+holds-tree : {s : List ℕ} (at : ℕ) (F : Forest Value) → WellFormedTree sessionLevels sessionNodes (tree empty F) → treeLength s at ≡ length (treeBytes F)
+    → HoldsAt s (at + treePlace) (padded treeRoom (treeBytes F)) → treeForm s at ≡ true
 unfolding treeForm
 holds-tree {s} at F w e h =
     let l = treeBytes F in
@@ -258,7 +261,7 @@ holds-tree {s} at F w e h =
 -- ---- a slot
 
 -- What stands in the form of a slot passes the test.
-pub holds-slot : {s : List ℕ} {at : ℕ} (x : Slot) → MadeSlot x → Holds s at (slotBytes x) → slotForm s at ≡ true
+pub holds-slot : {s : List ℕ} {at : ℕ} (x : Slot) → MadeSlot x → HoldsAt s at (slotBytes x) → slotForm s at ≡ true
 unfolding slotForm liveForm slotBytes
 holds-slot free w h = rw (holds-zeros (omega arith) h) (holds-zero slotSize h)
 holds-slot {s} {at} (live S) w h =
@@ -274,16 +277,16 @@ holds-slot {s} {at} (live S) w h =
 
 module _ (s : List ℕ) (o : Octets s) where
   -- A live slot from its parts.
-  parts-slot : (at : ℕ) (S : Session) → at + slotSize ≤ length s → Fits S → Parts s at S → Holds s at (slotBytes (live S))
+  parts-slot : (at : ℕ) (S : Session) → at + slotSize ≤ length s → SessionFits S → Parts s at S → HoldsAt s at (slotBytes (live S))
   unfolding slotBytes
   parts-slot at S i f p =
       let t = treeBytes (S .tree) in
       let q = queueBytes 4 (S .queue) in
       let r = rowsBytes (S .progress) in
-      let b : Holds s (at + rowsPlace) (r ++ zeros keptSize) =
+      let b : HoldsAt s (at + rowsPlace) (r ++ zeros keptSize) =
       holds-join r (zeros keptSize) rowsSize (rows-size (S .progress)) (p .rows) (rw (further at rowsPlace rowsSize) (p .kept)) in
-      let c : Holds s (at + queuePlace) (q ++ (r ++ zeros keptSize)) = holds-join q (r ++ zeros keptSize) queueSize (f .queueFits) (p .queue) (rw (further at queuePlace queueSize) b) in
-      let d : Holds s (at + treePlace) (padded treeRoom t ++ (q ++ (r ++ zeros keptSize))) =
+      let c : HoldsAt s (at + queuePlace) (q ++ (r ++ zeros keptSize)) = holds-join q (r ++ zeros keptSize) queueSize (f .queueFits) (p .queue) (rw (further at queuePlace queueSize) b) in
+      let d : HoldsAt s (at + treePlace) (padded treeRoom t ++ (q ++ (r ++ zeros keptSize))) =
       holds-join (padded treeRoom t) _ treeRoom (length-padded treeRoom t (f .treeFits)) (p .tree) (rw (further at treePlace treeRoom) c) in
       holds-join (headBytes S) _ headSize (head-size S) (p .head) d
     where
@@ -316,35 +319,35 @@ module _ (s : List ℕ) (o : Octets s) where
         kept = zero-holds s (at + keptPlace) keptSize (omega arith) (and-right f6 f7 h67);
       }
 
-  live-holds : (at : ℕ) → at + slotSize ≤ length s → liveForm s at ≡ true → Holds s at (slotBytes (live (readSession s at)))
+  live-holds : (at : ℕ) → at + slotSize ≤ length s → liveForm s at ≡ true → HoldsAt s at (slotBytes (live (readSession s at)))
   live-holds at i h = parts-slot at (readSession s at) i (made-fits (session-made s o at)) (live-parts at i h)
 
   -- What passes it is the form of what is read there.
-  pub slot-holds : (at : ℕ) → at + slotSize ≤ length s → slotForm s at ≡ true → Holds s at (slotBytes (readSlot s at))
+  pub slot-holds : (at : ℕ) → at + slotSize ≤ length s → slotForm s at ≡ true → HoldsAt s at (slotBytes (readSlot s at))
   unfolding slotForm readSlot slotBytes
   slot-holds at i h = by (eqb (byteAt s at) 0) h
     where
-      by : (t : Bool) → pick t (allZero s at slotSize) (liveForm s at) ≡ true → Holds s at (slotBytes (pick t free (live (readSession s at))))
+      by : (t : Bool) → pick t (allZero s at slotSize) (liveForm s at) ≡ true → HoldsAt s at (slotBytes (pick t free (live (readSession s at))))
       by true h = zero-holds s at slotSize i h
       by false h = live-holds at i h
 
 -- ---- the whole
 
-joined-holds : (s : List ℕ) (f : ℕ → List ℕ) (w : ℕ) → ((i : ℕ) → length (f i) ≡ w) → (at k n : ℕ) → ((i : ℕ) → i < n → Holds s (at + w * i) (f (k + i)))
-    → Holds s at (joined f k n)
+joined-holds : (s : List ℕ) (f : ℕ → List ℕ) (w : ℕ) → ((i : ℕ) → length (f i) ≡ w) → (at k n : ℕ) → ((i : ℕ) → i < n → HoldsAt s (at + w * i) (f (k + i)))
+    → HoldsAt s at (joined f k n)
 unfolding joined
 joined-holds s f w z at k zero h = holds-nil s at
 joined-holds s f w z at k (suc n) h =
-    let a : Holds s at (f k) = rw (mul-zero w, add-zero at, add-zero k) at (h 0 (omega arith)) in
+    let a : HoldsAt s at (f k) = rw (mul-zero w, add-zero at, add-zero k) at (h 0 (omega arith)) in
     holds-join (f k) (joined f (suc k) n) w (z k) a (joined-holds s f w z (at + w) (suc k) n (λ i l. later i (h (suc i) (omega arith))))
   where
-    later : (i : ℕ) → Holds s (at + w * suc i) (f (k + suc i)) → Holds s (at + w + w * i) (f (suc k + i))
+    later : (i : ℕ) → HoldsAt s (at + w * suc i) (f (k + suc i)) → HoldsAt s (at + w + w * i) (f (suc k + i))
     later i g =
         let u : suc k + i ≡ k + suc i = omega arith in
         let v : at + w + w * i ≡ at + w * suc i = omega (arith, mul-suc w i) in
         rw (u, v) g
 
-holds-all : {s l : List ℕ} → Holds s 0 l → length l ≡ length s → l ≡ s
+holds-all : {s l : List ℕ} → HoldsAt s 0 l → length l ≡ length s → l ≡ s
 holds-all {s} {l} h e =
     let n : length (h .after) ≡ 0 = omega (arith, ap length (h .bytes), length-append l (h .after)) in
     sym (append-nil l) ∙ ap (λ (x : List ℕ). l ++ x) (sym (nothing (h .after) n)) ∙ sym (h .bytes)
@@ -388,7 +391,7 @@ module _ (s : List ℕ) (o : Octets s) where
       let z = read-sized s o in
       holds-all (joined-holds s (λ k. slotBytes (slotAt (readState s) k)) slotSize (z .each) 0 0 16 (λ k i. slot k i)) (sized-length z ∙ sym n)
     where
-      slot : (k : ℕ) → k < 16 → Holds s (0 + slotSize * k) (slotBytes (slotAt (readState s) (0 + k)))
+      slot : (k : ℕ) → k < 16 → HoldsAt s (0 + slotSize * k) (slotBytes (slotAt (readState s) (0 + k)))
       slot k i = rw (zero-add (slotSize * k), zero-add k, read-at s k i) (slot-holds s o (slotSize * k) (omega arith) (each-form s 16 h k i))
 
   -- And the other way round.
@@ -399,11 +402,11 @@ module _ (s : List ℕ) (o : Octets s) where
       slot k i =
           let h = state-slot (read-sized s o) (k / 4) (k % 4) (omega arith) (omega arith) in
           let d : 4 * (k / 4) + k % 4 ≡ k = omega arith in
-          let a : Holds s (slotSize * k) (slotBytes (slotAt (readState s) k)) = rw (d, e) at h in
+          let a : HoldsAt s (slotSize * k) (slotBytes (slotAt (readState s) k)) = rw (d, e) at h in
           holds-slot (readSlot s (slotSize * k)) (slot-made s o (slotSize * k)) (rw (read-at s k i) at a)
 
   pub same-form : sameBytes (stateBytes (readState s)) s ≡ (eqb (length s) 65536 && slotsForm s 16)
-  same-form = both-ways _ _ to from
+  same-form = agree _ _ to from
     where
       to : sameBytes (stateBytes (readState s)) s ≡ true → (eqb (length s) 65536 && slotsForm s 16) ≡ true
       to h =
@@ -440,7 +443,7 @@ module _ (N : Network) (rows : ℕ) (s : List ℕ) where
   all-stand (suc n) h = rw (h n (omega arith), all-stand n (λ k i. h k (omega arith)))
 
   slots-both : (suitsServices N rows (readState s) 4 && slotsForm s 16) ≡ slotsStand N rows s 16
-  slots-both = both-ways _ _ to from
+  slots-both = agree _ _ to from
     where
       to : (suitsServices N rows (readState s) 4 && slotsForm s 16) ≡ true → slotsStand N rows s 16 ≡ true
       to h =

@@ -10,18 +10,18 @@ use lib.ListN.{length, set, take, drop, length-set, take-append-drop, replicate}
 use lib.Seq.{length-take-le, set-append-left, drop-drop}
 use lib.Dec.{eqb, ltb}
 use borrow.Author.Tests.{eq-eqb, ne-eqb, lt-ltb, le-ltb}
-use Rattle.scalar.specs.Value.{pick}
-use Rattle.syntax.specs.Syntax.{Optional, none, some, Network, Behaviour}
+use Rattle.basics.specs.Choice.{pick}
+use Rattle.network_syntax.specs.Syntax.{Optional, none, some, Network, Behaviour}
 use Rattle.wire.specs.Wire.{part, withPart}
 use Rattle.wire.specs.WireLaws.{length-part}
-use Rattle.tree.specs.Encode.{encode, count}
+use Rattle.tree.specs.Encode.{encode, rootCount}
 use Rattle.state.specs.Places.{slotSize, entrySize, queueSize, rowsSize, keptSize, rowSize}
 use Rattle.state.specs.Session.{undone, free, live, setSlot, newSession}
 use Rattle.state.specs.SizeLaws.{Sized, slot-size}
 use Rattle.state.specs.ShapeLaws.{new-made, no-service}
 use Rattle.state.specs.ChangeLaws.{set-other}
 use Rattle.state.specs.HeadLaws.{head-new}
-use Rattle.state.specs.Shape.{serviceAt, clientOf, freshSlot, freshState, freshUpTo}
+use Rattle.state.specs.Shape.{serviceOfRow, clientOf, freshSlot, freshState, freshUpTo}
 use Rattle.state.specs.Bytes.{zeros, joined, queueBytes, progressBytes, rowsBytes, slotBytes, stateBytes}
 
 pub replicate-zeros : (n : ℕ) → replicate n 0 ≡ zeros n
@@ -54,7 +54,7 @@ no-progress = joined-zeros (λ i. progressBytes undone) rowSize (λ i. refl) 0 2
 
 -- The slot of a new session.
 pub new-bytes : slotBytes (live newSession) ≡ 1 ∷ 0 ∷ 5 ∷ 0 ∷ (zeros 12 ++ (0 ∷ 0 ∷ 6 ∷ 0 ∷ 0 ∷ zeros 4075))
-unfolding slotBytes encode count
+unfolding slotBytes encode rootCount
 new-bytes = rw (head-new, no-queue 4, no-progress, zeros-join rowsSize keptSize, zeros-join queueSize 1680, zeros-join 1019 3056) refl
 
 -- ---- by stores
@@ -109,7 +109,7 @@ fresh-none N = fun-ext (λ q. fun-ext (λ n. rw (le-ltb q 0 (omega arith))))
 pub fresh-all : (N : Network) (k : ℕ) → length (N .services) ≤ k → freshUpTo N k ≡ freshState N
 fresh-all N k h = fun-ext (λ q. fun-ext (λ n. by q n (decLt q k)))
   where
-    none-there : (q n : ℕ) → k ≤ q → (t : Bool) → pick t (freshSlot (clientOf (serviceAt (N .services) q))) free ≡ free
+    none-there : (q n : ℕ) → k ≤ q → (t : Bool) → pick t (freshSlot (clientOf (serviceOfRow (N .services) q))) free ≡ free
     none-there q n l true = rw (no-service (N .services) q (omega arith))
     none-there q n l false = refl
 
@@ -126,10 +126,10 @@ module _ (N : Network) (k : ℕ) where
       by (no l) = rw (le-ltb q k (omega arith), le-ltb q (suc k) (omega arith))
 
   -- A service without a client changes nothing,
-  pub fresh-idle : clientOf (serviceAt (N .services) k) ≡ none → freshUpTo N (suc k) ≡ freshUpTo N k
+  pub fresh-idle : clientOf (serviceOfRow (N .services) k) ≡ none → freshUpTo N (suc k) ≡ freshUpTo N k
   fresh-idle e = fun-ext (λ q. fun-ext (λ n. by q n (ℕ-discrete q k)))
     where
-      at : (n : ℕ) (t : Bool) → pick t (freshSlot (clientOf (serviceAt (N .services) k))) free ≡ free
+      at : (n : ℕ) (t : Bool) → pick t (freshSlot (clientOf (serviceOfRow (N .services) k))) free ≡ free
       at n true = rw e
       at n false = refl
 
@@ -138,7 +138,7 @@ module _ (N : Network) (k : ℕ) where
       by q n (no f) = before-next q n f
 
   -- one with a client starts session 0.
-  pub fresh-client : (B : Behaviour) → clientOf (serviceAt (N .services) k) ≡ some B → freshUpTo N (suc k) ≡ setSlot (freshUpTo N k) k 0 (live newSession)
+  pub fresh-client : (B : Behaviour) → clientOf (serviceOfRow (N .services) k) ≡ some B → freshUpTo N (suc k) ≡ setSlot (freshUpTo N k) k 0 (live newSession)
   fresh-client B e = fun-ext (λ q. fun-ext (λ n. by q n (ℕ-discrete q k) (ℕ-discrete n 0)))
     where
       by : (q n : ℕ) → Dec (q ≡ k) → Dec (n ≡ 0) → freshUpTo N (suc k) q n ≡ setSlot (freshUpTo N k) k 0 (live newSession) q n
@@ -148,7 +148,7 @@ module _ (N : Network) (k : ℕ) where
 
 -- Every such state takes 65,536 bytes.
 pub fresh-sized : (N : Network) (k : ℕ) → Sized (freshUpTo N k)
-fresh-sized N k = record { each = λ j. by (ltb (j / 4) k) (eqb (j % 4) 0) (clientOf (serviceAt (N .services) (j / 4))) }
+fresh-sized N k = record { each = λ j. by (ltb (j / 4) k) (eqb (j % 4) 0) (clientOf (serviceOfRow (N .services) (j / 4))) }
   where
     by : (t u : Bool) (b : Optional Behaviour) → length (slotBytes (pick t (pick u (freshSlot b) free) free)) ≡ slotSize
     by true true none = slot-size free tt

@@ -8,16 +8,16 @@ use native.Mathlib.Omega.{arith}
 use lib.ListN.{length}
 use lib.Dec.{eqb}
 use borrow.Author.Tests.{eqb-true}
-use Rattle.forest.specs.Forest.{Forest}
+use Rattle.basics.specs.TestLaws.{and-left, and-right}
+use Rattle.tree_forest.specs.Forest.{Forest}
 use Rattle.scalar.specs.Value.{Value}
 use Rattle.wire.specs.Wire.{byteAt, withPart}
-use Rattle.tree.specs.Encode.{Octets, encode, count}
-use Rattle.tree.specs.EncodeLaws.{and-left, and-right}
+use Rattle.tree.specs.Encode.{Octets, encode, rootCount}
 use Rattle.state.specs.Places.{headSize, lengthPlace}
 use Rattle.state.specs.Session.{Progresses, Queued, Session, withTree, withQueue, withProgress, newSession}
 use Rattle.state.specs.Bytes.{zeros, u16Bytes, treeBytes, headBytes, treeLength}
 use Rattle.state.specs.Form.{allZero, headForm}
-use Rattle.state.specs.PartLaws.{length-zeros, Holds, holds-rest, replace-middle}
+use Rattle.state.specs.PartLaws.{length-zeros, HoldsAt, holds-rest, replace-middle}
 use Rattle.state.specs.HoldLaws.{holds-head, holds-tail, holds-u16, holds-join, zero-holds, holds-zero, two-holds, u16-holds}
 
 pub head-size : (S : Session) → length (headBytes S) ≡ headSize
@@ -26,7 +26,7 @@ head-size S = omega (arith, length-zeros 12)
 
 -- ---- its fields
 
-module _ {s : List ℕ} {at : ℕ} (S : Session) (h : Holds s at (headBytes S)) where
+module _ {s : List ℕ} {at : ℕ} (S : Session) (h : HoldsAt s at (headBytes S)) where
   pub head-live : byteAt s at ≡ 1
   unfolding headBytes
   head-live = holds-head h
@@ -42,7 +42,7 @@ module _ {s : List ℕ} {at : ℕ} (S : Session) (h : Holds s at (headBytes S)) 
       rw (head-live, holds-head (holds-tail h), holds-zero 12 (holds-rest (1 ∷ 0 ∷ l) (zeros 12) 4 refl h))
 
 pub tested-head : (s : List ℕ) → Octets s → (at : ℕ) (S : Session) → at + headSize ≤ length s → headForm s at ≡ true
-    → treeLength s at ≡ length (treeBytes (S .tree)) → Holds s at (headBytes S)
+    → treeLength s at ≡ length (treeBytes (S .tree)) → HoldsAt s at (headBytes S)
 unfolding headBytes headForm
 tested-head s o at S i h e =
     let l = u16Bytes (length (treeBytes (S .tree))) in
@@ -51,7 +51,7 @@ tested-head s o at S i h e =
     let z = allZero s (at + 4) 12 in
     let f = and-left (a && b) z h in
     let first = two-holds s o at (omega arith) (eqb-true (byteAt s at) 1 (and-left a b f)) (eqb-true (byteAt s (at + 1)) 0 (and-right a b f)) in
-    let size : Holds s (at + 2) l = rw e at (u16-holds s o (at + 2) (omega arith)) in
+    let size : HoldsAt s (at + 2) l = rw e at (u16-holds s o (at + 2) (omega arith)) in
     holds-join (1 ∷ 0 ∷ l) (zeros 12) 4 refl (holds-join (1 ∷ 0 ∷ []) l 2 refl first size)
     (zero-holds s (at + 4) 12 (omega arith) (and-right (a && b) z h))
 
@@ -70,5 +70,5 @@ unfolding headBytes
 head-progress S p = refl
 
 pub head-new : headBytes newSession ≡ 1 ∷ 0 ∷ 5 ∷ 0 ∷ zeros 12
-unfolding headBytes encode count
+unfolding headBytes encode rootCount
 head-new = refl

@@ -8,17 +8,19 @@ use native.Mathlib.Omega.{arith}
 use native.Mathlib.Decide.{ℕ-discrete}
 use borrow.Author.Tests.{eq-eqb, ne-eqb}
 use lib.ListN.{length}
-use Rattle.forest.specs.Forest.{Forest, tree}
-use Rattle.scalar.specs.Value.{Value, pick}
-use Rattle.syntax.specs.Syntax.{Optional, none, some, Network, Behaviour}
-use Rattle.syntax.specs.Rows.{rowOf, hasRow}
-use Rattle.tree.specs.Encode.{WellFormed, empty, messageDeep, messageMany, treeDeep, treeMany}
-use Rattle.tree.specs.EncodeLaws.{and-left, and-right}
+use Rattle.tree_forest.specs.Forest.{Forest, tree}
+use Rattle.scalar.specs.Value.{Value}
+use Rattle.basics.specs.Choice.{pick}
+use Rattle.basics.specs.TestLaws.{and-left, and-right}
+use Rattle.network_syntax.specs.Syntax.{Optional, none, some, Network, Behaviour}
+use Rattle.network_syntax.specs.Rows.{rowOf, hasRow}
+use Rattle.tree.specs.Encode.{WellFormedTree, empty}
+use Rattle.tree_forest.specs.Limits.{messageLevelsBelow, messageNodesBelow, sessionLevels, sessionNodes}
 use Rattle.state.specs.Session.{Progress, undone, Progresses, advance, reopen, Queued, Session, withTree, withQueue, withProgress, Slot, free, live, State, setSlot}
-use Rattle.state.specs.Shape.{isUndone, suits, quietElsewhere, suitsOperation, suitsQueue, operationAt, behaviourIn, suitsBehaviour, suitsSlot, AllMessages, WellMade, MadeSlot, HasShape}
+use Rattle.state.specs.Shape.{isUndone, suits, quietElsewhere, suitsOperation, suitsQueue, operationOfRow, behaviourIn, suitsBehaviour, suitsSlot, AllMessages, WellMade, MadeSlot, HasShape}
 use Rattle.state.specs.RowShape.{suitsRow, PartOf, BranchRowOf, PartSuits}
 use Rattle.state.specs.RowLaws.{undone-row, suits-row, rows-suit}
-use Rattle.state.specs.ChangeLaws.{set-same, set-other, advance-other}
+use Rattle.state.specs.ChangeLaws.{slot-same, set-other, advance-other}
 
 -- ---- progress that changes
 
@@ -92,7 +94,7 @@ reopen-past p C h i k = by (hasRow i C)
 
 module _ (N : Network) (rows q : ℕ) (m : Queued) where
   abbrev fits : Queued → Bool
-  fits m = suitsOperation N rows q (m .replyTo) (operationAt (N .operations) (m .operation))
+  fits m = suitsOperation N rows q (m .replyTo) (operationOfRow (N .operations) (m .operation))
 
   pub append-suits : (l : List Queued) → fits m ≡ true → suitsQueue N rows q l ≡ true → suitsQueue N rows q (l ++ (m ∷ [])) ≡ true
   unfolding suitsQueue
@@ -107,7 +109,7 @@ module _ (N : Network) (rows q : ℕ) (m : Queued) where
       let r = suitsQueue N rows q (a ++ (m ∷ b)) in
       rw (and-left (fits c) r h, remove-suits a b (and-right (fits c) r h))
 
-pub append-messages : (m : Queued) (l : List Queued) → WellFormed messageDeep messageMany (m .message) → AllMessages l → AllMessages (l ++ (m ∷ []))
+pub append-messages : (m : Queued) (l : List Queued) → WellFormedTree messageLevelsBelow messageNodesBelow (m .message) → AllMessages l → AllMessages (l ++ (m ∷ []))
 unfolding AllMessages
 append-messages m [] w h = (w, tt)
 append-messages m (a ∷ l) w h = (h .0, append-messages m l w (h .1))
@@ -120,7 +122,7 @@ remove-messages (c ∷ a) m b h = (h .0, remove-messages a m b (h .1))
 -- ---- a session with another part
 
 module _ {S : Session} (w : WellMade S) where
-  pub made-tree : (F : Forest Value) → WellFormed treeDeep treeMany (tree empty F) → WellMade (withTree S F)
+  pub made-tree : (F : Forest Value) → WellFormedTree sessionLevels sessionNodes (tree empty F) → WellMade (withTree S F)
   made-tree F g = record { bounded = g; upToFour = w .upToFour; messages = w .messages; noRowsPast = w .noRowsPast }
 
   pub made-queue : (l : List Queued) → length l ≤ 4 → AllMessages l → WellMade (withQueue S l)
@@ -166,7 +168,7 @@ pub set-made : (G : State) → ((k m : ℕ) → k < 4 → m < 4 → MadeSlot (G 
 set-made G h q n x w k m a b = by (ℕ-discrete k q) (ℕ-discrete m n)
   where
     by : Dec (k ≡ q) → Dec (m ≡ n) → MadeSlot (setSlot G q n x k m)
-    by (yes u) (yes v) = rw (u, v, set-same G q n x) w
+    by (yes u) (yes v) = rw (u, v, slot-same G q n x) w
     by (yes u) (no v) = rw (set-other G q n x k m (λ _ y. v y)) (h k m a b)
     by (no u) v = rw (set-other G q n x k m (λ y _. u y)) (h k m a b)
 
@@ -187,7 +189,7 @@ set-shape {N} {rows} {G} h q n x i j w e = record {
 }
   where
     suited : (k m : ℕ) → k < 4 → m < 4 → Dec (k ≡ q) → Dec (m ≡ n) → suitsSlot N rows k m (setSlot G q n x k m) ≡ true
-    suited k m a b (yes u) (yes v) = rw (u, v, set-same G q n x) e
+    suited k m a b (yes u) (yes v) = rw (u, v, slot-same G q n x) e
     suited k m a b (yes u) (no v) = rw (set-other G q n x k m (λ _ y. v y)) (h .suited k m a b)
     suited k m a b (no u) v = rw (set-other G q n x k m (λ y _. u y)) (h .suited k m a b)
 

@@ -1,4 +1,5 @@
 pub mod Session
+pub mod Queue
 pub mod Places
 pub mod Bytes
 pub mod PartLaws

@@ -10,17 +10,19 @@ use lib.ListN.{length, getD, List·getD-append}
 use lib.Seq.{getD-append-add}
 use lib.Dec.{eqb, leb, ltb}
 use borrow.Author.Tests.{eqb-true, ltb-true, leb-true}
-use Rattle.forest.specs.Forest.{Forest, Tree, tree, nodes}
+use Rattle.basics.specs.TestLaws.{and-left, and-right}
+use Rattle.tree_forest.specs.Forest.{Forest, Tree, tree, nodes}
 use Rattle.scalar.specs.Value.{Value, value}
 use Rattle.scalar.specs.ValueLaws.{value-basic, value-size}
-use Rattle.syntax.specs.Syntax.{Optional, none, some, Network, Operation, Behaviour, nil, oneWay, requestResponse, notification, solicitResponse, ifThenElse, whileDo, sequence, parallel, assign, choice, waiting, answering, Branches}
-use Rattle.syntax.specs.Rows.{rowOf, hasRow, atRow, entry, isInputOperation}
-use Rattle.tree.specs.Encode.{count, encode, rooted, empty, Octets, Proper, WellFormed, messageDeep, messageMany, treeDeep, treeMany}
-use Rattle.tree.specs.EncodeLaws.{and-left, and-right, count-nodes, encode-octets, octets-nil}
+use Rattle.network_syntax.specs.Syntax.{Optional, none, some, Network, Operation, Behaviour, nil, oneWay, requestResponse, notification, solicitResponse, ifThenElse, whileDo, sequence, parallel, assign, choice, waiting, answering, Branches}
+use Rattle.network_syntax.specs.Rows.{rowOf, hasRow, atRow, entry, isInputOperation}
+use Rattle.tree.specs.Encode.{rootCount, encode, rooted, empty, Octets, Proper, WellFormedTree}
+use Rattle.tree_forest.specs.Limits.{messageLevelsBelow, messageNodesBelow, sessionLevels, sessionNodes}
+use Rattle.tree.specs.EncodeLaws.{count-nodes, encode-octets, octets-nil}
 use Rattle.state.specs.Places.{slotSize, treeRoom, messageRoom, entrySize, keptSize}
 use Rattle.state.specs.Session.{Destination, outsider, waitingRow, Progress, undone, done, waits, received, taken, Progresses, Queued, Session, Slot, free, live, State}
 use Rattle.state.specs.Bytes.{zeros, joined, padded, u16Bytes, destinationBytes, replyKind, replyBytes, messageBytes, entryBytes, queueBytes, progressBytes, rowsBytes, treeBytes, headBytes, slotBytes, slotAt, stateBytes}
-use Rattle.state.specs.Shape.{isDestination, suitsReply, isUndone, undoneOrDone, undoneDoneOrWaits, undoneDoneOrReceived, undoneOrTaken, undoneDoneOrBody, branches, suits, quietElsewhere, suitsOperation, suitsQueue, operationAt, behaviourIn, suitsBehaviour, suitsSlot, AllMessages, WellMade, MadeSlot, HasShape}
+use Rattle.state.specs.Shape.{isDestination, suitsReply, isUndone, undoneOrDone, undoneDoneOrWaits, undoneDoneOrReceived, undoneOrTaken, undoneDoneOrBody, branches, suits, quietElsewhere, suitsOperation, suitsQueue, operationOfRow, behaviourIn, suitsBehaviour, suitsSlot, AllMessages, WellMade, MadeSlot, HasShape}
 use Rattle.state.specs.PartLaws.{byte-zeros}
 use Rattle.state.specs.SizeLaws.{message-size, session-tree-size}
 use Rattle.state.specs.RowShape.{suitsRow, PartOf, InBranch, PartSuits}
@@ -59,12 +61,12 @@ octets-u16 v h = octets-cons (omega arith) (octets-cons (omega arith) octets-nil
 -- ---- trees
 
 node-octets : (i b : ℕ) (v : List ℕ) (ks : Forest Value) (t : List ℕ) → i < 65536 → Proper (value b v) → nodes ks < 256 → Octets t
-    → Octets (i % 256 ∷ i / 256 ∷ b ∷ count ks ∷ length v ∷ (v ++ t))
+    → Octets (i % 256 ∷ i / 256 ∷ b ∷ rootCount ks ∷ length v ∷ (v ++ t))
 node-octets i b v ks t h p n o =
     octets-cons (omega arith) (octets-cons (omega arith) (octets-cons (omega (arith, value-basic b v (p .valid)))
     (octets-cons (omega (arith, count-nodes ks)) (octets-cons (omega (arith, value-size b v (p .valid))) (octets-append v t (p .bytes) o)))))
 
-tree-octets : (deep many : ℕ) (t : Tree Value) → many < 256 → WellFormed deep many t → Octets (encode (rooted t))
+tree-octets : (deep many : ℕ) (t : Tree Value) → many < 256 → WellFormedTree deep many t → Octets (encode (rooted t))
 unfolding encode
 tree-octets deep many (tree (value b v) ks) n w =
     let k : nodes ks < 256 = omega (arith, w .few) in
@@ -98,7 +100,7 @@ module _ {N : Network} {rows : ℕ} (w : WithinLimits N rows) where
 
   -- ---- the queue
 
-  operation-row : (l : List Operation) (k : ℕ) (o : Operation) → operationAt l k ≡ some o → k < length l
+  operation-row : (l : List Operation) (k : ℕ) (o : Operation) → operationOfRow l k ≡ some o → k < length l
   unfolding entry
   operation-row [] k o e = absurd (let z : _≡_ {A = ℕ} 0 1 = cc in omega arith)
   operation-row (a ∷ l) zero o e = omega arith
@@ -108,12 +110,12 @@ module _ {N : Network} {rows : ℕ} (w : WithinLimits N rows) where
   reply-octets twoWay none h = octets-zeros 4
   reply-octets twoWay (some d) h = destination-octets d (and-right twoWay (isDestination N rows d) h)
 
-  entry-octets : (q : ℕ) (m : Queued) → WellFormed messageDeep messageMany (m .message)
-      → suitsOperation N rows q (m .replyTo) (operationAt (N .operations) (m .operation)) ≡ true → Octets (entryBytes m)
+  entry-octets : (q : ℕ) (m : Queued) → WellFormedTree messageLevelsBelow messageNodesBelow (m .message)
+      → suitsOperation N rows q (m .replyTo) (operationOfRow (N .operations) (m .operation)) ≡ true → Octets (entryBytes m)
   unfolding entryBytes
-  entry-octets q m f h = by (operationAt (N .operations) (m .operation)) refl h
+  entry-octets q m f h = by (operationOfRow (N .operations) (m .operation)) refl h
     where
-      by : (x : Optional Operation) → operationAt (N .operations) (m .operation) ≡ x → suitsOperation N rows q (m .replyTo) x ≡ true → Octets (entryBytes m)
+      by : (x : Optional Operation) → operationOfRow (N .operations) (m .operation) ≡ x → suitsOperation N rows q (m .replyTo) x ≡ true → Octets (entryBytes m)
       by none e h = absurd (let z : _≡_ {A = ℕ} 0 1 = cc in omega arith)
       by (some o) e h =
           let l = messageBytes (m .message) in
@@ -123,14 +125,14 @@ module _ {N : Network} {rows : ℕ} (w : WithinLimits N rows) where
           octets-cons (omega (arith, w .operations)) (octets-cons (kind-octet (m .replyTo))
           (octets-append (u16Bytes (length l)) _ (octets-u16 (length l) (omega (arith, message-size (m .message) f)))
           (octets-append (replyBytes (m .replyTo)) (padded messageRoom l) (reply-octets (o .twoWay) (m .replyTo) r)
-          (octets-append l (zeros (messageRoom - length l)) (tree-octets messageDeep messageMany (m .message) (omega arith) f) (octets-zeros (messageRoom - length l))))))
+          (octets-append l (zeros (messageRoom - length l)) (tree-octets messageLevelsBelow messageNodesBelow (m .message) (omega arith) f) (octets-zeros (messageRoom - length l))))))
 
   queue-octets : (q n : ℕ) (l : List Queued) → AllMessages l → suitsQueue N rows q l ≡ true → Octets (queueBytes n l)
   unfolding queueBytes AllMessages suitsQueue
   queue-octets q zero l f h = octets-nil
   queue-octets q (suc n) [] f h = octets-append (zeros entrySize) (queueBytes n []) (octets-zeros entrySize) (queue-octets q n [] f h)
   queue-octets q (suc n) (m ∷ l) f h =
-      let a = suitsOperation N rows q (m .replyTo) (operationAt (N .operations) (m .operation)) in
+      let a = suitsOperation N rows q (m .replyTo) (operationOfRow (N .operations) (m .operation)) in
       octets-append (entryBytes m) (queueBytes n l) (entry-octets q m (f .0) (and-left a (suitsQueue N rows q l) h))
       (queue-octets q n l (f .1) (and-right a (suitsQueue N rows q l) h))
 
@@ -245,7 +247,7 @@ module _ {N : Network} {rows : ℕ} (w : WithinLimits N rows) where
       let h′ = and-right s (u && v) h in
       octets-append (headBytes S) _ (head-octets S (omega (arith, session-tree-size (S .tree) (f .bounded))))
       (octets-append (padded treeRoom t) _
-      (octets-append t (zeros (treeRoom - length t)) (tree-octets treeDeep treeMany (tree empty (S .tree)) (omega arith) (f .bounded))
+      (octets-append t (zeros (treeRoom - length t)) (tree-octets sessionLevels sessionNodes (tree empty (S .tree)) (omega arith) (f .bounded))
       (octets-zeros (treeRoom - length t)))
       (octets-append (queueBytes 4 (S .queue)) _ (queue-octets q 4 (S .queue) (f .messages) (and-left s (u && v) h))
       (octets-append (rowsBytes (S .progress)) (zeros keptSize)

@@ -38,29 +38,29 @@ length-padded n l h = length-append l (zeros (n - length l)) ∙ omega (arith, l
 -- ---- bytes that stand in others
 
 -- l stands in s from `at` on.
-pub record Holds (s : List ℕ) (at : ℕ) (l : List ℕ) : Type 0 where
+pub record HoldsAt (s : List ℕ) (at : ℕ) (l : List ℕ) : Type 0 where
   pub after : List ℕ
   pub bytes : drop at s ≡ l ++ after
 
-pub holds-whole : (l : List ℕ) → Holds l 0 l
+pub holds-whole : (l : List ℕ) → HoldsAt l 0 l
 holds-whole l = record { after = []; bytes = sym (append-nil l) }
 
 module _ {s : List ℕ} {at : ℕ} where
   -- The first part of what stands there.
-  pub holds-first : (a b : List ℕ) → Holds s at (a ++ b) → Holds s at a
+  pub holds-first : (a b : List ℕ) → HoldsAt s at (a ++ b) → HoldsAt s at a
   holds-first a b h = record { after = b ++ h .after; bytes = h .bytes ∙ append-assoc a b (h .after) }
 
   -- The rest, past the n bytes of the first part.
-  pub holds-rest : (a b : List ℕ) (n : ℕ) → length a ≡ n → Holds s at (a ++ b) → Holds s (at + n) b
+  pub holds-rest : (a b : List ℕ) (n : ℕ) → length a ≡ n → HoldsAt s at (a ++ b) → HoldsAt s (at + n) b
   holds-rest a b n e h = record {
     after = h .after;
     bytes = sym (drop-drop n at s) ∙ ap (drop n) (h .bytes ∙ append-assoc a b (h .after)) ∙ drop-at a (b ++ h .after) n e;
   }
 
-  pub holds-byte : {l : List ℕ} → Holds s at l → (k : ℕ) → k < length l → byteAt s (at + k) ≡ byteAt l k
+  pub holds-byte : {l : List ℕ} → HoldsAt s at l → (k : ℕ) → k < length l → byteAt s (at + k) ≡ byteAt l k
   holds-byte {l} h k i = sym (getD-drop at s k 0) ∙ ap (λ (x : List ℕ). getD x k 0) (h .bytes) ∙ List·getD-append l (h .after) 0 k i
 
-  pub holds-part : {l : List ℕ} → Holds s at l → (n : ℕ) → length l ≡ n → part s at n ≡ l
+  pub holds-part : {l : List ℕ} → HoldsAt s at l → (n : ℕ) → length l ≡ n → part s at n ≡ l
   holds-part {l} h n e = ap (take n) (h .bytes) ∙ take-at l (h .after) n e
 
 -- ---- a part that is replaced
@@ -158,7 +158,7 @@ module _ (f : ℕ → List ℕ) (w : ℕ) (sized : (i : ℕ) → length (f i) �
       length-append (f k) (joined f (suc k) n) ∙ omega (arith, sized k, length-joined (suc k) n, mul-suc w n)
 
   -- The i-th of them stands w * i bytes further on.
-  pub holds-joined : {s : List ℕ} {at : ℕ} (k n i : ℕ) → i < n → Holds s at (joined f k n) → Holds s (at + w * i) (f (k + i))
+  pub holds-joined : {s : List ℕ} {at : ℕ} (k n i : ℕ) → i < n → HoldsAt s at (joined f k n) → HoldsAt s (at + w * i) (f (k + i))
   unfolding joined
   holds-joined k zero i l h = absurd (omega arith)
   holds-joined {s} {at} k (suc n) zero l h = rw (mul-zero, add-zero at, add-zero k) (holds-first (f k) (joined f (suc k) n) h)

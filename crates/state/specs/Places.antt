@@ -1,6 +1,13 @@
 -- Sizes and places in the bytes of a state (docs/STATE.md). Each number stands here once; code has the same in src/lib.rt.
 use Prim.Native.Nat.{ℕ, _+_, _-_, _*_}
 
+-- 01, 1: "The state buffer is not 65,536 bytes or the out buffer is below 512."
+abbrev pub stateSize : ℕ
+stateSize = 65536
+
+abbrev pub outRoom : ℕ
+outRoom = 512
+
 -- A slot takes 4,096 bytes: a head of 16, the tree in 1,024, a queue of four entries of 344, the progress of 256 rows in 6 each; the rest
 -- is kept 0. An entry holds its message in 336.
 abbrev pub slotSize : ℕ

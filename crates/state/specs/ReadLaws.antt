@@ -10,32 +10,34 @@ use native.Mathlib.Decide.{decLt}
 use lib.ListN.{length}
 use lib.Dec.{eqb, ltb}
 use borrow.Author.Tests.{ne-eqb, lt-ltb, le-ltb}
-use Rattle.forest.specs.Forest.{Forest, Tree, tree, childrenOf}
-use Rattle.scalar.specs.Value.{Value, pick}
-use Rattle.syntax.specs.Syntax.{Optional, none, some, Network}
+use Rattle.tree_forest.specs.Forest.{Forest, Tree, tree, childrenOf}
+use Rattle.scalar.specs.Value.{Value}
+use Rattle.basics.specs.Choice.{pick}
+use Rattle.network_syntax.specs.Syntax.{Optional, none, some, Network}
 use Rattle.wire.specs.Wire.{byteAt, u16At}
-use Rattle.tree.specs.Encode.{empty, WellFormed, messageDeep, messageMany, treeDeep, treeMany}
+use Rattle.tree.specs.Encode.{empty, WellFormedTree}
+use Rattle.tree_forest.specs.Limits.{messageLevelsBelow, messageNodesBelow, sessionLevels, sessionNodes}
 use Rattle.tree.specs.Decode.{decode, decodeMessage}
 use Rattle.tree.specs.DecodeLaws.{decode-complete}
 use Rattle.state.specs.Places.{slotSize, headSize, treeRoom, messageRoom, entrySize, queueSize, rowSize, rowsSize, treePlace, queuePlace, rowsPlace, keptPlace, keptSize, slotStart}
 use Rattle.state.specs.Session.{Destination, outsider, waitingRow, Progress, undone, done, waits, received, taken, Progresses, Queued, Session, sessionOf, Slot, free, live, State}
 use Rattle.state.specs.Bytes.{zeros, joined, padded, u16Bytes, u32Bytes, destinationKind, destinationBytes, replyKind, replyBytes, messageBytes, entryBytes, queueBytes, progressBytes, rowsBytes, treeBytes, headBytes, slotBytes, slotAt, stateBytes, readDestination, readReply, treeOr, readEntry, readQueue, readProgress, readRow, readSession, readSlot, readState}
 use Rattle.state.specs.Shape.{AllMessages, WellMade, MadeSlot, HasShape, Stands}
-use Rattle.state.specs.PartLaws.{length-padded, Holds, holds-whole, holds-first, holds-rest, holds-part, holds-joined}
+use Rattle.state.specs.PartLaws.{length-padded, HoldsAt, holds-whole, holds-first, holds-rest, holds-part, holds-joined}
 use Rattle.state.specs.HoldLaws.{holds-head, holds-tail, holds-zeros, holds-u16, holds-u32}
 use Rattle.state.specs.HeadLaws.{head-size, head-live, head-length}
-use Rattle.state.specs.SizeLaws.{message-size, entry-size, reply-size, progress-size, rows-size, Fits, made-fits, Sized, shape-sized}
+use Rattle.state.specs.SizeLaws.{message-size, entry-size, reply-size, progress-size, rows-size, SessionFits, made-fits, Sized, shape-sized}
 
 -- ---- where replies go
 
-pub read-destination : {s : List ℕ} {at : ℕ} (d : Destination) → Holds s at (destinationBytes d) → readDestination s (destinationKind d) at ≡ d
+pub read-destination : {s : List ℕ} {at : ℕ} (d : Destination) → HoldsAt s at (destinationBytes d) → readDestination s (destinationKind d) at ≡ d
 unfolding readDestination
 read-destination (outsider k) h = ap outsider (holds-u32 k h)
 read-destination (waitingRow q n r) h =
     let t = holds-tail h in
     rw (holds-head h, holds-head t, holds-u16 r (holds-rest (q ∷ n ∷ []) (u16Bytes r) 2 refl h))
 
-pub read-reply : {s : List ℕ} {at : ℕ} (to : Optional Destination) → Holds s at (replyBytes to) → readReply s (replyKind to) at ≡ to
+pub read-reply : {s : List ℕ} {at : ℕ} (to : Optional Destination) → HoldsAt s at (replyBytes to) → readReply s (replyKind to) at ≡ to
 unfolding readReply
 read-reply none h = refl
 read-reply (some (outsider k)) h = ap some (read-destination (outsider k) h)
@@ -43,7 +45,7 @@ read-reply (some (waitingRow q n r)) h = ap some (read-destination (waitingRow q
 
 -- ---- a row's progress
 
-pub read-progress : {s : List ℕ} {at : ℕ} (p : Progress) → Holds s at (progressBytes p) → readProgress s at ≡ p
+pub read-progress : {s : List ℕ} {at : ℕ} (p : Progress) → HoldsAt s at (progressBytes p) → readProgress s at ≡ p
 unfolding readProgress progressBytes
 read-progress undone h = rw (holds-zeros (omega arith) h)
 read-progress done h = rw (holds-head h)
@@ -60,10 +62,10 @@ same-queued : (m : Queued) {o : ℕ} {t : Tree Value} {to : Optional Destination
     → record { operation = o; message = t; replyTo = to } ≡ m
 same-queued m e f g = λ i. record { operation = e i; message = f i; replyTo = g i }
 
-pub read-message : (m : Tree Value) → WellFormed messageDeep messageMany m → treeOr (decodeMessage (messageBytes m)) ≡ m
-read-message m w = ap treeOr (decode-complete messageDeep messageMany (messageBytes m) m (record { bytes = refl; good = w }))
+pub read-message : (m : Tree Value) → WellFormedTree messageLevelsBelow messageNodesBelow m → treeOr (decodeMessage (messageBytes m)) ≡ m
+read-message m w = ap treeOr (decode-complete messageLevelsBelow messageNodesBelow (messageBytes m) m (record { bytes = refl; good = w }))
 
-pub read-entry : {s : List ℕ} {at : ℕ} (m : Queued) → WellFormed messageDeep messageMany (m .message) → Holds s at (entryBytes m) → readEntry s at ≡ m
+pub read-entry : {s : List ℕ} {at : ℕ} (m : Queued) → WellFormedTree messageLevelsBelow messageNodesBelow (m .message) → HoldsAt s at (entryBytes m) → readEntry s at ≡ m
 unfolding readEntry entryBytes
 read-entry {s} {at} m w h =
     let l = messageBytes (m .message) in
@@ -78,11 +80,11 @@ read-entry {s} {at} m w h =
     (rw (e, len, holds-part bytes (length l) refl) (read-message (m .message) w))
     (rw (holds-head t) (read-reply (m .replyTo) (holds-first (replyBytes (m .replyTo)) (padded messageRoom l) tail)))
 
-pub entry-used : {s : List ℕ} {at : ℕ} (m : Queued) → Holds s at (entryBytes m) → eqb (byteAt s at) 0 ≡ false
+pub entry-used : {s : List ℕ} {at : ℕ} (m : Queued) → HoldsAt s at (entryBytes m) → eqb (byteAt s at) 0 ≡ false
 unfolding entryBytes
 entry-used {s} {at} m h = ne-eqb (byteAt s at) 0 (λ e. omega (arith, holds-head h))
 
-pub read-queue : {s : List ℕ} {at : ℕ} (n : ℕ) (l : List Queued) → length l ≤ n → AllMessages l → Holds s at (queueBytes n l) → readQueue s n at ≡ l
+pub read-queue : {s : List ℕ} {at : ℕ} (n : ℕ) (l : List Queued) → length l ≤ n → AllMessages l → HoldsAt s at (queueBytes n l) → readQueue s n at ≡ l
 unfolding readQueue queueBytes AllMessages
 read-queue zero [] i w h = refl
 read-queue zero (m ∷ l) i w h = absurd (omega arith)
@@ -94,7 +96,7 @@ read-queue {s} {at} (suc n) (m ∷ l) i w h =
 
 -- The entry of one message, and the first unused entry.
 pub holds-entry : {s : List ℕ} {at : ℕ} (n : ℕ) (a : List Queued) (m : Queued) (b : List Queued) → length a < n → AllMessages a
-    → Holds s at (queueBytes n (a ++ (m ∷ b))) → Holds s (at + entrySize * length a) (entryBytes m)
+    → HoldsAt s at (queueBytes n (a ++ (m ∷ b))) → HoldsAt s (at + entrySize * length a) (entryBytes m)
 unfolding queueBytes AllMessages
 holds-entry zero a m b i w h = absurd (omega arith)
 holds-entry {s} {at} (suc n) [] m b i w h = rw (add-zero at) (holds-first (entryBytes m) (queueBytes n b) h)
@@ -103,7 +105,7 @@ holds-entry {s} {at} (suc n) (c ∷ a) m b i w h =
     let r = holds-rest (entryBytes c) (queueBytes n (a ++ (m ∷ b))) entrySize (entry-size c (message-size (c .message) (w .0))) h in
     rw e (holds-entry n a m b (omega arith) (w .1) r)
 
-pub first-unused : {s : List ℕ} {at : ℕ} (n : ℕ) (l : List Queued) → length l < n → AllMessages l → Holds s at (queueBytes n l)
+pub first-unused : {s : List ℕ} {at : ℕ} (n : ℕ) (l : List Queued) → length l < n → AllMessages l → HoldsAt s at (queueBytes n l)
     → byteAt s (at + entrySize * length l) ≡ 0
 unfolding queueBytes AllMessages
 first-unused zero l i w h = absurd (omega arith)
@@ -116,22 +118,22 @@ first-unused {s} {at} (suc n) (m ∷ l) i w h =
 
 -- Where the parts of a live slot's bytes stand.
 pub record Parts (s : List ℕ) (at : ℕ) (S : Session) : Type 0 where
-  pub head : Holds s at (headBytes S)
-  pub tree : Holds s (at + treePlace) (padded treeRoom (treeBytes (S .tree)))
-  pub queue : Holds s (at + queuePlace) (queueBytes 4 (S .queue))
-  pub rows : Holds s (at + rowsPlace) (rowsBytes (S .progress))
-  pub kept : Holds s (at + keptPlace) (zeros keptSize)
+  pub head : HoldsAt s at (headBytes S)
+  pub tree : HoldsAt s (at + treePlace) (padded treeRoom (treeBytes (S .tree)))
+  pub queue : HoldsAt s (at + queuePlace) (queueBytes 4 (S .queue))
+  pub rows : HoldsAt s (at + rowsPlace) (rowsBytes (S .progress))
+  pub kept : HoldsAt s (at + keptPlace) (zeros keptSize)
 
-pub slot-parts : {s : List ℕ} {at : ℕ} (S : Session) → Fits S → Holds s at (slotBytes (live S)) → Parts s at S
+pub slot-parts : {s : List ℕ} {at : ℕ} (S : Session) → SessionFits S → HoldsAt s at (slotBytes (live S)) → Parts s at S
 unfolding slotBytes
 slot-parts {s} {at} S f h =
     let t = treeBytes (S .tree) in
     let q = queueBytes 4 (S .queue) in
     let r = rowsBytes (S .progress) in
-    let b : Holds s (at + treePlace) (padded treeRoom t ++ (q ++ (r ++ zeros keptSize))) = holds-rest (headBytes S) _ headSize (head-size S) h in
-    let c : Holds s (at + queuePlace) (q ++ (r ++ zeros keptSize)) =
+    let b : HoldsAt s (at + treePlace) (padded treeRoom t ++ (q ++ (r ++ zeros keptSize))) = holds-rest (headBytes S) _ headSize (head-size S) h in
+    let c : HoldsAt s (at + queuePlace) (q ++ (r ++ zeros keptSize)) =
     rw (further at treePlace treeRoom) at (holds-rest (padded treeRoom t) _ treeRoom (length-padded treeRoom t (f .treeFits)) b) in
-    let d : Holds s (at + rowsPlace) (r ++ zeros keptSize) = rw (further at queuePlace queueSize) at (holds-rest q _ queueSize (f .queueFits) c) in
+    let d : HoldsAt s (at + rowsPlace) (r ++ zeros keptSize) = rw (further at queuePlace queueSize) at (holds-rest q _ queueSize (f .queueFits) c) in
     record {
       head = holds-first (headBytes S) _ h;
       tree = holds-first (padded treeRoom t) _ b;
@@ -143,21 +145,21 @@ slot-parts {s} {at} S f h =
     further : (at a b : ℕ) → at + a + b ≡ at + (a + b)
     further at a b = omega arith
 
-pub read-tree : (F : Forest Value) → WellFormed treeDeep treeMany (tree empty F) → childrenOf (decode treeDeep treeMany (treeBytes F)) ≡ F
-read-tree F w = ap childrenOf (decode-complete treeDeep treeMany (treeBytes F) (tree empty F) (record { bytes = refl; good = w }))
+pub read-tree : (F : Forest Value) → WellFormedTree sessionLevels sessionNodes (tree empty F) → childrenOf (decode sessionLevels sessionNodes (treeBytes F)) ≡ F
+read-tree F w = ap childrenOf (decode-complete sessionLevels sessionNodes (treeBytes F) (tree empty F) (record { bytes = refl; good = w }))
 
 same-session : (S : Session) {F : Forest Value} {l : List Queued} {p : Progresses} → F ≡ S .tree → l ≡ S .queue → p ≡ S .progress
     → sessionOf F l p ≡ S
 same-session S e f g = λ i. sessionOf (e i) (f i) (g i)
 
 -- The six bytes of the row r.
-pub holds-row : {s : List ℕ} {at : ℕ} (p : Progresses) → Holds s at (rowsBytes p) → (r : ℕ) → r < 256 → Holds s (at + rowSize * r) (progressBytes (p r))
+pub holds-row : {s : List ℕ} {at : ℕ} (p : Progresses) → HoldsAt s at (rowsBytes p) → (r : ℕ) → r < 256 → HoldsAt s (at + rowSize * r) (progressBytes (p r))
 holds-row p h r l = rw (zero-add r) at (holds-joined (λ i. progressBytes (p i)) rowSize (λ i. progress-size (p i)) 0 256 r l h)
 
-pub read-row : {s : List ℕ} {at : ℕ} (p : Progresses) → Holds s at (rowsBytes p) → (r : ℕ) → r < 256 → readProgress s (at + rowSize * r) ≡ p r
+pub read-row : {s : List ℕ} {at : ℕ} (p : Progresses) → HoldsAt s at (rowsBytes p) → (r : ℕ) → r < 256 → readProgress s (at + rowSize * r) ≡ p r
 read-row p h r l = read-progress (p r) (holds-row p h r l)
 
-pub read-rows : {s : List ℕ} (at : ℕ) (p : Progresses) → ((r : ℕ) → 256 ≤ r → p r ≡ undone) → Holds s (at + rowsPlace) (rowsBytes p)
+pub read-rows : {s : List ℕ} (at : ℕ) (p : Progresses) → ((r : ℕ) → 256 ≤ r → p r ≡ undone) → HoldsAt s (at + rowsPlace) (rowsBytes p)
     → (λ (r : ℕ). pick (ltb r 256) (readRow s at r) undone) ≡ p
 read-rows {s} at p w h = fun-ext (λ r. by r (decLt r 256))
   where
@@ -165,7 +167,7 @@ read-rows {s} at p w h = fun-ext (λ r. by r (decLt r 256))
     by r (yes l) = rw (lt-ltb r 256 l) (read-row p h r l)
     by r (no l) = rw (le-ltb r 256 (omega arith)) (sym (w r (omega arith)))
 
-pub read-session : {s : List ℕ} {at : ℕ} (S : Session) → WellMade S → Holds s at (slotBytes (live S)) → readSession s at ≡ S
+pub read-session : {s : List ℕ} {at : ℕ} (S : Session) → WellMade S → HoldsAt s at (slotBytes (live S)) → readSession s at ≡ S
 unfolding readSession
 read-session {s} {at} S w h =
     let p = slot-parts S (made-fits w) h in
@@ -175,7 +177,7 @@ read-session {s} {at} S w h =
     (read-queue 4 (S .queue) (w .upToFour) (w .messages) (p .queue))
     (read-rows at (S .progress) (w .noRowsPast) (p .rows))
 
-pub read-slot : {s : List ℕ} {at : ℕ} (x : Slot) → MadeSlot x → Holds s at (slotBytes x) → readSlot s at ≡ x
+pub read-slot : {s : List ℕ} {at : ℕ} (x : Slot) → MadeSlot x → HoldsAt s at (slotBytes x) → readSlot s at ≡ x
 unfolding readSlot slotBytes
 read-slot free w h = rw (holds-zeros (omega arith) h)
 read-slot (live S) w h = rw (head-live S (slot-parts S (made-fits w) h .head)) (ap live (read-session S w h))
@@ -183,7 +185,7 @@ read-slot (live S) w h = rw (head-live S (slot-parts S (made-fits w) h .head)) (
 -- ---- a state
 
 -- The slot of a service and session stands at its start.
-pub state-slot : {G : State} → Sized G → (q n : ℕ) → q < 4 → n < 4 → Holds (stateBytes G) (slotStart q n) (slotBytes (G q n))
+pub state-slot : {G : State} → Sized G → (q n : ℕ) → q < 4 → n < 4 → HoldsAt (stateBytes G) (slotStart q n) (slotBytes (G q n))
 unfolding stateBytes
 state-slot {G} z q n i j =
     let f : ℕ → List ℕ = λ k. slotBytes (slotAt G k) in
@@ -204,7 +206,7 @@ read-state {G = G} h = fun-ext (λ q. fun-ext (λ n. by q n (decLt q 4) (decLt n
 -- ---- bytes that stand for a state
 
 module _ {N : Network} {rows : ℕ} {s : List ℕ} {G : State} (h : Stands N rows s G) (q n : ℕ) (i : q < 4) (j : n < 4) where
-  pub stands-slot : Holds s (slotStart q n) (slotBytes (G q n))
+  pub stands-slot : HoldsAt s (slotStart q n) (slotBytes (G q n))
   stands-slot = rw (h .bytes) (state-slot (shape-sized (h .shape)) q n i j)
 
   pub stands-read : readSlot s (slotStart q n) ≡ G q n

@@ -7,12 +7,12 @@ use Prim.Native.Nat.{ℕ, zero, suc, _<_}
 use native.Mathlib.Omega.{arith}
 use lib.Dec.{eqb}
 use borrow.Author.Tests.{eq-eqb, eqb-true}
-use Rattle.syntax.specs.Syntax.{Optional, none, some, Network, Behaviour, nil, oneWay, requestResponse, notification, solicitResponse, ifThenElse, whileDo, sequence, parallel, assign, choice, waiting, answering, Branches, lastBranch, branch}
-use Rattle.syntax.specs.Rows.{rowOf, hasRow, hasRowIn, atRow, atRowIn, itself, orElseSome, choiceOf}
-use Rattle.tree.specs.EncodeLaws.{and-left, and-right}
+use Rattle.basics.specs.TestLaws.{agree, and-left, and-right, or-left, or-right}
+use Rattle.network_syntax.specs.Syntax.{Optional, none, some, Network, Behaviour, nil, oneWay, requestResponse, notification, solicitResponse, ifThenElse, whileDo, sequence, parallel, assign, choice, waiting, answering, Branches, lastBranch, branch}
+use Rattle.network_syntax.specs.Rows.{rowOf, hasRow, hasRowIn, atRow, atRowIn, itself, orElseSome, choiceOf}
 use Rattle.state.specs.Session.{undone, Progresses}
 use Rattle.state.specs.Shape.{isUndone, undoneDoneOrReceived, undoneOrTaken, undoneDoneOrBody, branches, suits, suitsBranches, quietElsewhere}
-use Rattle.state.specs.ShapeLaws.{both-ways, below-next}
+use Rattle.state.specs.ShapeLaws.{below-next}
 use Rattle.state.specs.RowShape.{suitsRow, PartOf, PartOfBranches, BranchRow, BranchRowOf, InBranch, PartSuits, RowsApart, suitsAt, suitsRows}
 
 -- ---- each part's row
@@ -278,13 +278,6 @@ mutual
       by (inl k) = inl (inr k)
       by (inr w) = inr (w .0, inr (inr (w .1)), w .2)
 
-or-left : (x y : Bool) → x ≡ true → (x || y) ≡ true
-or-left x y e = rw e
-
-or-right : (x y : Bool) → y ≡ true → (x || y) ≡ true
-or-right true y e = refl
-or-right false y e = e
-
 mutual
   unfolding hasRow rowOf PartOf
 
@@ -293,36 +286,36 @@ mutual
   part-row (nil r) b h = rw (h, eq-eqb r r refl)
   part-row (oneWay r o y) b h = rw (h, eq-eqb r r refl)
   part-row (requestResponse r o y c d) b (inl h) = rw (h, eq-eqb r r refl)
-  part-row (requestResponse r o y c d) b (inr h) = or-right (eqb (rowOf b) r) (hasRow (rowOf b) d) (part-row d b h)
+  part-row (requestResponse r o y c d) b (inr h) = or-right (eqb (rowOf b) r) (part-row d b h)
   part-row (notification r o e) b h = rw (h, eq-eqb r r refl)
   part-row (solicitResponse r o e y) b h = rw (h, eq-eqb r r refl)
   part-row (ifThenElse r e a z) b (inl h) = rw (h, eq-eqb r r refl)
-  part-row (ifThenElse r e a z) b (inr (inl h)) = or-right (eqb (rowOf b) r) _ (or-left (hasRow (rowOf b) a) (hasRow (rowOf b) z) (part-row a b h))
-  part-row (ifThenElse r e a z) b (inr (inr h)) = or-right (eqb (rowOf b) r) _ (or-right (hasRow (rowOf b) a) (hasRow (rowOf b) z) (part-row z b h))
+  part-row (ifThenElse r e a z) b (inr (inl h)) = or-right (eqb (rowOf b) r) (or-left (hasRow (rowOf b) z) (part-row a b h))
+  part-row (ifThenElse r e a z) b (inr (inr h)) = or-right (eqb (rowOf b) r) (or-right (hasRow (rowOf b) a) (part-row z b h))
   part-row (whileDo r e z) b (inl h) = rw (h, eq-eqb r r refl)
-  part-row (whileDo r e z) b (inr h) = or-right (eqb (rowOf b) r) (hasRow (rowOf b) z) (part-row z b h)
+  part-row (whileDo r e z) b (inr h) = or-right (eqb (rowOf b) r) (part-row z b h)
   part-row (sequence r a z) b (inl h) = rw (h, eq-eqb r r refl)
-  part-row (sequence r a z) b (inr (inl h)) = or-right (eqb (rowOf b) r) _ (or-left (hasRow (rowOf b) a) (hasRow (rowOf b) z) (part-row a b h))
-  part-row (sequence r a z) b (inr (inr h)) = or-right (eqb (rowOf b) r) _ (or-right (hasRow (rowOf b) a) (hasRow (rowOf b) z) (part-row z b h))
+  part-row (sequence r a z) b (inr (inl h)) = or-right (eqb (rowOf b) r) (or-left (hasRow (rowOf b) z) (part-row a b h))
+  part-row (sequence r a z) b (inr (inr h)) = or-right (eqb (rowOf b) r) (or-right (hasRow (rowOf b) a) (part-row z b h))
   part-row (parallel r a z) b (inl h) = rw (h, eq-eqb r r refl)
-  part-row (parallel r a z) b (inr (inl h)) = or-right (eqb (rowOf b) r) _ (or-left (hasRow (rowOf b) a) (hasRow (rowOf b) z) (part-row a b h))
-  part-row (parallel r a z) b (inr (inr h)) = or-right (eqb (rowOf b) r) _ (or-right (hasRow (rowOf b) a) (hasRow (rowOf b) z) (part-row z b h))
+  part-row (parallel r a z) b (inr (inl h)) = or-right (eqb (rowOf b) r) (or-left (hasRow (rowOf b) z) (part-row a b h))
+  part-row (parallel r a z) b (inr (inr h)) = or-right (eqb (rowOf b) r) (or-right (hasRow (rowOf b) a) (part-row z b h))
   part-row (assign r y e) b h = rw (h, eq-eqb r r refl)
   part-row (choice r m) b (inl h) = rw (h, eq-eqb r r refl)
-  part-row (choice r m) b (inr h) = or-right (eqb (rowOf b) r) (hasRowIn (rowOf b) m) (branch-part m b h)
+  part-row (choice r m) b (inr h) = or-right (eqb (rowOf b) r) (branch-part m b h)
   part-row (waiting r o y) b h = rw (h, eq-eqb r r refl)
   part-row (answering r o c d) b (inl h) = rw (h, eq-eqb r r refl)
-  part-row (answering r o c d) b (inr h) = or-right (eqb (rowOf b) r) (hasRow (rowOf b) d) (part-row d b h)
+  part-row (answering r o c d) b (inr h) = or-right (eqb (rowOf b) r) (part-row d b h)
 
   branch-part : (m : Branches) (b : Behaviour) → PartOfBranches b m → hasRowIn (rowOf b) m ≡ true
-  branch-part (lastBranch r a z) b (inl h) = or-right (eqb (rowOf b) r) _ (or-left (hasRow (rowOf b) a) (hasRow (rowOf b) z) (part-row a b h))
-  branch-part (lastBranch r a z) b (inr h) = or-right (eqb (rowOf b) r) _ (or-right (hasRow (rowOf b) a) (hasRow (rowOf b) z) (part-row z b h))
+  branch-part (lastBranch r a z) b (inl h) = or-right (eqb (rowOf b) r) (or-left (hasRow (rowOf b) z) (part-row a b h))
+  branch-part (lastBranch r a z) b (inr h) = or-right (eqb (rowOf b) r) (or-right (hasRow (rowOf b) a) (part-row z b h))
   branch-part (branch r a z m) b (inl h) =
-      or-right (eqb (rowOf b) r) _ (or-left _ (hasRowIn (rowOf b) m) (or-left (hasRow (rowOf b) a) (hasRow (rowOf b) z) (part-row a b h)))
+      or-right (eqb (rowOf b) r) (or-left (hasRowIn (rowOf b) m) (or-left (hasRow (rowOf b) z) (part-row a b h)))
   branch-part (branch r a z m) b (inr (inl h)) =
-      or-right (eqb (rowOf b) r) _ (or-left _ (hasRowIn (rowOf b) m) (or-right (hasRow (rowOf b) a) (hasRow (rowOf b) z) (part-row z b h)))
+      or-right (eqb (rowOf b) r) (or-left (hasRowIn (rowOf b) m) (or-right (hasRow (rowOf b) a) (part-row z b h)))
   branch-part (branch r a z m) b (inr (inr h)) =
-      or-right (eqb (rowOf b) r) _ (or-right (hasRow (rowOf b) a || hasRow (rowOf b) z) (hasRowIn (rowOf b) m) (branch-part m b h))
+      or-right (eqb (rowOf b) r) (or-right (hasRow (rowOf b) a || hasRow (rowOf b) z) (branch-part m b h))
 
 -- Nothing stands at a row that is none of the behaviour's.
 pub row-absent : (i : ℕ) (B : Behaviour) → hasRow i B ≡ false → atRow i B ≡ none
@@ -402,12 +395,12 @@ module _ (N : Network) (rows : ℕ) (p : Progresses) (B : Behaviour) where
   at-quiet h i l = by (atRow i B) refl (h i l)
     where
       by : (x : Optional Behaviour) → atRow i B ≡ x → suitsAt N rows (p i) x ≡ true → (hasRow i B || isUndone (p i)) ≡ true
-      by none e g = or-right (hasRow i B) (isUndone (p i)) g
-      by (some b) e g = let w = at-row B i b e in or-left (hasRow i B) (isUndone (p i)) (rw (w .1) at (part-row B b (w .0)))
+      by none e g = or-right (hasRow i B) g
+      by (some b) e g = let w = at-row B i b e in or-left (isUndone (p i)) (rw (w .1) at (part-row B b (w .0)))
 
   -- The progress of a session's rows suits its behaviour exactly if that of each row of the file does.
   pub rows-decide : RowsApart B → (suits N rows p B && quietElsewhere 256 p B) ≡ suitsRows N rows p B 256
-  rows-decide a = both-ways _ _ to from
+  rows-decide a = agree _ _ to from
     where
       to : (suits N rows p B && quietElsewhere 256 p B) ≡ true → suitsRows N rows p B 256 ≡ true
       to h =

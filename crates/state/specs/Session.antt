@@ -3,10 +3,11 @@
 use mathlib.Core.List.{List, []}
 use Prim.Native.Nat.{ℕ}
 use lib.Dec.{eqb}
-use Rattle.forest.specs.Forest.{Forest, end, Tree}
-use Rattle.scalar.specs.Value.{Value, pick}
-use Rattle.syntax.specs.Syntax.{Optional, Behaviour}
-use Rattle.syntax.specs.Rows.{hasRow}
+use Rattle.tree_forest.specs.Forest.{Forest, end, Tree}
+use Rattle.scalar.specs.Value.{Value}
+use Rattle.basics.specs.Choice.{pick}
+use Rattle.network_syntax.specs.Syntax.{Optional, none, some, Behaviour}
+use Rattle.network_syntax.specs.Rows.{hasRow}
 
 -- Where a reply goes: to an outsider, under the reply number it gave; or to a waiting row, by its service, session and B row.
 pub data Destination : Type 0 where
@@ -19,6 +20,12 @@ pub data Progress : Type 0 where
   undone done waits : Progress
   received : Destination → Progress
   taken : ℕ → Progress
+
+-- An input's progress once received: a one-way message has no destination, and its input is done; a request-response holds where its
+-- reply goes.
+abbrev pub receivedBy : Optional Destination → Progress
+receivedBy none = done
+receivedBy (some d) = received d
 
 -- The progress of every row.
 abbrev pub Progresses : Type 0

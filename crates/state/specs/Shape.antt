@@ -8,19 +8,20 @@ use mathlib.Core.Logic.{_⊎_}
 use Prim.Native.Nat.{ℕ, zero, suc, _≤_, _<_}
 use lib.Dec.{eqb, leb, ltb}
 use lib.ListN.{length}
-use Rattle.forest.specs.Forest.{tree}
-use Rattle.scalar.specs.Value.{pick}
-use Rattle.syntax.specs.Syntax.{Optional, none, some, Service, Network, Operation, Behaviour, nil, oneWay, requestResponse, notification, solicitResponse}
-use Rattle.syntax.specs.Syntax.{ifThenElse, whileDo, sequence, parallel, assign, choice, waiting, answering, Branches, lastBranch, branch}
-use Rattle.syntax.specs.Rows.{hasRow, entry, isInputOperation}
-use Rattle.tree.specs.Encode.{WellFormed, empty, messageDeep, messageMany, treeDeep, treeMany}
+use Rattle.tree_forest.specs.Forest.{tree}
+use Rattle.basics.specs.Choice.{pick}
+use Rattle.network_syntax.specs.Syntax.{Optional, none, some, Service, Network, Operation, Behaviour, nil, oneWay, requestResponse, notification, solicitResponse}
+use Rattle.network_syntax.specs.Syntax.{ifThenElse, whileDo, sequence, parallel, assign, choice, waiting, answering, Branches, lastBranch, branch}
+use Rattle.network_syntax.specs.Rows.{hasRow, entry, isInputOperation}
+use Rattle.tree.specs.Encode.{WellFormedTree, empty}
+use Rattle.tree_forest.specs.Limits.{messageLevelsBelow, messageNodesBelow, sessionLevels, sessionNodes}
 use Rattle.state.specs.Session.{Destination, outsider, waitingRow, Progress, undone, done, waits, received, taken, Progresses}
 use Rattle.state.specs.Session.{Queued, Session, Slot, free, live, State, newSession}
 use Rattle.state.specs.Bytes.{stateBytes, readState}
 
 -- The service of a row.
-abbrev pub serviceAt : List Service → ℕ → Optional Service
-serviceAt l q = entry q l
+abbrev pub serviceOfRow : List Service → ℕ → Optional Service
+serviceOfRow l q = entry q l
 
 abbrev pub clientOf : Optional Service → Optional Behaviour
 clientOf none = none
@@ -32,11 +33,13 @@ starterOf (some s) = s .starter
 
 -- What a session runs: the client in session 0, the starter in sessions 1 to 3.
 abbrev pub behaviourIn : Network → ℕ → ℕ → Optional Behaviour
-behaviourIn N q n = pick (eqb n 0) (clientOf (serviceAt (N .services) q)) (pick (leb n 3) (starterOf (serviceAt (N .services) q)) none)
+behaviourIn N q n =
+    pick (eqb n 0) (clientOf (serviceOfRow (N .services) q))
+    (pick (leb n 3) (starterOf (serviceOfRow (N .services) q)) none)
 
 -- The operation of an O row.
-abbrev pub operationAt : List Operation → ℕ → Optional Operation
-operationAt l w = entry w l
+abbrev pub operationOfRow : List Operation → ℕ → Optional Operation
+operationOfRow l w = entry w l
 
 -- Where a reply goes: "where replies go", with the services, sessions and B rows that there are.
 abbrev pub isDestination : Network → ℕ → Destination → Bool
@@ -51,11 +54,13 @@ suitsReply N rows twoWay (some d) = twoWay && isDestination N rows d
 -- A queued message is of an input of its service, and where its reply goes suits that.
 abbrev pub suitsOperation : Network → ℕ → ℕ → Optional Destination → Optional Operation → Bool
 suitsOperation N rows q to none = false
-suitsOperation N rows q to (some o) = eqb (o .service) q && (isInputOperation (o .direction) && suitsReply N rows (o .twoWay) to)
+suitsOperation N rows q to (some o) =
+    eqb (o .service) q && (isInputOperation (o .direction) && suitsReply N rows (o .twoWay) to)
 
 unfoldable pub suitsQueue : Network → ℕ → ℕ → List Queued → Bool
 suitsQueue N rows q [] = true
-suitsQueue N rows q (m ∷ l) = suitsOperation N rows q (m .replyTo) (operationAt (N .operations) (m .operation)) && suitsQueue N rows q l
+suitsQueue N rows q (m ∷ l) =
+    suitsOperation N rows q (m .replyTo) (operationOfRow (N .operations) (m .operation)) && suitsQueue N rows q l
 
 -- The progress of each kind of row.
 abbrev pub isUndone : Progress → Bool
@@ -125,7 +130,8 @@ unfoldable mutual
 
   pub suitsBranches : Network → ℕ → Progresses → Branches → Bool
   suitsBranches N rows p (lastBranch r a b) = isUndone (p r) && (suits N rows p a && suits N rows p b)
-  suitsBranches N rows p (branch r a b m) = isUndone (p r) && ((suits N rows p a && suits N rows p b) && suitsBranches N rows p m)
+  suitsBranches N rows p (branch r a b m) =
+      isUndone (p r) && ((suits N rows p a && suits N rows p b) && suitsBranches N rows p m)
 
 -- Rows that are none of the behaviour's have no progress.
 unfoldable pub quietElsewhere : ℕ → Progresses → Behaviour → Bool
@@ -154,12 +160,12 @@ suitsServices N rows G (suc q) = suitsSlots N rows G q 4 && suitsServices N rows
 -- Every message of a queue keeps to a message's limits, and its values are values.
 unfoldable pub AllMessages : List Queued → Type 0
 AllMessages [] = Unit {0}
-AllMessages (m ∷ l) = WellFormed messageDeep messageMany (m .message) × AllMessages l
+AllMessages (m ∷ l) = WellFormedTree messageLevelsBelow messageNodesBelow (m .message) × AllMessages l
 
 -- What a live session is in any file: a tree within "48 nodes or 6 levels", "a queue of up to four messages", and progress of the rows
 -- that a file can have.
 pub record WellMade (S : Session) : Type 0 where
-  pub bounded : WellFormed treeDeep treeMany (tree empty (S .tree))
+  pub bounded : WellFormedTree sessionLevels sessionNodes (tree empty (S .tree))
   pub upToFour : length (S .queue) ≤ 4
   pub messages : AllMessages (S .queue)
   pub noRowsPast : (r : ℕ) → 256 ≤ r → S .progress r ≡ undone
@@ -198,7 +204,7 @@ freshSlot none = free
 freshSlot (some B) = live newSession
 
 abbrev pub freshState : Network → State
-freshState N = λ q n. pick (eqb n 0) (freshSlot (clientOf (serviceAt (N .services) q))) free
+freshState N = λ q n. pick (eqb n 0) (freshSlot (clientOf (serviceOfRow (N .services) q))) free
 
 -- The clients of the services before k live, all else free.
 abbrev pub freshUpTo : Network → ℕ → State

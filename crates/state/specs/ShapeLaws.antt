@@ -11,36 +11,39 @@ use native.Mathlib.Decide.{decLt, ℕ-discrete}
 use lib.ListN.{length}
 use lib.Dec.{eqb, ltb}
 use borrow.Author.Tests.{eq-eqb, ne-eqb, eqb-true, lt-ltb, le-ltb}
-use Rattle.forest.specs.Forest.{end, tree, Lookup, absent, present, childrenOf, Rising, measure}
-use Rattle.scalar.specs.Value.{Value, pick}
-use Rattle.syntax.specs.Rows.{entry}
-use Rattle.syntax.specs.Syntax.{Optional, none, some, Network, Service, Behaviour, nil, oneWay, requestResponse, notification, solicitResponse, ifThenElse, whileDo, sequence, parallel, assign, choice, waiting, answering, Branches, lastBranch, branch}
+use Rattle.tree_forest.specs.Forest.{end, tree, Lookup, absent, present, childrenOf, Rising, measure}
+use Rattle.scalar.specs.Value.{Value}
+use Rattle.basics.specs.Choice.{pick}
+use Rattle.basics.specs.TestLaws.{and-left, and-right}
+use Rattle.network_syntax.specs.Rows.{entry}
+use Rattle.network_syntax.specs.Syntax.{Optional, none, some, Network, Service, Behaviour, nil, oneWay, requestResponse, notification, solicitResponse, ifThenElse, whileDo, sequence, parallel, assign, choice, waiting, answering, Branches, lastBranch, branch}
 use Rattle.wire.specs.Wire.{byteAt, u16At, part}
-use Rattle.tree.specs.Encode.{empty, Octets, Sound, WellFormed, messageDeep, messageMany, treeDeep, treeMany}
+use Rattle.tree.specs.Encode.{empty, Octets, SoundValues, WellFormedTree}
+use Rattle.tree_forest.specs.Limits.{messageLevelsBelow, messageNodesBelow, sessionLevels, sessionNodes}
 use Rattle.tree.specs.Decode.{decode, decodeMessage}
-use Rattle.tree.specs.EncodeLaws.{and-left, and-right, octets-part, empty-proper}
+use Rattle.tree.specs.EncodeLaws.{octets-part, empty-proper}
 use Rattle.tree.specs.DecodeLaws.{decode-sound}
 use Rattle.state.specs.Places.{entrySize, treePlace, queuePlace, slotStart}
 use Rattle.state.specs.Session.{undone, free, live, State, newSession}
 use Rattle.state.specs.Bytes.{stateBytes, treeOr, readEntry, readQueue, treeLength, readSession, readSlot, readState}
-use Rattle.state.specs.Shape.{suitsSlot, suitsSlots, suitsServices, AllMessages, WellMade, MadeSlot, HasShape, Stands, sameBytes, decodeState, serviceAt, clientOf, suitsBehaviour, suitsQueue, suits, suitsBranches, quietElsewhere, freshSlot, freshState}
+use Rattle.state.specs.Shape.{suitsSlot, suitsSlots, suitsServices, AllMessages, WellMade, MadeSlot, HasShape, Stands, sameBytes, decodeState, serviceOfRow, clientOf, suitsBehaviour, suitsQueue, suits, suitsBranches, quietElsewhere, freshSlot, freshState}
 use Rattle.state.specs.SizeLaws.{state-length}
 use Rattle.state.specs.ReadLaws.{read-state}
 
 -- ---- what is read is well made
 
-pub end-well-formed : (deep many : ℕ) → WellFormed deep many (tree empty end)
-unfolding Sound Rising measure
+pub end-well-formed : (deep many : ℕ) → WellFormedTree deep many (tree empty end)
+unfolding SoundValues Rising measure
 end-well-formed deep many = record { root = empty-proper; sound = tt; rising = tt; shallow = omega arith; few = omega arith }
 
-message-made : (s : List ℕ) → Octets s → (x : Lookup Value) → decodeMessage s ≡ x → WellFormed messageDeep messageMany (treeOr x)
-message-made s o absent e = end-well-formed messageDeep messageMany
-message-made s o (present t) e = decode-sound messageDeep messageMany s t o e .good
+message-made : (s : List ℕ) → Octets s → (x : Lookup Value) → decodeMessage s ≡ x → WellFormedTree messageLevelsBelow messageNodesBelow (treeOr x)
+message-made s o absent e = end-well-formed messageLevelsBelow messageNodesBelow
+message-made s o (present t) e = decode-sound messageLevelsBelow messageNodesBelow s t o e .good
 
-tree-made : (s : List ℕ) → Octets s → (x : Lookup Value) → decode treeDeep treeMany s ≡ x → WellFormed treeDeep treeMany (tree empty (childrenOf x))
-tree-made s o absent e = end-well-formed treeDeep treeMany
+tree-made : (s : List ℕ) → Octets s → (x : Lookup Value) → decode sessionLevels sessionNodes s ≡ x → WellFormedTree sessionLevels sessionNodes (tree empty (childrenOf x))
+tree-made s o absent e = end-well-formed sessionLevels sessionNodes
 tree-made s o (present (tree a ks)) e =
-    let w = decode-sound treeDeep treeMany s (tree a ks) o e .good in
+    let w = decode-sound sessionLevels sessionNodes s (tree a ks) o e .good in
     record { root = empty-proper; sound = w .sound; rising = w .rising; shallow = w .shallow; few = w .few }
 
 -- Whatever the bytes.
@@ -54,7 +57,7 @@ module _ (s : List ℕ) (o : Octets s) where
       by true h = omega arith
       by false h = omega arith
 
-  pub entry-made : (at : ℕ) → WellFormed messageDeep messageMany (readEntry s at .message)
+  pub entry-made : (at : ℕ) → WellFormedTree messageLevelsBelow messageNodesBelow (readEntry s at .message)
   unfolding readEntry
   entry-made at =
       let l = part s (at + 8) (u16At s (at + 2)) in
@@ -74,7 +77,7 @@ module _ (s : List ℕ) (o : Octets s) where
   session-made at =
       let l = part s (at + treePlace) (treeLength s at) in
       record {
-        bounded = tree-made l (octets-part s (at + treePlace) (treeLength s at) o) (decode treeDeep treeMany l) refl;
+        bounded = tree-made l (octets-part s (at + treePlace) (treeLength s at) o) (decode sessionLevels sessionNodes l) refl;
         upToFour = queue-length 4 (at + queuePlace);
         messages = queue-made 4 (at + queuePlace);
         noRowsPast = λ r h. rw (le-ltb r 256 h);
@@ -89,11 +92,6 @@ module _ (s : List ℕ) (o : Octets s) where
       by false = session-made at
 
 -- ---- the test and the shape
-
-pub both-ways : (a b : Bool) → (a ≡ true → b ≡ true) → (b ≡ true → a ≡ true) → a ≡ b
-both-ways true b f g = sym (f refl)
-both-ways false true f g = g refl
-both-ways false false f g = refl
 
 pub below-next : (P : ℕ → Type 0) (k n : ℕ) → n < suc k → P k → (n < k → P n) → P n
 below-next P k n l a b = by (ℕ-discrete n k)
@@ -249,14 +247,14 @@ mutual
 
 pub new-made : WellMade newSession
 unfolding AllMessages
-new-made = record { bounded = end-well-formed treeDeep treeMany; upToFour = omega arith; messages = tt; noRowsPast = λ r h. refl }
+new-made = record { bounded = end-well-formed sessionLevels sessionNodes; upToFour = omega arith; messages = tt; noRowsPast = λ r h. refl }
 
 pub new-suits : (N : Network) (rows q : ℕ) (B : Behaviour) → suitsBehaviour N rows q newSession (some B) ≡ true
 unfolding suitsQueue
 new-suits N rows q B = rw (undone-suits N rows B, undone-quiet 256 B)
 
 -- Past the services there is none.
-pub no-service : (l : List Service) (q : ℕ) → length l ≤ q → serviceAt l q ≡ none
+pub no-service : (l : List Service) (q : ℕ) → length l ≤ q → serviceOfRow l q ≡ none
 unfolding entry
 no-service [] q h = refl
 no-service (s ∷ l) zero h = absurd (omega arith)
@@ -274,22 +272,22 @@ fresh-shape N rows few = record {
     slot-made none = tt
     slot-made (some B) = new-made
 
-    made : (q n : ℕ) (t : Bool) → MadeSlot (pick t (freshSlot (clientOf (serviceAt (N .services) q))) free)
-    made q n true = slot-made (clientOf (serviceAt (N .services) q))
+    made : (q n : ℕ) (t : Bool) → MadeSlot (pick t (freshSlot (clientOf (serviceOfRow (N .services) q))) free)
+    made q n true = slot-made (clientOf (serviceOfRow (N .services) q))
     made q n false = tt
 
-    client : (q : ℕ) (b : Optional Behaviour) → clientOf (serviceAt (N .services) q) ≡ b → suitsSlot N rows q 0 (freshSlot b) ≡ true
+    client : (q : ℕ) (b : Optional Behaviour) → clientOf (serviceOfRow (N .services) q) ≡ b → suitsSlot N rows q 0 (freshSlot b) ≡ true
     client q none e = refl
     client q (some B) e = rw e (new-suits N rows q B)
 
     suited : (q n : ℕ) → Dec (n ≡ 0) → suitsSlot N rows q n (freshState N q n) ≡ true
-    suited q n (yes e) = rw e (client q (clientOf (serviceAt (N .services) q)) refl)
+    suited q n (yes e) = rw e (client q (clientOf (serviceOfRow (N .services) q)) refl)
     suited q n (no e) = rw (ne-eqb n 0 e) refl
 
     elsewhere : (q n : ℕ) → (4 ≤ q) ⊎ (4 ≤ n) → freshState N q n ≡ free
     elsewhere q n (inl i) = by (eqb n 0)
       where
-        by : (t : Bool) → pick t (freshSlot (clientOf (serviceAt (N .services) q))) free ≡ free
+        by : (t : Bool) → pick t (freshSlot (clientOf (serviceOfRow (N .services) q))) free ≡ free
         by true = rw (no-service (N .services) q (omega arith))
         by false = refl
     elsewhere q n (inr j) = rw (ne-eqb n 0 (λ e. omega arith))

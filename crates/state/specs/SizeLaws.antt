@@ -7,11 +7,12 @@ use Prim.Native.Nat.{ℕ, zero, suc, _+_, _*_, _/_, _%_, _≤_, _<_}
 use native.Mathlib.Omega.{arith}
 use native.Mathlib.Decide.{decLt}
 use lib.ListN.{length, length-append}
-use Rattle.forest.specs.Forest.{Forest, end, node, Tree, tree, measure, nodes}
+use Rattle.tree_forest.specs.Forest.{Forest, end, node, Tree, tree, measure, nodes}
 use Rattle.scalar.specs.Value.{Value, value}
 use Rattle.scalar.specs.ValueLaws.{value-size}
-use Rattle.syntax.specs.Syntax.{Optional, none, some, Network}
-use Rattle.tree.specs.Encode.{encode, rooted, empty, Sound, WellFormed, messageDeep, messageMany, treeDeep, treeMany}
+use Rattle.network_syntax.specs.Syntax.{Optional, none, some, Network}
+use Rattle.tree.specs.Encode.{encode, rooted, empty, SoundValues, WellFormedTree}
+use Rattle.tree_forest.specs.Limits.{messageLevelsBelow, messageNodesBelow, sessionLevels, sessionNodes}
 use Rattle.tree.specs.EncodeLaws.{length-node}
 use Rattle.state.specs.Places.{slotSize, treeRoom, messageRoom, entrySize, queueSize, rowsSize, rowSize}
 use Rattle.state.specs.Session.{Destination, outsider, waitingRow, Progress, undone, done, waits, received, taken, Progresses, Queued, Session, Slot, free, live, State}
@@ -22,22 +23,22 @@ use Rattle.state.specs.HeadLaws.{head-size}
 
 -- ---- a tree's bytes
 
-pub forest-size : (f : Forest Value) → Sound f → length (encode f) ≤ 21 * nodes f
-unfolding Sound measure encode
+pub forest-size : (f : Forest Value) → SoundValues f → length (encode f) ≤ 21 * nodes f
+unfolding SoundValues measure encode
 forest-size end h = omega arith
 forest-size (node i (value b v) ks rest) h =
     omega (arith, length-node i b v ks rest, value-size b v (h .2 .valid), forest-size ks (h .3), forest-size rest (h .4))
 
-tree-size : (deep many : ℕ) (b : ℕ) (v : List ℕ) (ks : Forest Value) → WellFormed deep many (tree (value b v) ks)
+tree-size : (deep many : ℕ) (b : ℕ) (v : List ℕ) (ks : Forest Value) → WellFormedTree deep many (tree (value b v) ks)
     → length (encode (rooted (tree (value b v) ks))) ≤ 5 + length v + 21 * many
 unfolding encode
 tree-size deep many b v ks w = omega (arith, length-node 0 b v ks end, forest-size ks (w .sound), w .few)
 
-pub message-size : (m : Tree Value) → WellFormed messageDeep messageMany m → length (messageBytes m) ≤ messageRoom
-message-size (tree (value b v) ks) w = omega (arith, tree-size messageDeep messageMany b v ks w, value-size b v (w .root .valid))
+pub message-size : (m : Tree Value) → WellFormedTree messageLevelsBelow messageNodesBelow m → length (messageBytes m) ≤ messageRoom
+message-size (tree (value b v) ks) w = omega (arith, tree-size messageLevelsBelow messageNodesBelow b v ks w, value-size b v (w .root .valid))
 
-pub session-tree-size : (F : Forest Value) → WellFormed treeDeep treeMany (tree empty F) → length (treeBytes F) ≤ 1013
-session-tree-size F w = omega (arith, tree-size treeDeep treeMany 6 [] F w)
+pub session-tree-size : (F : Forest Value) → WellFormedTree sessionLevels sessionNodes (tree empty F) → length (treeBytes F) ≤ 1013
+session-tree-size F w = omega (arith, tree-size sessionLevels sessionNodes 6 [] F w)
 
 -- ---- an entry of the queue
 
@@ -78,11 +79,11 @@ pub rows-size : (p : Progresses) → length (rowsBytes p) ≡ rowsSize
 rows-size p = length-joined (λ r. progressBytes (p r)) rowSize (λ r. progress-size (p r)) 0 256
 
 -- What a slot's bytes are made of: where each part ends.
-pub record Fits (S : Session) : Type 0 where
+pub record SessionFits (S : Session) : Type 0 where
   pub treeFits : length (treeBytes (S .tree)) ≤ treeRoom
   pub queueFits : length (queueBytes 4 (S .queue)) ≡ queueSize
 
-pub made-fits : {S : Session} → WellMade S → Fits S
+pub made-fits : {S : Session} → WellMade S → SessionFits S
 made-fits {S} w = record {
   treeFits = omega (arith, session-tree-size (S .tree) (w .bounded));
   queueFits = queue-size 4 (S .queue) (w .messages);

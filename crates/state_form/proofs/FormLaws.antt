@@ -9,7 +9,8 @@ use lib.ListN.{length, take, drop, length-drop}
 use lib.Seq.{take-all}
 use lib.Dec.{eqb, leb}
 use borrow.Author.Tests.{ne-eqb, le-leb, lt-leb, not-true, not-false}
-use Rattle.scalar.specs.Value.{pick}
+use Rattle.basics.specs.Choice.{pick}
+use Rattle.basics.specs.TestLaws.{and-assoc, and-true}
 use Rattle.wire.specs.Wire.{byteAt, u16At, part}
 use Rattle.wire.specs.WireLaws.{byte-past}
 use Rattle.tree.specs.Decode.{isMessage, isSessionTree}
@@ -33,14 +34,6 @@ zero-past : (s : List ℕ) (at n : ℕ) → length s ≤ at → allZero s at n �
 unfolding allZero
 zero-past s at zero h = refl
 zero-past s at (suc n) h = rw (byte-past s at h, zero-past s (at + 1) n (omega arith))
-
-and-true : (t : Bool) → (t && true) ≡ t
-and-true true = refl
-and-true false = refl
-
-and-assoc : (a b c : Bool) → (a && (b && c)) ≡ ((a && b) && c)
-and-assoc true b c = refl
-and-assoc false b c = refl
 
 module _ (s : List ℕ) (at n i e : ℕ) (z : Bool) (c : Clear s at n i z) (f : e ≡ min (at + n) (length s)) where
   pub clear-next : (y : Bool) → i < e → y ≡ (z && eqb (byteAt s i) 0) → Clear s at n (i + 1) y

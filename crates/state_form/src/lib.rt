@@ -28,7 +28,7 @@ pub fn all_zero(s: &[u8], at: usize, n: usize) -> bool
     let mut clear = true;
     let mut i = at;
     while i < end {
-        clear = layout::both(clear, s[i] == 0);
+        clear = network_layout::both(clear, s[i] == 0);
         i += 1;
     }
     clear
@@ -55,7 +55,7 @@ pub fn progress_form(s: &[u8], at: usize) -> bool
     if kind == 3 {
         return all_zero(s, at + 2, 4);
     }
-    if layout::either(kind == 4, kind == 5) {
+    if network_layout::either(kind == 4, kind == 5) {
         return wire::byte_at(s, at + 1) == 0;
     }
     if 5 < kind {
@@ -151,8 +151,8 @@ fn head_form(s: &[u8], at: usize) -> bool
     requires { ⌜ at + headSize ≤ 0x100000000 ⌝ }
     ensures { λ r. ⌜ r ≡ headForm (now (s .entry)) at ⌝ }
 {
-    let flags = layout::both(wire::byte_at(s, at) == 1, wire::byte_at(s, at + 1) == 0);
-    layout::both(flags, all_zero(s, at + 4, 12))
+    let flags = network_layout::both(wire::byte_at(s, at) == 1, wire::byte_at(s, at + 1) == 0);
+    network_layout::both(flags, all_zero(s, at + 4, 12))
 }
 
 // A live slot.

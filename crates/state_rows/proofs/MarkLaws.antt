@@ -9,19 +9,19 @@ use lib.ListN.{getD, set, length, length-set, replicate, length-replicate, getD-
 use lib.Seq.{getD-set-same, getD-set-other}
 use lib.Dec.{eqb}
 use borrow.Author.Tests.{eq-eqb, ne-eqb}
-use Rattle.forest.specs.Compare.{Compare, lt, eq, gt, compare}
+use Rattle.tree_forest.specs.Compare.{Compare, lt, eq, gt, compare}
 use Rattle.network.specs.Layout.{start, B, behaviourCount, behaviourAt}
 use Rattle.network.specs.Rows.{fieldA, fieldB}
 use Rattle.network.specs.Decode.{behaviourTo, behaviourOf}
-use Rattle.network.specs.TestLaws.{or-false}
-use Rattle.rows.specs.declared.BranchRow.{BranchRow}
-use Rattle.rows.specs.Readers.{BranchAt}
-use Rattle.row_parts.specs.declared.Subs.{Subs}
-use Rattle.row_parts.specs.Parts.{subsOf}
-use Rattle.row_parts.specs.RowSets.{itselfRow, rowsTo, branchRows, oneBranchRows, subRows}
-use Rattle.row_parts.specs.RowSetLaws.{rows-by, rows-none, branches-none, branches-one, branches-more}
-use Rattle.syntax.specs.Rows.{hasRow}
-use Rattle.scalar.specs.Value.{pick}
+use Rattle.network_rows.specs.declared.BranchRow.{BranchRow}
+use Rattle.network_rows.specs.Readers.{BranchAt}
+use Rattle.network_row_parts.specs.declared.Subs.{Subs}
+use Rattle.network_row_parts.specs.Parts.{subsOf}
+use Rattle.network_row_parts.specs.RowSets.{itselfRow, rowsTo, branchRows, oneBranchRows, subRows}
+use Rattle.network_row_parts.specs.RowSetLaws.{rows-by, row-sets-none, branches-none, branches-one, branches-more}
+use Rattle.network_syntax.specs.Rows.{hasRow}
+use Rattle.basics.specs.Choice.{pick}
+use Rattle.basics.specs.TestLaws.{or-false}
 use Rattle.state_rows.specs.Marks.{markFor, Adds, AddsBranches, RowsOf}
 
 -- ---- tests
@@ -72,7 +72,7 @@ module _ (s l m : List ℕ) (d r v : ℕ) (t : v ≡ r) (y : Adds (itselfRow v) 
   own = subst (λ (z : ℕ). Adds (itselfRow z) l m) t y
 
   pub no-rows : d ≡ 0 → Adds (rowsTo s d r) l m
-  no-rows e = subst (λ (z : ℕ). Adds (rowsTo s z r) l m) (sym e) (adds-as (itselfRow r) (rowsTo s 0 r) (rows-none s r) own)
+  no-rows e = subst (λ (z : ℕ). Adds (rowsTo s z r) l m) (sym e) (adds-as (itselfRow r) (rowsTo s 0 r) (row-sets-none s r) own)
 
   pub no-subs : {x : Subs} → (d ≡ 0 → ⊥) → x ≡ subsOf s r → x ≡ Subs.Nothing → Adds (rowsTo s d r) l m
   unfolding subRows

@@ -11,21 +11,21 @@ use Rattle.wire.specs.Wire.{byteAt}
 use Rattle.network.specs.Layout.{behaviourCount, serviceCount}
 use Rattle.network.specs.Decode.{networkOf}
 use Rattle.network.specs.NetworkLaws.{service-length}
-use Rattle.rows.specs.declared.BehaviourRow.{BehaviourRow}
-use Rattle.rows.specs.Readers.{behaviourRowOf}
+use Rattle.network_rows.specs.declared.BehaviourRow.{BehaviourRow}
+use Rattle.network_rows.specs.Readers.{behaviourRowOf}
 use Rattle.state.specs.Session.{Progress}
 use Rattle.state.specs.Bytes.{readProgress}
 use Rattle.state.specs.Shape.{isDestination}
 use Rattle.state.specs.Places.{rowSize}
-use Rattle.destinations.specs.declared.Destination.{Destination}
-use Rattle.destinations.specs.declared.Destination.the-variants.{Outsider, WaitingRow}
-use Rattle.destinations.specs.Meaning.{destinationOf}
-use Rattle.progress.specs.declared.Progress as coded
-use Rattle.progress.specs.declared.Progress.the-variants.{Undone, Done, Waits, Taken, Received}
-use Rattle.progress.specs.Meaning.{meaning}
+use Rattle.state_destinations.specs.declared.Destination.{Destination}
+use Rattle.state_destinations.specs.declared.Destination.the-variants.{Outsider, WaitingRow}
+use Rattle.state_destinations.specs.Meaning.{destinationOf}
+use Rattle.state_progress.specs.declared.Progress as coded
+use Rattle.state_progress.specs.declared.Progress.the-variants.{Undone, Done, Waits, Taken, Received}
+use Rattle.state_progress.specs.Meaning.{meaning}
 use Rattle.state_rows.specs.declared.Allowed.{Allowed}
 use Rattle.state_rows.specs.Marks.{marked}
-use Rattle.state_rows.specs.Allowed.{allowedBy, allowedAt, nothing, permits, permitted}
+use Rattle.state_rows.specs.Allowed.{allowedBy, allowedAt, nothing, allows, permitted}
 
 -- ---- what a kind allows
 
@@ -61,40 +61,40 @@ pub ruleset destination-laws = (to-outsider, to-row)
 
 module _ (file : List ℕ) (a : Allowed) (x : coded.Progress) (p : Progress) (e : meaning x ≡ p) where
   abbrev permitted-by : Progress → Bool
-  permitted-by p = permits (networkOf file) (behaviourCount file) a p
+  permitted-by p = allows (networkOf file) (behaviourCount file) a p
 
   pub permits-undone : x ≡ Undone → true ≡ permitted-by p
-  unfolding permits
+  unfolding allows
   permits-undone f = rw (sym e, f)
 
   pub permits-done : x ≡ Done → a .done ≡ permitted-by p
-  unfolding permits
+  unfolding allows
   permits-done f = rw (sym e, f)
 
   pub permits-waits : x ≡ Waits → a .waits ≡ permitted-by p
-  unfolding permits
+  unfolding allows
   permits-waits f = rw (sym e, f)
 
   pub permits-part : {k : ℕ} (q : ℕ) → x ≡ Taken k → q ≡ k → ltb q (a .parts) ≡ permitted-by p
-  unfolding permits
+  unfolding allows
   permits-part q f g = rw (sym e, f, g)
 
   pub permits-received : {d : Destination} (y z : Bool) → x ≡ Received d → y ≡ isDestination (networkOf file) (behaviourCount file) (destinationOf d)
       → z ≡ (a .received && y) → z ≡ permitted-by p
-  unfolding permits
+  unfolding allows
   permits-received y z f g h = h ∙ rw (sym e, f, g)
 
 pub ruleset permit-laws = (permits-undone, permits-done, permits-waits, permits-part, permits-received)
 
 module _ (file marks s : List ℕ) (at i v : ℕ) (e : v ≡ i) where
   pub row-untouched : (b : ℕ) → b ≡ byteAt s (at + rowSize * v) → b ≡ 0
-      → true ≡ permits (networkOf file) (behaviourCount file) (allowedAt file marks i) (readProgress s (at + rowSize * i))
-  unfolding permits readProgress
+      → true ≡ allows (networkOf file) (behaviourCount file) (allowedAt file marks i) (readProgress s (at + rowSize * i))
+  unfolding allows readProgress
   row-untouched b f g = rw (sym e, sym f, g)
 
   pub row-permitted : (a : Allowed) (x : Bool) → a ≡ allowedAt file marks i
-      → x ≡ permits (networkOf file) (behaviourCount file) a (readProgress s (at + rowSize * v))
-      → x ≡ permits (networkOf file) (behaviourCount file) (allowedAt file marks i) (readProgress s (at + rowSize * i))
+      → x ≡ allows (networkOf file) (behaviourCount file) a (readProgress s (at + rowSize * v))
+      → x ≡ allows (networkOf file) (behaviourCount file) (allowedAt file marks i) (readProgress s (at + rowSize * i))
   row-permitted a x f g = g ∙ rw (f, e)
 
 pub ruleset row-laws = (row-untouched, row-permitted)
@@ -111,7 +111,7 @@ upward-none file marks s at = record { few = omega arith; same = refl }
 
 module _ (file marks s : List ℕ) (at i : ℕ) (c : Upward file marks s at i) where
   abbrev one : ℕ → Bool
-  one j = permits (networkOf file) (behaviourCount file) (allowedAt file marks j) (readProgress s (at + rowSize * j))
+  one j = allows (networkOf file) (behaviourCount file) (allowedAt file marks j) (readProgress s (at + rowSize * j))
 
   row-more : 0 < i → permitted file marks s at 256 ≡ (one (i - 1) && permitted file marks s at (i - 1))
   unfolding permitted

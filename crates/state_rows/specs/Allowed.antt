@@ -3,12 +3,12 @@ use mathlib.Core.Bool.{Bool, true, false, _&&_}
 use mathlib.Core.List.{List}
 use Prim.Native.Nat.{ℕ, zero, suc, _+_, _*_}
 use lib.Dec.{ltb}
-use Rattle.scalar.specs.Value.{pick}
-use Rattle.syntax.specs.Syntax.{Network}
+use Rattle.basics.specs.Choice.{pick}
+use Rattle.network_syntax.specs.Syntax.{Network}
 use Rattle.network.specs.Layout.{behaviourCount}
 use Rattle.network.specs.Decode.{networkOf}
-use Rattle.rows.specs.declared.BehaviourRow.{BehaviourRow}
-use Rattle.rows.specs.Readers.{behaviourRowOf}
+use Rattle.network_rows.specs.declared.BehaviourRow.{BehaviourRow}
+use Rattle.network_rows.specs.Readers.{behaviourRowOf}
 use Rattle.state.specs.Session.{Progress, undone, done, waits, received, taken}
 use Rattle.state.specs.Bytes.{readProgress}
 use Rattle.state.specs.Shape.{isDestination}
@@ -45,15 +45,15 @@ unfoldable pub allowedAt : List ℕ → List ℕ → ℕ → Allowed
 allowedAt file marks i = pick (marked marks i) (allowedBy (behaviourRowOf file i)) nothing
 
 -- Is the progress one of those? A received row has a destination.
-unfoldable pub permits : Network → ℕ → Allowed → Progress → Bool
-permits N rows a undone = true
-permits N rows a done = a .done
-permits N rows a waits = a .waits
-permits N rows a (received to) = a .received && isDestination N rows to
-permits N rows a (taken k) = ltb k (a .parts)
+unfoldable pub allows : Network → ℕ → Allowed → Progress → Bool
+allows N rows a undone = true
+allows N rows a done = a .done
+allows N rows a waits = a .waits
+allows N rows a (received to) = a .received && isDestination N rows to
+allows N rows a (taken k) = ltb k (a .parts)
 
 -- The rows n - 1 down to 0, whose progress stands from `at` on.
 unfoldable pub permitted : List ℕ → List ℕ → List ℕ → ℕ → ℕ → Bool
 permitted file marks s at zero = true
 permitted file marks s at (suc n) =
-    permits (networkOf file) (behaviourCount file) (allowedAt file marks n) (readProgress s (at + rowSize * n)) && permitted file marks s at n
+    allows (networkOf file) (behaviourCount file) (allowedAt file marks n) (readProgress s (at + rowSize * n)) && permitted file marks s at n

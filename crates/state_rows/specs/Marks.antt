@@ -7,9 +7,9 @@ use Prim.Native.Nat.{ℕ, _<_}
 use lib.ListN.{getD, length}
 use lib.Dec.{eqb}
 use Rattle.network.specs.Decode.{behaviourOf}
-use Rattle.row_parts.specs.RowSets.{branchRows}
-use Rattle.scalar.specs.Value.{pick}
-use Rattle.syntax.specs.Rows.{hasRow}
+use Rattle.network_row_parts.specs.RowSets.{branchRows}
+use Rattle.basics.specs.Choice.{pick}
+use Rattle.network_syntax.specs.Rows.{hasRow}
 
 -- Is the row i marked?
 unfoldable pub marked : List ℕ → ℕ → Bool

@@ -6,9 +6,9 @@ use mathlib.Core.List.{List}
 use mathlib.Core.Logic.{_⊎_, inl, inr}
 use Prim.Native.Nat.{ℕ, zero, suc, _+_, _<_, _≤_}
 use native.Mathlib.Omega.{arith}
-use Rattle.syntax.specs.Syntax.{Optional, none, some, Behaviour, nil}
-use Rattle.syntax.specs.Rows.{rowOf, hasRow, atRow, choiceOf}
-use Rattle.syntax.specs.ViewLaws.{none-some}
+use Rattle.network_syntax.specs.Syntax.{Optional, none, some, Behaviour, nil}
+use Rattle.network_syntax.specs.Rows.{rowOf, hasRow, atRow, choiceOf}
+use Rattle.network_syntax.specs.ViewLaws.{none-some}
 use Rattle.network.specs.declared.BehaviourKind.{BehaviourKind}
 use Rattle.network.specs.Form.{WellFormed}
 use Rattle.network.specs.Layout.{behaviourCount, behaviourAt}

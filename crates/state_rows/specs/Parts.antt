@@ -2,8 +2,8 @@
 use mathlib.Core.Path.{_≡_}
 use mathlib.Core.List.{List}
 use Prim.Native.Nat.{ℕ, _<_}
-use Rattle.syntax.specs.Syntax.{Behaviour}
-use Rattle.syntax.specs.Rows.{rowOf}
+use Rattle.network_syntax.specs.Syntax.{Behaviour}
+use Rattle.network_syntax.specs.Rows.{rowOf}
 use Rattle.network.specs.declared.BehaviourKind.{BehaviourKind}
 use Rattle.network.specs.Layout.{behaviourCount}
 use Rattle.network.specs.Rows.{kindAt}

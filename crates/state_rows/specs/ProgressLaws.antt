@@ -7,9 +7,9 @@ use Prim.Native.Nat.{ℕ, zero, suc, _+_, _*_, _≤_, _<_}
 use native.Mathlib.Omega.{arith}
 use lib.Dec.{eqb, ltb}
 use borrow.Author.Tests.{le-ltb, ne-eqb}
-use Rattle.syntax.specs.Syntax.{Network, Behaviour, some}
-use Rattle.syntax.specs.Rows.{rowOf, hasRow, atRow}
-use Rattle.tree.specs.EncodeLaws.{and-left, and-right}
+use Rattle.basics.specs.TestLaws.{agree, and-left, and-right}
+use Rattle.network_syntax.specs.Syntax.{Network, Behaviour, some}
+use Rattle.network_syntax.specs.Rows.{rowOf, hasRow, atRow}
 use Rattle.network.specs.declared.BehaviourKind.{BehaviourKind}
 use Rattle.network.specs.Layout.{behaviourCount, behaviourAt}
 use Rattle.network.specs.Rows.{fieldA, fieldB, fieldC, fieldD, kindAt}
@@ -18,18 +18,18 @@ use Rattle.network.specs.Decode.{branchesFrom, behaviourFrom, behaviourOf, netw
 use Rattle.network.specs.RowLaws.{counts-kept}
 use Rattle.network.specs.UseLaws.{RowKept, behaviour-kept}
 use Rattle.network.specs.BehaviourLaws.{behaviour-row}
-use Rattle.rows.specs.Readers.{behaviourRowAs, behaviourRowOf}
+use Rattle.network_rows.specs.Readers.{behaviourRowAs, behaviourRowOf}
 use Rattle.state.specs.Session.{Progress, undone, done, waits, received, taken, Progresses}
 use Rattle.state.specs.Bytes.{readProgress}
 use Rattle.state.specs.Shape.{isUndone, undoneOrDone, undoneDoneOrWaits, undoneDoneOrReceived, undoneOrTaken, undoneDoneOrBody, branches, suits, quietElsewhere}
-use Rattle.state.specs.ShapeLaws.{both-ways, below-next}
+use Rattle.state.specs.ShapeLaws.{below-next}
 use Rattle.state.specs.RowShape.{suitsRow, PartOf, InBranch, PartSuits}
 use Rattle.state.specs.RowLaws.{suits-row, rows-suit, at-row, row-found, part-row, quiet-each}
 use Rattle.state.specs.Places.{rowSize}
 use Rattle.state_rows.specs.Marks.{marked, markFor, RowsOf}
 use Rattle.state_rows.specs.Parts.{IsBranchRow}
 use Rattle.state_rows.specs.PartLaws.{each-part}
-use Rattle.state_rows.specs.Allowed.{allowing, nothing, allowedBy, allowedAt, permits, permitted}
+use Rattle.state_rows.specs.Allowed.{allowing, nothing, allowedBy, allowedAt, allows, permitted}
 
 -- ---- what is permitted of each kind
 
@@ -37,48 +37,48 @@ module _ (N : Network) (rows : ℕ) where
   no-part : (k : ℕ) → ltb k 0 ≡ false
   no-part k = le-ltb k 0 (omega arith)
 
-  permits-undone : (x : Progress) → permits N rows nothing x ≡ isUndone x
-  unfolding permits
+  permits-undone : (x : Progress) → allows N rows nothing x ≡ isUndone x
+  unfolding allows
   permits-undone undone = refl
   permits-undone done = refl
   permits-undone waits = refl
   permits-undone (received to) = refl
   permits-undone (taken k) = no-part k
 
-  permits-done : (x : Progress) → permits N rows (allowing true false false 0) x ≡ undoneOrDone x
-  unfolding permits
+  permits-done : (x : Progress) → allows N rows (allowing true false false 0) x ≡ undoneOrDone x
+  unfolding allows
   permits-done undone = refl
   permits-done done = refl
   permits-done waits = refl
   permits-done (received to) = refl
   permits-done (taken k) = no-part k
 
-  permits-waits : (x : Progress) → permits N rows (allowing true true false 0) x ≡ undoneDoneOrWaits x
-  unfolding permits
+  permits-waits : (x : Progress) → allows N rows (allowing true true false 0) x ≡ undoneDoneOrWaits x
+  unfolding allows
   permits-waits undone = refl
   permits-waits done = refl
   permits-waits waits = refl
   permits-waits (received to) = refl
   permits-waits (taken k) = no-part k
 
-  permits-received : (x : Progress) → permits N rows (allowing true false true 0) x ≡ undoneDoneOrReceived N rows x
-  unfolding permits
+  permits-received : (x : Progress) → allows N rows (allowing true false true 0) x ≡ undoneDoneOrReceived N rows x
+  unfolding allows
   permits-received undone = refl
   permits-received done = refl
   permits-received waits = refl
   permits-received (received to) = refl
   permits-received (taken k) = no-part k
 
-  permits-taken : (n : ℕ) (x : Progress) → permits N rows (allowing false false false n) x ≡ undoneOrTaken n x
-  unfolding permits
+  permits-taken : (n : ℕ) (x : Progress) → allows N rows (allowing false false false n) x ≡ undoneOrTaken n x
+  unfolding allows
   permits-taken n undone = refl
   permits-taken n done = refl
   permits-taken n waits = refl
   permits-taken n (received to) = refl
   permits-taken n (taken k) = refl
 
-  permits-body : (x : Progress) → permits N rows (allowing true false false 1) x ≡ undoneDoneOrBody x
-  unfolding permits
+  permits-body : (x : Progress) → allows N rows (allowing true false false 1) x ≡ undoneDoneOrBody x
+  unfolding allows
   permits-body undone = refl
   permits-body done = refl
   permits-body waits = refl
@@ -97,7 +97,7 @@ branch-count s f (suc (suc n)) a h = ap suc (branch-count s f (suc n) (suc a) (o
 module _ (s : List ℕ) (N : Network) (rows : ℕ) where
   -- A progress suits a row exactly if its kind permits it.
   by-kind : (f : ℕ → Behaviour) (r at : ℕ) (x : Progress) (k : BehaviourKind) → RowKept s r at k
-      → suitsRow N rows x (behaviourFrom s f r at k) ≡ permits N rows (allowedBy (behaviourRowAs k (fieldA s at) (fieldB s at) (fieldC s at) (fieldD s at))) x
+      → suitsRow N rows x (behaviourFrom s f r at k) ≡ allows N rows (allowedBy (behaviourRowAs k (fieldA s at) (fieldB s at) (fieldC s at) (fieldD s at))) x
   unfolding behaviourFrom suitsRow behaviourRowAs
   by-kind f r at x BehaviourKind.Nil h = sym (permits-undone N rows x)
   by-kind f r at x BehaviourKind.OneWay h = sym (permits-done N rows x)
@@ -114,18 +114,18 @@ module _ (s : List ℕ) (N : Network) (rows : ℕ) where
   by-kind f r at x BehaviourKind.Unknown h = sym (permits-undone N rows x)
 
   row-fits : WellFormed s → (r : ℕ) → r < behaviourCount s → (x : Progress)
-      → suitsRow N rows x (behaviourOf s r) ≡ permits N rows (allowedBy (behaviourRowOf s r)) x
+      → suitsRow N rows x (behaviourOf s r) ≡ allows N rows (allowedBy (behaviourRowOf s r)) x
   unfolding behaviourRowOf
   row-fits w r l x =
       ap (suitsRow N rows x) (behaviour-row s w r l) ∙ by-kind (behaviourOf s) r (behaviourAt s r) x (kindAt s r) (behaviour-kept s w r l)
 
   -- A part's row has the progress that its kind permits.
   behaviour-fits : (w : WellFormed s) (r : ℕ) → r < behaviourCount s → (b : Behaviour) → PartOf b (behaviourOf s r)
-      → (x : Progress) → suitsRow N rows x b ≡ permits N rows (allowedBy (behaviourRowOf s (rowOf b))) x
+      → (x : Progress) → suitsRow N rows x b ≡ allows N rows (allowedBy (behaviourRowOf s (rowOf b))) x
   behaviour-fits w r l b i x = let p = each-part s w r l b i in ap (suitsRow N rows x) (p .is) ∙ row-fits w (rowOf b) (p .exists) x
 
   -- A branch has none.
-  branch-fits : (i : ℕ) → IsBranchRow s i → (x : Progress) → isUndone x ≡ permits N rows (allowedBy (behaviourRowOf s i)) x
+  branch-fits : (i : ℕ) → IsBranchRow s i → (x : Progress) → isUndone x ≡ allows N rows (allowedBy (behaviourRowOf s i)) x
   unfolding behaviourRowOf behaviourRowAs
   branch-fits i h x = rw (h .1) (sym (permits-undone N rows x))
 
@@ -142,7 +142,7 @@ module _ (s : List ℕ) (w : WellFormed s) (N : Network) (rows : ℕ) (p : Progr
   B = behaviourOf s r
 
   abbrev one : ℕ → Bool
-  one i = permits N rows (allowedAt s marks i) (p i)
+  one i = allows N rows (allowedAt s marks i) (p i)
 
   marked-is : (i : ℕ) → i < 256 → marked marks i ≡ hasRow i B
   unfolding marked
@@ -153,7 +153,7 @@ module _ (s : List ℕ) (w : WellFormed s) (N : Network) (rows : ℕ) (p : Progr
       by false = refl
 
   -- Of a row of the behaviour, and of any other.
-  inside : (i : ℕ) → i < 256 → hasRow i B ≡ true → one i ≡ permits N rows (allowedBy (behaviourRowOf s i)) (p i)
+  inside : (i : ℕ) → i < 256 → hasRow i B ≡ true → one i ≡ allows N rows (allowedBy (behaviourRowOf s i)) (p i)
   unfolding allowedAt
   inside i k e = rw (marked-is i k ∙ e)
 
@@ -170,7 +170,7 @@ module _ (s : List ℕ) (w : WellFormed s) (N : Network) (rows : ℕ) (p : Progr
       by : (t : Bool) → hasRow i B ≡ t → one i ≡ true
       by true e = inside i k e ∙ found (row-found i B e)
         where
-          found : ((b : Behaviour) × (atRow i B ≡ some b)) ⊎ InBranch i B → permits N rows (allowedBy (behaviourRowOf s i)) (p i) ≡ true
+          found : ((b : Behaviour) × (atRow i B ≡ some b)) ⊎ InBranch i B → allows N rows (allowedBy (behaviourRowOf s i)) (p i) ≡ true
           found (inl v) =
               let q = at-row B i (v .0) (v .1) in
               rw (q .1) at (sym (behaviour-fits s N rows w r l (v .0) (q .0) (p (rowOf (v .0)))) ∙ suits-row N rows p B (v .0) su (q .0) .own)
@@ -207,7 +207,7 @@ module _ (s : List ℕ) (w : WellFormed s) (N : Network) (rows : ℕ) (p : Progr
 
 module _ (file marks s : List ℕ) (at : ℕ) where
   abbrev test : ℕ → Bool
-  test i = permits (networkOf file) (behaviourCount file) (allowedAt file marks i) (readProgress s (at + rowSize * i))
+  test i = allows (networkOf file) (behaviourCount file) (allowedAt file marks i) (readProgress s (at + rowSize * i))
 
   each-permitted : (n : ℕ) → permitted file marks s at n ≡ true → (i : ℕ) → i < n → test i ≡ true
   unfolding permitted
@@ -225,7 +225,7 @@ module _ (file marks s : List ℕ) (at : ℕ) where
   pub permitted-suits : WellFormed file → (r : ℕ) → r < behaviourCount file → RowsOf file r marks → (p : Progresses)
       → ((i : ℕ) → i < 256 → p i ≡ readProgress s (at + rowSize * i))
       → permitted file marks s at 256 ≡ (suits (networkOf file) (behaviourCount file) p (behaviourOf file r) && quietElsewhere 256 p (behaviourOf file r))
-  permitted-suits w r l m p e = both-ways _ _ to from
+  permitted-suits w r l m p e = agree _ _ to from
     where
       suited : Bool
       suited = suits (networkOf file) (behaviourCount file) p (behaviourOf file r) && quietElsewhere 256 p (behaviourOf file r)

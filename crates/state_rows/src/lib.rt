@@ -7,14 +7,14 @@ ghost use Rattle.network.specs.Decode.{networkOf};
 ghost use Rattle.state.specs.Places.{rowSize, rowsSize};
 ghost use Rattle.state.specs.Bytes.{readProgress};
 ghost use Rattle.state.specs.Shape.{isDestination};
-ghost use Rattle.destinations.specs.Meaning.{destinationOf};
-ghost use Rattle.row_parts.specs.RowSets.{itselfRow, rowsTo};
+ghost use Rattle.state_destinations.specs.Meaning.{destinationOf};
+ghost use Rattle.network_row_parts.specs.RowSets.{itselfRow, rowsTo};
 ghost use Rattle.state_rows.specs.Marks.{Adds, AddsBranches, RowsOf};
-ghost use Rattle.state_rows.specs.Allowed.{allowing, allowedBy, allowedAt, permits, permitted};
-use destinations::Destination;
-use progress::Progress;
-use row_parts::Subs;
-use rows::BehaviourRow;
+ghost use Rattle.state_rows.specs.Allowed.{allowing, allowedBy, allowedAt, allows, permitted};
+use network_row_parts::Subs;
+use network_rows::BehaviourRow;
+use state_destinations::Destination;
+use state_progress::Progress;
 
 // What progress a row can have besides undone: done, waiting for its reply, received, or one of so many parts taken.
 pub struct Allowed {
@@ -41,7 +41,7 @@ fn mark_row(s: &[u8], marks: &mut [u8; 256], r: u16, left: u16)
     if left == 0 {
         return;
     }
-    match row_parts::subs_of(s, r) {
+    match network_row_parts::subs_of(s, r) {
         Subs::Nothing => {
             return;
         }
@@ -70,7 +70,7 @@ fn mark_branches(s: &[u8], marks: &mut [u8; 256], r: usize, n: u16, left: u16)
     if n == 0 {
         return;
     }
-    let b = rows::branch_at(s, layout::start(s, 3) + 10 * r);
+    let b = network_rows::branch_at(s, network_layout::start(s, 3) + 10 * r);
     mark_row(s, marks, b.input, left);
     mark_row(s, marks, b.follow, left);
     if n == 1 {
@@ -84,7 +84,7 @@ pub fn rows_of(file: &[u8], r: u16) -> [u8; 256]
     ensures { λ x. ⌜ RowsOf (now (file .entry)) r x ⌝ }
 {
     let mut marks = [0u8; 256];
-    mark_row(file, &mut marks, r, layout::behaviour_count(file));
+    mark_row(file, &mut marks, r, network_layout::behaviour_count(file));
     marks
 }
 
@@ -129,7 +129,7 @@ fn allowed_at(file: &[u8], marks: &[u8; 256], i: u16) -> Allowed
     if marks[k] == 0 {
         return allowing(false, false, false, 0);
     }
-    allowed_by(rows::behaviour_row(file, i))
+    allowed_by(network_rows::behaviour_row(file, i))
 }
 
 // Is it a destination of replies in this file?
@@ -139,9 +139,9 @@ pub fn is_destination(file: &[u8], d: Destination) -> bool
     match d {
         Destination::Outsider(_number) => true,
         Destination::WaitingRow(q, n, r) => {
-            let service = wire::byte_to_u16(q) < layout::service_count(file);
-            let row = r < layout::behaviour_count(file);
-            layout::both(service, layout::both(n <= 3, row))
+            let service = wire::byte_to_u16(q) < network_layout::service_count(file);
+            let row = r < network_layout::behaviour_count(file);
+            network_layout::both(service, network_layout::both(n <= 3, row))
         }
     }
 }
@@ -149,21 +149,21 @@ pub fn is_destination(file: &[u8], d: Destination) -> bool
 // Is the progress that stands at `at` one of those?
 fn permits(file: &[u8], s: &[u8], a: Allowed, at: usize) -> bool
     requires { ⌜ at + rowSize ≤ 0x100000000 ⌝ }
-    ensures { λ x. ⌜ x ≡ permits (networkOf (now (file .entry))) (behaviourCount (now (file .entry))) a (readProgress (now (s .entry)) at) ⌝ }
+    ensures { λ x. ⌜ x ≡ allows (networkOf (now (file .entry))) (behaviourCount (now (file .entry))) a (readProgress (now (s .entry)) at) ⌝ }
 {
-    match progress::progress_at(s, at) {
+    match state_progress::progress_at(s, at) {
         Progress::Undone => true,
         Progress::Done => a.done,
         Progress::Waits => a.waits,
         Progress::Taken(k) => wire::byte_to_u16(k) < a.parts,
-        Progress::Received(d) => layout::both(a.received, is_destination(file, d)),
+        Progress::Received(d) => network_layout::both(a.received, is_destination(file, d)),
     }
 }
 
 // Does the progress of row i suit a session that runs the marked rows?
 fn row_suits(file: &[u8], s: &[u8], marks: &[u8; 256], at: usize, i: u16) -> bool
     requires { ⌜ (i < 256) × (at + rowsSize ≤ 0x100000000) ⌝ }
-    ensures { λ x. ⌜ x ≡ permits (networkOf (now (file .entry))) (behaviourCount (now (file .entry)))
+    ensures { λ x. ⌜ x ≡ allows (networkOf (now (file .entry))) (behaviourCount (now (file .entry)))
         (allowedAt (now (file .entry)) (now (marks .entry)) i) (readProgress (now (s .entry)) (at + rowSize * i)) ⌝ }
 {
     let place = at + state::ROW * wire::index(i);

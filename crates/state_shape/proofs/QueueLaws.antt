@@ -7,8 +7,8 @@ use native.Mathlib.Nat.{add-zero, zero-add}
 use native.Mathlib.Omega.{arith}
 use lib.Dec.{eqb}
 use borrow.Author.Tests.{eq-eqb, ne-eqb, not-true, not-false}
-use Rattle.scalar.specs.Value.{pick}
-use Rattle.syntax.specs.Syntax.{Optional, none, some, input, output, Operation}
+use Rattle.basics.specs.Choice.{pick}
+use Rattle.network_syntax.specs.Syntax.{Optional, none, some, input, output, Operation}
 use Rattle.wire.specs.Wire.{byteAt}
 use Rattle.network.specs.Layout.{behaviourCount, operationCount}
 use Rattle.network.specs.Rows.{operationService, operationDirection, operationTwoWay}
@@ -16,12 +16,12 @@ use Rattle.network.specs.Decode.{operationOf, rowsFrom, networkOf}
 use Rattle.state.specs.Places.{entrySize}
 use Rattle.state.specs.Session.{Destination}
 use Rattle.state.specs.Bytes.{readReply, readEntry, readQueue}
-use Rattle.state.specs.Shape.{operationAt, isDestination, suitsReply, suitsQueue}
-use Rattle.destinations.specs.declared.Destination as coded
-use Rattle.destinations.specs.declared.ReplyTo.{ReplyTo}
-use Rattle.destinations.specs.declared.ReplyTo.the-variants.{Nobody, To}
-use Rattle.destinations.specs.Meaning.{destinationOf, replyOf}
-use Rattle.syntax.specs.Rows.{isInputOperation, entry}
+use Rattle.state.specs.Shape.{operationOfRow, isDestination, suitsReply, suitsQueue}
+use Rattle.state_destinations.specs.declared.Destination as coded
+use Rattle.state_destinations.specs.declared.ReplyTo.{ReplyTo}
+use Rattle.state_destinations.specs.declared.ReplyTo.the-variants.{Nobody, To}
+use Rattle.state_destinations.specs.Meaning.{destinationOf, replyOf}
+use Rattle.network_syntax.specs.Rows.{isInputOperation, entry}
 use Rattle.state_shape.specs.Stands.{suitsEntry}
 
 -- ---- where a reply goes
@@ -41,13 +41,13 @@ pub ruleset reply-laws = (to-nobody, to-destination)
 
 -- ---- an entry
 
-operation-row : (f : ℕ → Operation) (n first w : ℕ) → w < n → operationAt (rowsFrom f first n) w ≡ some (f (first + w))
+operation-row : (f : ℕ → Operation) (n first w : ℕ) → w < n → operationOfRow (rowsFrom f first n) w ≡ some (f (first + w))
 unfolding entry rowsFrom
 operation-row f zero first w h = absurd (omega arith)
 operation-row f (suc n) first zero h = rw (add-zero first)
 operation-row f (suc n) first (suc w) h = let e : suc first + w ≡ first + suc w = omega arith in operation-row f n (suc first) w (omega arith) ∙ rw e
 
-no-operation : (f : ℕ → Operation) (n first w : ℕ) → n ≤ w → operationAt (rowsFrom f first n) w ≡ none
+no-operation : (f : ℕ → Operation) (n first w : ℕ) → n ≤ w → operationOfRow (rowsFrom f first n) w ≡ none
 unfolding entry rowsFrom
 no-operation f zero first w h = refl
 no-operation f (suc n) first zero h = absurd (omega arith)

@@ -8,20 +8,20 @@ use native.Mathlib.Omega.{arith}
 use lib.ListN.{length}
 use lib.Dec.{eqb, leb, ltb}
 use borrow.Author.Tests.{eq-eqb, ne-eqb, le-leb, lt-ltb, ltb-true, not-true, not-false}
-use Rattle.scalar.specs.Value.{pick}
-use Rattle.syntax.specs.Rows.{entry}
-use Rattle.syntax.specs.Syntax.{Optional, none, some, Behaviour, Service}
+use Rattle.basics.specs.Choice.{pick}
+use Rattle.basics.specs.TestLaws.{and-left}
+use Rattle.network_syntax.specs.Rows.{entry}
+use Rattle.network_syntax.specs.Syntax.{Optional, none, some, Behaviour, Service}
 use Rattle.wire.specs.Wire.{byteAt}
 use Rattle.tree.specs.Encode.{Octets}
-use Rattle.tree.specs.EncodeLaws.{and-left}
 use Rattle.network.specs.Layout.{behaviourCount, serviceCount}
-use Rattle.network.specs.Rows.{kindAt, isBranch, isChoice, starterRow, clientRow, noRow, starterFits, clientFits}
+use Rattle.network.specs.Rows.{kindAt, isBranchKind, isChoiceKind, starterRow, clientRow, noRow, starterFits, clientFits}
 use Rattle.network.specs.Form.{WellFormed}
 use Rattle.network.specs.Decode.{serviceOf, rowsFrom, networkOf, behaviourOf, optionalBehaviour}
 use Rattle.network.specs.RowLaws.{service-kept}
 use Rattle.state.specs.Places.{slotSize, queuePlace, rowsPlace}
 use Rattle.state.specs.Bytes.{readQueue, readSession, readSlot, readState}
-use Rattle.state.specs.Shape.{serviceAt, behaviourIn, suits, quietElsewhere, suitsQueue, suitsBehaviour, decodeState}
+use Rattle.state.specs.Shape.{serviceOfRow, behaviourIn, suits, quietElsewhere, suitsQueue, suitsBehaviour, decodeState}
 use Rattle.state.specs.Form.{slotForm, slotsStand}
 use Rattle.state.specs.FormLaws.{decode-slots}
 use Rattle.state_rows.specs.Marks.{RowsOf}
@@ -31,13 +31,13 @@ use Rattle.state_shape.specs.Stands.{isSome, standsFor, TopRow, SessionT
 
 -- ---- what a session runs
 
-service-row : (f : ℕ → Service) (n first q : ℕ) → q < n → serviceAt (rowsFrom f first n) q ≡ some (f (first + q))
+service-row : (f : ℕ → Service) (n first q : ℕ) → q < n → serviceOfRow (rowsFrom f first n) q ≡ some (f (first + q))
 unfolding entry rowsFrom
 service-row f zero first q h = absurd (omega arith)
 service-row f (suc n) first zero h = rw (add-zero first)
 service-row f (suc n) first (suc q) h = let e : suc first + q ≡ first + suc q = omega arith in service-row f n (suc first) q (omega arith) ∙ rw e
 
-no-service : (f : ℕ → Service) (n first q : ℕ) → n ≤ q → serviceAt (rowsFrom f first n) q ≡ none
+no-service : (f : ℕ → Service) (n first q : ℕ) → n ≤ q → serviceOfRow (rowsFrom f first n) q ≡ none
 unfolding entry rowsFrom
 no-service f zero first q h = refl
 no-service f (suc n) first zero h = absurd (omega arith)
@@ -78,14 +78,14 @@ module _ (file : List ℕ) (q n m : ℕ) (e : m ≡ serviceCount file) where
     unfolding clientFits
     top-client r f g = record {
       runs = client-is f ∙ rw g;
-      exists = λ w i. there r (behaviourCount file) (not (isBranch (kindAt file r))) (rw g (service-kept file w q (omega arith) .clients)) i;
+      exists = λ w i. there r (behaviourCount file) (not (isBranchKind (kindAt file r))) (rw g (service-kept file w q (omega arith) .clients)) i;
     }
 
     pub top-starter : (r : ℕ) → (n ≡ 0 → ⊥) → n ≤ 3 → r ≡ starterRow file q → TopRow file q n r
     unfolding starterFits
     top-starter r f i g = record {
       runs = starter-is f i ∙ rw g;
-      exists = λ w j. there r (behaviourCount file) (isChoice (kindAt file r)) (rw g (service-kept file w q (omega arith) .starters)) j;
+      exists = λ w j. there r (behaviourCount file) (isChoiceKind (kindAt file r)) (rw g (service-kept file w q (omega arith) .starters)) j;
     }
 
 pub ruleset top-laws = (top-none, top-client, top-starter)

@@ -3,8 +3,8 @@ use mathlib.Core.Path.{_≡_}
 use mathlib.Core.Bool.{Bool, true, false, _&&_}
 use mathlib.Core.List.{List}
 use Prim.Native.Nat.{ℕ, _+_, _*_, _/_, _%_, _<_}
-use Rattle.scalar.specs.Value.{pick}
-use Rattle.syntax.specs.Syntax.{Optional, none, some}
+use Rattle.basics.specs.Choice.{pick}
+use Rattle.network_syntax.specs.Syntax.{Optional, none, some}
 use Rattle.wire.specs.Wire.{byteAt}
 use Rattle.network.specs.Layout.{behaviourCount}
 use Rattle.network.specs.Rows.{noRow}
@@ -12,7 +12,7 @@ use Rattle.network.specs.Form.{WellFormed}
 use Rattle.network.specs.Decode.{networkOf, optionalBehaviour}
 use Rattle.state.specs.Places.{slotSize}
 use Rattle.state.specs.Bytes.{readReply, readSession, readSlot, readState}
-use Rattle.state.specs.Shape.{operationAt, suitsOperation, behaviourIn, suitsBehaviour, suitsSlot, decodeState}
+use Rattle.state.specs.Shape.{operationOfRow, suitsOperation, behaviourIn, suitsBehaviour, suitsSlot, decodeState}
 use Rattle.state.specs.Form.{slotForm}
 
 -- Is there one?
@@ -27,7 +27,7 @@ standsFor file s = isSome (decodeState (networkOf file) (behaviourCount file) s)
 -- The queue entry that starts at `at`, of the O row w, suits the service q.
 unfoldable pub suitsEntry : List ℕ → List ℕ → ℕ → ℕ → ℕ → Bool
 suitsEntry file s q w at =
-    suitsOperation (networkOf file) (behaviourCount file) q (readReply s (byteAt s (at + 1)) (at + 4)) (operationAt (networkOf file .operations) w)
+    suitsOperation (networkOf file) (behaviourCount file) q (readReply s (byteAt s (at + 1)) (at + 4)) (operationOfRow (networkOf file .operations) w)
 
 -- r is the B row that the session n of the service q runs; 65,535 for none.
 pub record TopRow (file : List ℕ) (q n r : ℕ) : Type 0 where

@@ -6,9 +6,9 @@ ghost use Rattle.network.specs.Decode.{networkOf};
 ghost use Rattle.state.specs.Places.{slotSize, entrySize};
 ghost use Rattle.state.specs.Bytes.{readQueue};
 ghost use Rattle.state.specs.Shape.{suitsReply, suitsQueue};
-ghost use Rattle.destinations.specs.Meaning.{replyOf};
+ghost use Rattle.state_destinations.specs.Meaning.{replyOf};
 ghost use Rattle.state_shape.specs.Stands.{suitsEntry, TopRow, SessionTells, SlotTells, Tells};
-use destinations::ReplyTo;
+use state_destinations::ReplyTo;
 
 // Has a message a destination of this file exactly if its operation is two-way?
 fn reply_suits(file: &[u8], twoway: bool, to: ReplyTo) -> bool
@@ -16,7 +16,7 @@ fn reply_suits(file: &[u8], twoway: bool, to: ReplyTo) -> bool
 {
     match to {
         ReplyTo::Nobody => !twoway,
-        ReplyTo::To(d) => layout::both(twoway, state_rows::is_destination(file, d)),
+        ReplyTo::To(d) => network_layout::both(twoway, state_rows::is_destination(file, d)),
     }
 }
 
@@ -26,17 +26,17 @@ fn entry_suits(file: &[u8], s: &[u8], q: u8, row: u16, at: usize) -> bool
     requires { ⌜ at + 8 ≤ 0x100000000 ⌝ }
     ensures { λ x. ⌜ x ≡ suitsEntry (now (file .entry)) (now (s .entry)) q row at ⌝ }
 {
-    if layout::operation_count(file) <= row {
+    if network_layout::operation_count(file) <= row {
         return false;
     }
-    if rows::operation_service(file, row) != q {
+    if network_rows::operation_service(file, row) != q {
         return false;
     }
-    if rows::operation_direction(file, row) != 0 {
+    if network_rows::operation_direction(file, row) != 0 {
         return false;
     }
-    let to = destinations::read_reply(s, wire::byte_at(s, at + 1), at + 4);
-    reply_suits(file, rows::operation_two_way(file, row) == 1, to)
+    let to = state_destinations::read_reply(s, wire::byte_at(s, at + 1), at + 4);
+    reply_suits(file, network_rows::operation_two_way(file, row) == 1, to)
 }
 
 // Do the queued messages, of up to n entries from `at` on, suit the service q?
@@ -65,13 +65,13 @@ fn top_row(file: &[u8], q: u16, n: u8) -> u16
     requires { ⌜ n ≤ 3 ⌝ }
     ensures { λ r. ⌜ TopRow (now (file .entry)) q n r ⌝ }
 {
-    if layout::service_count(file) <= q {
+    if network_layout::service_count(file) <= q {
         return 65535;
     }
     if n == 0 {
-        return rows::client_row(file, q);
+        return network_rows::client_row(file, q);
     }
-    rows::starter_row(file, q)
+    network_rows::starter_row(file, q)
 }
 
 // Does the live session n of the service q, whose slot starts at `at`, suit what it runs?

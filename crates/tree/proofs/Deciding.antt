@@ -8,13 +8,16 @@ use native.Mathlib.Decide.{decLt}
 use lib.ListN.{length, getD, take, drop}
 use lib.Dec.{eqb, leb}
 use borrow.Author.Tests.{eq-eqb, ne-eqb, le-leb, lt-leb, not-true, not-false}
-use Rattle.forest.specs.Forest.{Forest, end, node, Tree, tree, Lookup, absent, present, Rising, nodes, levels}
+use Rattle.tree_forest.specs.Forest.{Forest, end, node, Tree, tree, Lookup, absent, present, Rising, nodes, levels}
 use Rattle.scalar.specs.Basic.{void}
-use Rattle.scalar.specs.Value.{Value, value, pick}
-use Rattle.tree.specs.Encode.{count, payload, children, encode, rooted, Octets, Proper, Sound}
-use Rattle.tree.specs.Decode.{idAt, basicAt, countAt, valueAt, nextAt, headOk, headAt, Parse, bad, past, test, parse, scan, wholeOf, decode, isPresent, isTree, emptyRoot, isSessionTree}
+use Rattle.scalar.specs.Value.{Value, value}
+use Rattle.basics.specs.Choice.{pick}
+use Rattle.basics.specs.TestLaws.{both-true}
+use Rattle.tree.specs.Encode.{rootCount, payload, children, encode, rooted, Octets, Proper, SoundValues}
+use Rattle.tree.specs.Decode.{idAt, basicAt, countAt, valueAt, nextAt, headOk, headAt, Parse, bad, past, test, parse, scan, wholeOf, decode, isTree, emptyRoot, isSessionTree}
+use Rattle.tree_forest.specs.Forest.{isPresent}
 use Rattle.tree.specs.Standing.{Good, Within}
-use Rattle.tree.specs.EncodeLaws.{Got, got, fault, Fields, fields, encode-node, parse-complete, parse-sound, scanned, unscanned, good-of, of-good, sound-above, unique}
+use Rattle.tree.specs.EncodeLaws.{Got, got, fault, Fields, node-fields, encode-node, parse-complete, parse-sound, scanned, unscanned, good-of, of-good, sound-above, unique}
 use Rattle.tree.specs.StandingLaws.{no-fault, no-bad}
 use Rattle.tree.specs.declared.Head.{Head}
 use Rattle.tree.specs.declared.Head.the-variants.{Node, Fault}
@@ -76,9 +79,6 @@ session-root s b x p q e = ap (λ (y : ℕ). eqb y 6) e ∙ whole-empty s (test 
 pub ruleset session-laws = (session-none, session-root)
 
 -- limits
-and-of : (a b : Bool) → a ≡ true → b ≡ true → (a && b) ≡ true
-and-of a b p q = rw (p, q) refl
-
 fits-not : (l z deep many : ℕ) → (l ≤ deep → z ≤ many → ⊥) → (leb l deep && leb z many) ≡ false
 fits-not l z deep many h = by (decLt deep l) (decLt many z)
   where
@@ -92,15 +92,15 @@ fits-not l z deep many h = by (decLt deep l) (decLt many z)
     by (no a) (no b) = absurd (h (omega arith) (omega arith))
 
 module _ (deep many : ℕ) (s : List ℕ) (c : ℕ) (w : List ℕ) (f : Forest Value) (rest : List ℕ) (e : s ≡ encode (node 0 (value c w) f end) ++ rest) (ok : Proper (value c w)) where
-  at-root : Fields s 0 0 c (count f) w (encode f ++ rest)
+  at-root : Fields s 0 0 c (rootCount f) w (encode f ++ rest)
   unfolding encode
-  at-root = fields s 0 0 c (count f) w (encode f ++ rest) (e ∙ encode-node 0 c w f end rest) (ok .valid)
+  at-root = node-fields s 0 0 c (rootCount f) w (encode f ++ rest) (e ∙ encode-node 0 c w f end rest) (ok .valid)
 
-  passes : (n m : ℕ) → n ≡ count f → m ≡ 5 + length w → Rising f → Sound f → levels f ≤ deep → nodes f ≤ many → scan s deep n 0 many m ≡ Past (5 + length w + length (encode f)) (many - nodes f)
+  passes : (n m : ℕ) → n ≡ rootCount f → m ≡ 5 + length w → Rising f → SoundValues f → levels f ≤ deep → nodes f ≤ many → scan s deep n 0 many m ≡ Past (5 + length w + length (encode f)) (many - nodes f)
   unfolding scan
   passes n m p q x o l z = let k = parse-complete f s deep 0 many (5 + length w) rest (at-root .after) (good-of f deep 0 (sound-above f o) x o l) z in rw (p, q, k) refl
 
-  kept : Octets s → (n m a b : ℕ) → n ≡ count f → m ≡ 5 + length w → Rising f → Sound f → scan s deep n 0 many m ≡ Past a b → (levels f ≤ deep) × (nodes f ≤ many)
+  kept : Octets s → (n m a b : ℕ) → n ≡ rootCount f → m ≡ 5 + length w → Rising f → SoundValues f → scan s deep n 0 many m ≡ Past a b → (levels f ≤ deep) × (nodes f ≤ many)
   kept bs n m a b p q x o h =
       let k = scanned s deep n 0 many m a b h in
       let st = parse-sound s bs deep n 0 many m (k .0) a b (k .1) in
@@ -113,7 +113,7 @@ module _ (deep many : ℕ) (s : List ℕ) (h : Head) (p : h ≡ headAt s 0) wher
   pub within-fault : h ≡ Fault → Within deep many s false
   within-fault q = record { tells = go }
     where
-      go : (t : Tree Value) (after : List ℕ) → s ≡ encode (rooted t) ++ after → Proper (payload t) → Sound (children t) → Rising (children t) →
+      go : (t : Tree Value) (after : List ℕ) → s ≡ encode (rooted t) ++ after → Proper (payload t) → SoundValues (children t) → Rising (children t) →
           false ≡ (leb (levels (children t)) deep && leb (nodes (children t)) many)
       go (tree (value c w) f) rest e ok o x = no-fault (at-root deep many s c w f rest e ok .ok) (fault s 0 p q)
 
@@ -121,7 +121,7 @@ module _ (deep many : ℕ) (s : List ℕ) (h : Head) (p : h ≡ headAt s 0) wher
     pub within-bad : y ≡ Bad → Within deep many s false
     within-bad yq = record { tells = go }
       where
-        go : (t : Tree Value) (after : List ℕ) → s ≡ encode (rooted t) ++ after → Proper (payload t) → Sound (children t) → Rising (children t) →
+        go : (t : Tree Value) (after : List ℕ) → s ≡ encode (rooted t) ++ after → Proper (payload t) → SoundValues (children t) → Rising (children t) →
             false ≡ (leb (levels (children t)) deep && leb (nodes (children t)) many)
         go (tree (value c w) f) rest e ok o x =
             let g = got p q in
@@ -131,12 +131,12 @@ module _ (deep many : ℕ) (s : List ℕ) (h : Head) (p : h ≡ headAt s 0) wher
     pub within-past : (a d : ℕ) → Octets s → y ≡ Past a d → Within deep many s true
     within-past a d bs yq = record { tells = go }
       where
-        go : (t : Tree Value) (after : List ℕ) → s ≡ encode (rooted t) ++ after → Proper (payload t) → Sound (children t) → Rising (children t) →
+        go : (t : Tree Value) (after : List ℕ) → s ≡ encode (rooted t) ++ after → Proper (payload t) → SoundValues (children t) → Rising (children t) →
             true ≡ (leb (levels (children t)) deep && leb (nodes (children t)) many)
         go (tree (value c w) f) rest e ok o x =
             let g = got p q in
             let r = at-root deep many s c w f rest e ok in
             let k = kept deep many s c w f rest e ok bs n m a d (g .count ∙ r .count) (g .next ∙ r .next) x o (sym yp ∙ yq) in
-            sym (and-of (leb (levels f) deep) (leb (nodes f) many) (le-leb (levels f) deep (k .0)) (le-leb (nodes f) many (k .1)))
+            sym (both-true (le-leb (levels f) deep (k .0)) (le-leb (nodes f) many (k .1)))
 
 pub ruleset within-laws = (within-fault, within-bad, within-past)

@@ -1,5 +1,4 @@
 pub mod Scanning
 pub mod Deciding
 pub mod Walking
-pub mod Reader
 pub mod Skipping

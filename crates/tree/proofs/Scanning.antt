@@ -8,10 +8,10 @@ use lib.ListN.{length, getD, take, drop, length-take, length-drop, List·getD-eq
 use lib.Seq.{getD-take, getD-drop}
 use lib.Dec.{eqb, leb, ltb}
 use borrow.Author.Tests.{le-leb, lt-leb, lt-ltb, le-ltb, not-true, not-false}
-use Rattle.forest.specs.Forest.{Forest, end, node}
+use Rattle.tree_forest.specs.Forest.{Forest, end, node}
 use Rattle.wire.specs.Wire.{u16At}
 use Rattle.scalar.specs.Value.{Value, value, isValue}
-use Rattle.tree.specs.Decode.{idAt, basicAt, countAt, lenAt, valueAt, nextAt, headOk, headAt, Parse, bad, past, test, andThen, join, siblings, parse, erase, scan}
+use Rattle.tree.specs.Decode.{idAt, basicAt, countAt, lenAt, valueAt, nextAt, headOk, headAt, Parse, bad, past, test, thenParse, join, parseSiblings, parse, erase, scan}
 use Rattle.tree.specs.EncodeLaws.{Got, got, fault}
 use Rattle.tree.specs.declared.Head.{Head}
 use Rattle.tree.specs.declared.Head.the-variants.{Node, Fault}
@@ -61,20 +61,20 @@ erase-join i a ks bad = refl
 erase-join i a ks (past f e l) = refl
 
 step-past : (p : Parse) (q : ℕ → ℕ → Parse) (i : ℕ) (a : Value) (m l : ℕ) → erase p ≡ Past m l →
-    erase (andThen p (λ ks mid left. join i a ks (q left mid))) ≡ erase (q l m)
+    erase (thenParse p (λ ks mid left. join i a ks (q left mid))) ≡ erase (q l m)
 step-past bad q i a m l e = cc
 step-past (past ks m′ l′) q i a m l e =
     let e1 : m′ ≡ m = cc in
     let e2 : l′ ≡ l = cc in
     erase-join i a ks (q l′ m′) ∙ rw (e1, e2) refl
 
-step-bad : (p : Parse) (q : Forest Value → ℕ → ℕ → Parse) → erase p ≡ Bad → erase (andThen p q) ≡ Bad
+step-bad : (p : Parse) (q : Forest Value → ℕ → ℕ → Parse) → erase p ≡ Bad → erase (thenParse p q) ≡ Bad
 step-bad bad q e = refl
 step-bad (past ks m l) q e = cc
 
 -- the laws of `scan` at numbers that are known to be above 0
 done : (s : List ℕ) (d last left at : ℕ) → Past at left ≡ scan s d 0 last left at
-unfolding scan parse siblings
+unfolding scan parse parseSiblings
 done s zero last left at = refl
 done s (suc d) last left at = refl
 
@@ -87,9 +87,9 @@ step : (s : List ℕ) (d n last left at : ℕ) → scan s (suc d) (suc n) last l
     erase (test (ltb 0 left)
     (test (headOk s at)
     (test (ltb last (idAt s at))
-    (andThen (parse s d (countAt s at) 0 (left - 1) (nextAt s at))
+    (thenParse (parse s d (countAt s at) 0 (left - 1) (nextAt s at))
     (λ ks mid left′. join (idAt s at) (value (basicAt s at) (valueAt s at)) ks (parse s (suc d) n (idAt s at) left′ mid))))))
-unfolding scan parse siblings
+unfolding scan parse parseSiblings
 step s d n last left at = refl
 
 module _ (s : List ℕ) (d n last left at : ℕ) where

@@ -5,9 +5,9 @@ use Prim.Native.Nat.{ℕ, zero, suc, _+_, _-_, _%_, _/_, _≤_, _<_}
 use native.Mathlib.Omega.{arith}
 use lib.ListN.{length, getD, drop, length-drop, length-append}
 use lib.Seq.{getD-drop, drop-append-seam}
-use Rattle.forest.specs.Forest.{Forest, end, node, Tree, tree, nodeOf, measure, nodes}
+use Rattle.tree_forest.specs.Forest.{Forest, end, node, Tree, tree, nodeOf, measure, nodes}
 use Rattle.scalar.specs.Value.{Value, value}
-use Rattle.tree.specs.Encode.{count, encode}
+use Rattle.tree.specs.Encode.{rootCount, encode}
 use Rattle.tree.specs.EncodeLaws.{encode-node, length-node, count-nodes, later}
 use Rattle.tree.specs.Standing.{Root, Ended}
 
@@ -21,8 +21,8 @@ unfolding encode joined
 encode-joined end g = refl
 encode-joined (node i (value b v) ks r) g = rw (encode-joined r g) (simp append-assoc)
 
-count-joined : (f g : Forest Value) → count (joined f g) ≡ count f + count g
-unfolding count joined
+count-joined : (f g : Forest Value) → rootCount (joined f g) ≡ rootCount f + rootCount g
+unfolding rootCount joined
 count-joined end g = omega arith
 count-joined (node i a ks r) g = omega (arith, count-joined r g)
 
@@ -36,7 +36,7 @@ pub record Owed (s : List ℕ) (p n e : ℕ) : Type 0 where
   pub forest : Forest Value
   pub after : List ℕ
   pub bytes : drop p s ≡ encode forest ++ after
-  pub many : count forest ≡ n
+  pub many : rootCount forest ≡ n
   pub few : nodes forest ≤ 49
   pub ends : p + length (encode forest) ≡ e
 
@@ -45,7 +45,7 @@ pub record Passing (s : List ℕ) (at p n : ℕ) : Type 0 where
   pub tells : (i : ℕ) (t : Tree Value) → Root s at i t → Owed s p n (at + length (encode (nodeOf i t end)))
 
 pub pass-start : (s : List ℕ) (at : ℕ) → Passing s at at 1
-unfolding count measure
+unfolding rootCount measure
 pass-start s at = record { tells = go }
   where
     go : (i : ℕ) (t : Tree Value) → Root s at i t → Owed s at 1 (at + length (encode (nodeOf i t end)))
@@ -57,15 +57,15 @@ record First (s : List ℕ) (p n e : ℕ) : Type 0 where
   rest : Owed s (p + 5 + getD s (p + 4) 0) (n - 1 + getD s (p + 3) 0) e
 
 first : (s : List ℕ) (p n e : ℕ) → 0 < n → Owed s p n e → First s p n e
-unfolding count measure
+unfolding rootCount measure
 first s p n e h w = go (w .forest) (w .bytes) (w .many) (w .few) (w .ends)
   where
-    go : (f : Forest Value) → drop p s ≡ encode f ++ w .after → count f ≡ n → nodes f ≤ 49 → p + length (encode f) ≡ e → First s p n e
+    go : (f : Forest Value) → drop p s ≡ encode f ++ w .after → rootCount f ≡ n → nodes f ≤ 49 → p + length (encode f) ≡ e → First s p n e
     go end b m k x = absurd (omega arith)
     go (node i (value d v) ks r) b m k x =
-        let l : List ℕ = i % 256 ∷ i / 256 ∷ d ∷ count ks ∷ length v ∷ (v ++ (encode ks ++ (encode r ++ w .after))) in
+        let l : List ℕ = i % 256 ∷ i / 256 ∷ d ∷ rootCount ks ∷ length v ∷ (v ++ (encode ks ++ (encode r ++ w .after))) in
         let all : drop p s ≡ l = b ∙ encode-node i d v ks r (w .after) in
-        let b3 : getD s (p + 3) 0 ≡ count ks = sym (getD-drop p s 3 0) ∙ ap (λ (z : List ℕ). getD z 3 0) all in
+        let b3 : getD s (p + 3) 0 ≡ rootCount ks = sym (getD-drop p s 3 0) ∙ ap (λ (z : List ℕ). getD z 3 0) all in
         let b4 : getD s (p + 4) 0 ≡ length v = sym (getD-drop p s 4 0) ∙ ap (λ (z : List ℕ). getD z 4 0) all in
         let b5 : drop (p + 5) s ≡ v ++ (encode ks ++ (encode r ++ w .after)) = later s l p 5 all in
         let af : drop (p + 5 + length v) s ≡ encode ks ++ (encode r ++ w .after) =
@@ -89,10 +89,10 @@ first s p n e h w = go (w .forest) (w .bytes) (w .many) (w .few) (w .ends)
 
 module _ (s : List ℕ) (at p n : ℕ) (w : Passing s at p n) where
   pub pass-done : n ≤ 0 → Ended s at p
-  unfolding count encode
+  unfolding rootCount encode
   pass-done h = record { ends = λ i t r. go (w .tells i t r .forest) (w .tells i t r .many) (w .tells i t r .ends) }
     where
-      go : {e : ℕ} (f : Forest Value) → count f ≡ n → p + length (encode f) ≡ e → p ≡ e
+      go : {e : ℕ} (f : Forest Value) → rootCount f ≡ n → p + length (encode f) ≡ e → p ≡ e
       go end m x = omega arith
       go (node i a ks r) m x = absurd (omega arith)
 

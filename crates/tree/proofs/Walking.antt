@@ -9,14 +9,15 @@ use lib.ListN.{length, getD, take, drop, drop-of-length-le}
 use lib.Seq.{drop-cons}
 use lib.Dec.{eqb}
 use borrow.Author.Tests.{eq-eqb, ne-eqb}
-use Rattle.forest.specs.Compare.{compare}
-use Rattle.forest.specs.Forest.{Forest, end, node, Tree, tree, nodeOf, Lookup, absent, present, find, childrenOf}
-use Rattle.forest.specs.ForestLaws.{find-eq, find-lt, find-gt}
-use Rattle.forest.specs.Path.{Path, path, read, readSteps}
-use Rattle.scalar.specs.Value.{Value, value, pick}
-use Rattle.tree.specs.Encode.{count, children, encode}
+use Rattle.tree_forest.specs.Compare.{compare}
+use Rattle.tree_forest.specs.Forest.{Forest, end, node, Tree, tree, nodeOf, Lookup, absent, present, find, childrenOf}
+use Rattle.tree_forest.specs.ForestLaws.{find-eq, find-lt, find-gt}
+use Rattle.tree_forest.specs.Path.{Path, path, read, readSteps}
+use Rattle.scalar.specs.Value.{Value, value}
+use Rattle.basics.specs.Choice.{pick}
+use Rattle.tree.specs.Encode.{rootCount, children, encode}
 use Rattle.tree.specs.Decode.{headAt}
-use Rattle.tree.specs.Ids.{steps, pathOf, zeros, endsInZeros, isPath, lastOf, lastId}
+use Rattle.tree.specs.Ids.{steps, pathFromIds, allZeros, endsInZeros, isPath, lastOf, lastId}
 use Rattle.tree.specs.IdsLaws.{steps-stop, steps-on}
 use Rattle.tree.specs.Standing.{Row, Root, Stood, Spot, Ended, Sought, Below, Followed}
 use Rattle.tree.specs.StandingLaws.{row-root, row-rest, row-fields, root-kids, seen, unseen, root-seen, root-unseen}
@@ -29,18 +30,18 @@ use Rattle.tree.specs.declared.Found.the-variants.{At, Nothing}
 pub seek-none : (s : List ℕ) (at n id : ℕ) → n ≡ 0 → Sought s at n id Nothing
 seek-none s at n id z = record { tells = go }
   where
-    go : (f : Forest Value) → Row s at f → count f ≡ n → find id f ≡ absent
+    go : (f : Forest Value) → Row s at f → rootCount f ≡ n → find id f ≡ absent
     go end w e = unfold find in refl
-    go (node i a ks rest) w e = absurd (unfold count in omega arith)
+    go (node i a ks rest) w e = absurd (unfold rootCount in omega arith)
 
 module _ (s : List ℕ) (at n id : ℕ) (z : n ≡ 0 → ⊥) (h : Head) (p : h ≡ headAt s at) where
-  none : {A : Type 0} → count {A = Value} end ≡ n → A
-  none e = absurd (z (sym (unfold count in e)))
+  none : {A : Type 0} → rootCount {A = Value} end ≡ n → A
+  none e = absurd (z (sym (unfold rootCount in e)))
 
   pub seek-fault : h ≡ Fault → Sought s at n id Nothing
   seek-fault q = record { tells = go }
     where
-      go : (f : Forest Value) → Row s at f → count f ≡ n → find id f ≡ absent
+      go : (f : Forest Value) → Row s at f → rootCount f ≡ n → find id f ≡ absent
       go end w e = none e
       go (node i (value b v) ks rest) w e = unseen s at i b v ks rest w h p q
 
@@ -48,7 +49,7 @@ module _ (s : List ℕ) (at n id : ℕ) (z : n ≡ 0 → ⊥) (h : Head) (p : h 
     pub seek-gap : id < j → Sought s at n id Nothing
     seek-gap l = record { tells = go }
       where
-        go : (f : Forest Value) → Row s at f → count f ≡ n → find id f ≡ absent
+        go : (f : Forest Value) → Row s at f → rootCount f ≡ n → find id f ≡ absent
         go end w e = none e
         go (node i (value d v) ks rest) w e =
             let u = seen s at i d v ks rest w h j b c m p q in
@@ -58,7 +59,7 @@ module _ (s : List ℕ) (at n id : ℕ) (z : n ≡ 0 → ⊥) (h : Head) (p : h 
     unfolding find
     seek-here l = record { tells = go }
       where
-        go : (f : Forest Value) → Row s at f → count f ≡ n → Stood s at id (find id f)
+        go : (f : Forest Value) → Row s at f → rootCount f ≡ n → Stood s at id (find id f)
         go end w e = none e
         go (node i (value d v) ks rest) w e =
             let u = seen s at i d v ks rest w h j b c m p q in
@@ -72,14 +73,14 @@ module _ (s : List ℕ) (at n id : ℕ) (z : n ≡ 0 → ⊥) (h : Head) (p : h 
     pub seek-next : (x : ℕ) (r : Found) → j ≤ id → (j ≡ id → ⊥) → Ended s at x → Sought s x (n - 1) id r → Sought s at n id r
     seek-next x r l o y k = record { tells = go }
       where
-        go : (f : Forest Value) → Row s at f → count f ≡ n → Spot s id r (find id f)
+        go : (f : Forest Value) → Row s at f → rootCount f ≡ n → Spot s id r (find id f)
         go end w e = none e
         go (node i (value d v) ks rest) w e =
             let u = seen s at i d v ks rest w h j b c m p q in
             let g : i < id = omega (arith, u .id, o) in
             let f : find id (node i (value d v) ks rest) ≡ find id rest = unfold find in find-gt (compare id i) g (tree (value d v) ks) (find id rest) in
             let ex : x ≡ at + length (encode (node i (value d v) ks end)) = y .ends i (tree (value d v) ks) (row-root s at i d v ks rest w) in
-            let less : count rest ≡ n - 1 = unfold count in omega arith in
+            let less : rootCount rest ≡ n - 1 = unfold rootCount in omega arith in
             subst (Spot s id r) (sym f) (k .tells rest (subst (λ (q : ℕ). Row s q rest) (sym ex) (row-rest s at i d v ks rest w)) less)
 
 pub ruleset seek-laws = (seek-none, seek-fault, seek-gap, seek-here, seek-next)
@@ -120,8 +121,8 @@ pub follow-start : (s ids : List ℕ) → Reached s ids 0 0
 follow-start s ids = record { tells = λ i t w. record { id = i; there = t; root = w; rest = refl; name = refl } }
 
 -- the steps of a path that is one
-path-read : (ids : List ℕ) (t : Tree Value) → isPath ids ≡ true → readSteps (steps ids) (present t) ≡ read (pathOf ids) (children t)
-unfolding steps pathOf isPath readSteps
+path-read : (ids : List ℕ) (t : Tree Value) → isPath ids ≡ true → readSteps (steps ids) (present t) ≡ read (pathFromIds ids) (children t)
+unfolding steps pathFromIds isPath readSteps
 path-read [] t e = cc
 path-read (i ∷ is) (tree a ks) e = by (eqb i 0) e
   where
@@ -129,8 +130,8 @@ path-read (i ∷ is) (tree a ks) e = by (eqb i 0) e
     by true e = cc
     by false e = refl
 
-path-last : (ids : List ℕ) (i : ℕ) → isPath ids ≡ true → lastOf i (steps ids) ≡ lastId (pathOf ids)
-unfolding steps pathOf isPath lastOf
+path-last : (ids : List ℕ) (i : ℕ) → isPath ids ≡ true → lastOf i (steps ids) ≡ lastId (pathFromIds ids)
+unfolding steps pathFromIds isPath lastOf
 path-last [] i e = cc
 path-last (j ∷ is) i e = by (eqb j 0) e
   where
@@ -142,7 +143,7 @@ arrived : (s ids : List ℕ) (at k : ℕ) → Reached s ids at k → steps (drop
 unfolding readSteps lastOf
 arrived s ids at k h e = record { tells = go }
   where
-    go : (i : ℕ) (t : Tree Value) → Root s 0 i t → isPath ids ≡ true → Stood s at (lastId (pathOf ids)) (read (pathOf ids) (children t))
+    go : (i : ℕ) (t : Tree Value) → Root s 0 i t → isPath ids ≡ true → Stood s at (lastId (pathFromIds ids)) (read (pathFromIds ids) (children t))
     go i t w ok =
         let q = h .tells i t w in
         let n : lastOf (q .id) (steps (drop k ids)) ≡ q .id = rw e refl in
@@ -175,7 +176,7 @@ below-as s at id r r′ e b = subst (Below s at id) e b
 pub follow-gone : (s ids : List ℕ) (at k : ℕ) (r : Found) → length ids ≡ 4 → k < 4 → Reached s ids at k → (getD ids k 0 ≡ 0 → ⊥) → Below s at (getD ids k 0) r → r ≡ Nothing → Followed s ids Nothing
 follow-gone s ids at k r four n h z d v = record { tells = go }
   where
-    go : (i : ℕ) (t : Tree Value) → Root s 0 i t → isPath ids ≡ true → read (pathOf ids) (children t) ≡ absent
+    go : (i : ℕ) (t : Tree Value) → Root s 0 i t → isPath ids ≡ true → read (pathFromIds ids) (children t) ≡ absent
     go i t w ok =
         let q = h .tells i t w in
         let e = steps-on ids k (omega arith) z in
@@ -217,19 +218,19 @@ module _ (l : List ℕ) (h : length l ≡ 4) where
 
   module _ (a : getD l 0 0 ≡ 0 → ⊥) where
     pub path-one : getD l 1 0 ≡ 0 → getD l 2 0 ≡ 0 → eqb (getD l 3 0) 0 ≡ isPath l
-    unfolding isPath endsInZeros zeros
+    unfolding isPath endsInZeros allZeros
     path-one b c = by-ids (rw (ne-eqb (getD l 0 0) 0 a, eq-eqb (getD l 1 0) 0 b, eq-eqb (getD l 2 0) 0 c) (sym (and-true _)))
 
     pub path-gap : getD l 1 0 ≡ 0 → (getD l 2 0 ≡ 0 → ⊥) → false ≡ isPath l
-    unfolding isPath endsInZeros zeros
+    unfolding isPath endsInZeros allZeros
     path-gap b c = by-ids (rw (ne-eqb (getD l 0 0) 0 a, eq-eqb (getD l 1 0) 0 b, ne-eqb (getD l 2 0) 0 c) refl)
 
     pub path-two : (getD l 1 0 ≡ 0 → ⊥) → getD l 2 0 ≡ 0 → eqb (getD l 3 0) 0 ≡ isPath l
-    unfolding isPath endsInZeros zeros
+    unfolding isPath endsInZeros allZeros
     path-two b c = by-ids (rw (ne-eqb (getD l 0 0) 0 a, ne-eqb (getD l 1 0) 0 b, eq-eqb (getD l 2 0) 0 c) (sym (and-true _)))
 
     pub path-three : (getD l 1 0 ≡ 0 → ⊥) → (getD l 2 0 ≡ 0 → ⊥) → true ≡ isPath l
-    unfolding isPath endsInZeros zeros
+    unfolding isPath endsInZeros allZeros
     path-three b c = by-ids (rw (ne-eqb (getD l 0 0) 0 a, ne-eqb (getD l 1 0) 0 b, ne-eqb (getD l 2 0) 0 c) (sym (same (eqb (getD l 3 0) 0))))
       where
         same : (t : Bool) → pick t true true ≡ true

@@ -6,16 +6,18 @@ use mathlib.Core.Bool.{Bool, true, false, _&&_}
 use Prim.Native.Nat.{ℕ, zero, suc, _+_, _-_, _*_}
 use lib.ListN.{length, getD, take, drop}
 use lib.Dec.{eqb, leb, ltb}
-use Rattle.forest.specs.Forest.{Forest, end, node, Tree, tree, Lookup, absent, present}
-use Rattle.scalar.specs.Value.{Value, value, pick, isValue}
+use Rattle.tree_forest.specs.Forest.{isPresent}
+use Rattle.tree_forest.specs.Forest.{Forest, end, node, Tree, tree, Lookup, absent, present}
+use Rattle.scalar.specs.Value.{Value, value, isValue}
+use Rattle.basics.specs.Choice.{pick}
 use Rattle.scalar.specs.Basic.{void}
-use Rattle.tree.specs.Encode.{messageDeep, messageMany, treeDeep, treeMany}
+use Rattle.tree_forest.specs.Limits.{messageLevelsBelow, messageNodesBelow, sessionLevels, sessionNodes}
 use Rattle.tree.specs.declared.Head.{Head}
 use Rattle.tree.specs.declared.Head.the-variants.{Node, Fault}
 use Rattle.tree.specs.declared.Scan.{Scan}
 use Rattle.tree.specs.declared.Scan.the-variants.{Past, Bad}
 
--- The fields of a node that starts at `at`: "id u16, basic u8, child count u8, length u8, value, then its children".
+-- The fields of a node that starts at `at`: "id u16 .., basic u8, child count u8, length u8, value, then its children".
 abbrev pub idAt : List ℕ → ℕ → ℕ
 idAt s at = getD s at 0 + 256 * getD s (at + 1) 0
 
@@ -51,23 +53,24 @@ abbrev pub test : Bool → Parse → Parse
 test true p = p
 test false p = bad
 
-abbrev pub andThen : Parse → (Forest Value → ℕ → ℕ → Parse) → Parse
-andThen bad k = bad
-andThen (past f e l) k = k f e l
+abbrev pub thenParse : Parse → (Forest Value → ℕ → ℕ → Parse) → Parse
+thenParse bad k = bad
+thenParse (past f e l) k = k f e l
 
 abbrev pub join : ℕ → Value → Forest Value → Parse → Parse
 join i a ks bad = bad
 join i a ks (past rest e l) = past (node i a ks rest) e l
 
 -- n siblings at `at`, with ids above `last` and of at most `left` nodes; `below` reads their children.
-unfoldable pub siblings : List ℕ → (ℕ → ℕ → ℕ → ℕ → Parse) → ℕ → ℕ → ℕ → ℕ → Parse
-siblings s below zero last left at = past end at left
-siblings s below (suc n) last left at =
+unfoldable pub parseSiblings : List ℕ → (ℕ → ℕ → ℕ → ℕ → Parse) → ℕ → ℕ → ℕ → ℕ → Parse
+parseSiblings s below zero last left at = past end at left
+parseSiblings s below (suc n) last left at =
     test (ltb 0 left)
     (test (headOk s at)
     (test (ltb last (idAt s at))
-    (andThen (below (countAt s at) 0 (left - 1) (nextAt s at))
-    (λ ks mid left′. join (idAt s at) (value (basicAt s at) (valueAt s at)) ks (siblings s below n (idAt s at) left′ mid)))))
+    (thenParse (below (countAt s at) 0 (left - 1) (nextAt s at))
+    (λ ks mid left′.
+    join (idAt s at) (value (basicAt s at) (valueAt s at)) ks (parseSiblings s below n (idAt s at) left′ mid)))))
 
 abbrev pub childless : ℕ → ℕ → ℕ → ℕ → Parse
 childless zero last left at = past end at left
@@ -76,7 +79,7 @@ childless (suc n) last left at = bad
 -- n siblings of at most d levels: the limit of levels is the recursion.
 unfoldable pub parse : List ℕ → ℕ → ℕ → ℕ → ℕ → ℕ → Parse
 parse s zero = childless
-parse s (suc d) = siblings s (parse s d)
+parse s (suc d) = parseSiblings s (parse s d)
 
 -- The same without the forest, as the code answers it.
 abbrev pub erase : Parse → Scan
@@ -93,11 +96,8 @@ wholeOf s (past ks e l) = pick (eqb e (length s)) (present (tree (value (basicAt
 
 -- The tree of at most `deep` levels and `many` nodes below its root whose byte form s is, or none.
 unfoldable pub decode : ℕ → ℕ → List ℕ → Lookup Value
-decode deep many s = wholeOf s (test (headOk s 0) (test (eqb (idAt s 0) 0) (parse s deep (countAt s 0) 0 many (nextAt s 0))))
-
-abbrev pub isPresent : {A : Type 0} → Lookup A → Bool
-isPresent absent = false
-isPresent (present t) = true
+decode deep many s =
+    wholeOf s (test (headOk s 0) (test (eqb (idAt s 0) 0) (parse s deep (countAt s 0) 0 many (nextAt s 0))))
 
 -- Are the bytes a tree within the limits?
 abbrev pub isTree : ℕ → ℕ → List ℕ → Bool
@@ -105,10 +105,10 @@ isTree deep many s = isPresent (decode deep many s)
 
 -- The tree whose message the bytes are.
 abbrev pub decodeMessage : List ℕ → Lookup Value
-decodeMessage s = decode messageDeep messageMany s
+decodeMessage s = decode messageLevelsBelow messageNodesBelow s
 
 abbrev pub isMessage : List ℕ → Bool
-isMessage s = isTree messageDeep messageMany s
+isMessage s = isTree messageLevelsBelow messageNodesBelow s
 
 -- 01: "An environment Γ is a tree under an empty root"; so is a session's tree.
 abbrev pub emptyRoot : Lookup Value → Bool
@@ -117,4 +117,4 @@ emptyRoot (present (tree (value b v) ks)) = eqb b void
 
 -- Are the bytes a session's tree: "48 nodes", "6 levels", below an empty root?
 unfoldable pub isSessionTree : List ℕ → Bool
-isSessionTree s = emptyRoot (decode treeDeep treeMany s)
+isSessionTree s = emptyRoot (decode sessionLevels sessionNodes s)

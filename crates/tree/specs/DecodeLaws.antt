@@ -10,16 +10,19 @@ use lib.ListN.{length, getD, take, drop}
 use lib.Seq.{drop-length}
 use lib.Dec.{eqb}
 use borrow.Author.Tests.{eq-eqb, ne-eqb, eqb-true}
-use Rattle.forest.specs.Forest.{Forest, end, node, Tree, tree, nodeOf, Lookup, absent, present, measure, nodes, levels}
-use Rattle.scalar.specs.Value.{Value, value, pick, isValue}
+use Rattle.tree_forest.specs.Forest.{Forest, end, node, Tree, tree, nodeOf, Lookup, absent, present, measure, nodes, levels}
+use Rattle.scalar.specs.Value.{Value, value, isValue}
+use Rattle.basics.specs.Choice.{pick}
 use Rattle.scalar.specs.Basic.{void}
 use Rattle.scalar.specs.ValueLaws.{void-empty}
-use Rattle.tree.specs.Encode.{empty, Message, messageDeep, messageMany, count, payload, children, encode, rooted, Octets, Encodes, WellFormed}
-use Rattle.tree.specs.Encode.{treeDeep, treeMany}
-use Rattle.tree.specs.Decode.{idAt, basicAt, countAt, lenAt, valueAt, nextAt, headOk, Parse, bad, past, test, parse, wholeOf, decode, isPresent}
+use Rattle.tree.specs.Encode.{empty, Message, rootCount, payload, children, encode, rooted, Octets, Encodes, WellFormedTree}
+use Rattle.tree_forest.specs.Limits.{messageLevelsBelow, messageNodesBelow}
+use Rattle.tree_forest.specs.Limits.{sessionLevels, sessionNodes}
+use Rattle.tree.specs.Decode.{idAt, basicAt, countAt, lenAt, valueAt, nextAt, headOk, Parse, bad, past, test, parse, wholeOf, decode}
+use Rattle.tree_forest.specs.Forest.{isPresent}
 use Rattle.tree.specs.Decode.{isTree, isMessage, emptyRoot, isSessionTree}
 use Rattle.tree.specs.Standing.{Good, Root}
-use Rattle.tree.specs.EncodeLaws.{Sized, sized, Fields, fields, encode-node, length-node, node-bytes, proper-at, parse-complete, parse-sound}
+use Rattle.tree.specs.EncodeLaws.{NodeSized, sized, Fields, node-fields, encode-node, length-node, node-bytes, proper-at, parse-complete, parse-sound}
 use Rattle.tree.specs.EncodeLaws.{test-past, good-of, of-good, sound-above}
 use Rattle.tree.specs.StandingLaws.{encodes-root}
 
@@ -37,8 +40,8 @@ pub decode-complete : (deep many : ℕ) (s : List ℕ) (t : Tree Value) → Enco
 unfolding decode encode
 decode-complete deep many s (tree (value b v) ks) m =
     let g = m .good in
-    let e′ : drop 0 s ≡ 0 ∷ 0 ∷ b ∷ count ks ∷ length v ∷ (v ++ (encode ks ++ [])) = m .bytes ∙ sym (append-nil _) ∙ encode-node 0 b v ks end [] in
-    let w = fields s 0 0 b (count ks) v (encode ks ++ []) e′ (g .root .valid) in
+    let e′ : drop 0 s ≡ 0 ∷ 0 ∷ b ∷ rootCount ks ∷ length v ∷ (v ++ (encode ks ++ [])) = m .bytes ∙ sym (append-nil _) ∙ encode-node 0 b v ks end [] in
+    let w = node-fields s 0 0 b (rootCount ks) v (encode ks ++ []) e′ (g .root .valid) in
     let ok = good-of ks deep 0 (sound-above ks (g .sound)) (g .rising) (g .sound) (g .shallow) in
     let p = parse-complete ks s deep 0 many (5 + length v) [] (w .after) ok (g .few) in
     let p′ : parse s deep (countAt s 0) 0 many (nextAt s 0) ≡ past ks (5 + length v + length (encode ks)) (many - nodes ks) = rw (w .count, w .next) p in
@@ -92,7 +95,7 @@ decode-sound deep many s t bs h =
     subst (Encodes deep many s) (sym (w .5)) (encodes-of deep many s bs (w .0) (w .1) (w .2) (a .0) (eqb-true (idAt s 0) 0 (b .0)) (b .1) (w .4))
 
 -- larger limits
-pub well-formed-up : (deep many deep′ many′ : ℕ) (t : Tree Value) → deep ≤ deep′ → many ≤ many′ → WellFormed deep many t → WellFormed deep′ many′ t
+pub well-formed-up : (deep many deep′ many′ : ℕ) (t : Tree Value) → deep ≤ deep′ → many ≤ many′ → WellFormedTree deep many t → WellFormedTree deep′ many′ t
 well-formed-up deep many deep′ many′ t p q w = record {
   root = w .root;
   sound = w .sound;
@@ -109,7 +112,7 @@ pub decode-up : (deep many deep′ many′ : ℕ) (s : List ℕ) (t : Tree Value
 decode-up deep many deep′ many′ s t bs p q e = decode-complete deep′ many′ s t (encodes-up deep many deep′ many′ s t p q (decode-sound deep many s t bs e))
 
 -- the byte form is injective on well-formed trees, whatever their limits
-pub encode-injective : (deep many deep′ many′ : ℕ) (t u : Tree Value) → WellFormed deep many t → WellFormed deep′ many′ u →
+pub encode-injective : (deep many deep′ many′ : ℕ) (t u : Tree Value) → WellFormedTree deep many t → WellFormedTree deep′ many′ u →
     encode (rooted t) ≡ encode (rooted u) → t ≡ u
 encode-injective deep many deep′ many′ t u x y e =
     let d = max deep deep′ in
@@ -119,33 +122,33 @@ encode-injective deep many deep′ many′ t u x y e =
     cc
 
 -- what decodes stands at the start
-pub decoded-root : (s : List ℕ) (t : Tree Value) → Octets s → decode treeDeep treeMany s ≡ present t → Root s 0 0 t
-decoded-root s t bs e = encodes-root treeDeep treeMany s t (omega arith) (omega arith) (decode-sound treeDeep treeMany s t bs e)
+pub decoded-root : (s : List ℕ) (t : Tree Value) → Octets s → decode sessionLevels sessionNodes s ≡ present t → Root s 0 0 t
+decoded-root s t bs e = encodes-root sessionLevels sessionNodes s t (omega arith) (omega arith) (decode-sound sessionLevels sessionNodes s t bs e)
 
 -- bytes are a message exactly if the test says so
 pub message-sound : (s : List ℕ) → Octets s → isMessage s ≡ true → (t : Tree Value) × Message s t
-message-sound s bs e = let w = present-is (decode messageDeep messageMany s) e in (w .0, decode-sound messageDeep messageMany s (w .0) bs (w .1))
+message-sound s bs e = let w = present-is (decode messageLevelsBelow messageNodesBelow s) e in (w .0, decode-sound messageLevelsBelow messageNodesBelow s (w .0) bs (w .1))
 
 pub message-complete : (s : List ℕ) (t : Tree Value) → Message s t → isMessage s ≡ true
-message-complete s t m = ap isPresent (decode-complete messageDeep messageMany s t m)
+message-complete s t m = ap isPresent (decode-complete messageLevelsBelow messageNodesBelow s t m)
 
 -- the tree of a session: below an empty root
-session-by : (s : List ℕ) (l : Lookup Value) → Octets s → decode treeDeep treeMany s ≡ l → emptyRoot l ≡ true →
-    (f : Forest Value) × Encodes treeDeep treeMany s (tree empty f)
+session-by : (s : List ℕ) (l : Lookup Value) → Octets s → decode sessionLevels sessionNodes s ≡ l → emptyRoot l ≡ true →
+    (f : Forest Value) × Encodes sessionLevels sessionNodes s (tree empty f)
 session-by s absent bs d e = absurd (let z : _≡_ {A = ℕ} 0 1 = cc in omega arith)
 session-by s (present (tree (value b v) ks)) bs d e =
-    let w = decode-sound treeDeep treeMany s (tree (value b v) ks) bs d in
+    let w = decode-sound sessionLevels sessionNodes s (tree (value b v) ks) bs d in
     let z = eqb-true b void e in
     let n : v ≡ [] = void-empty v (ap (λ (x : ℕ). isValue x v) (sym z) ∙ w .good .root .valid) in
-    (ks, subst (λ (x : Value). Encodes treeDeep treeMany s (tree x ks)) (rw (z, n) refl) w)
+    (ks, subst (λ (x : Value). Encodes sessionLevels sessionNodes s (tree x ks)) (rw (z, n) refl) w)
 
-pub session-sound : (s : List ℕ) → Octets s → isSessionTree s ≡ true → (f : Forest Value) × Encodes treeDeep treeMany s (tree empty f)
+pub session-sound : (s : List ℕ) → Octets s → isSessionTree s ≡ true → (f : Forest Value) × Encodes sessionLevels sessionNodes s (tree empty f)
 unfolding isSessionTree
-session-sound s bs e = session-by s (decode treeDeep treeMany s) bs refl e
+session-sound s bs e = session-by s (decode sessionLevels sessionNodes s) bs refl e
 
-pub session-complete : (s : List ℕ) (f : Forest Value) → Encodes treeDeep treeMany s (tree empty f) → isSessionTree s ≡ true
+pub session-complete : (s : List ℕ) (f : Forest Value) → Encodes sessionLevels sessionNodes s (tree empty f) → isSessionTree s ≡ true
 unfolding isSessionTree
-session-complete s f w = ap emptyRoot (decode-complete treeDeep treeMany s (tree empty f) w)
+session-complete s f w = ap emptyRoot (decode-complete sessionLevels sessionNodes s (tree empty f) w)
 
 -- 01's limits count the root: "at most 16 nodes, 4 levels" is at most 15 nodes and 3 levels below it
 pub with-root : (t : Tree Value) → (nodes (rooted t) ≡ suc (nodes (children t))) × (levels (rooted t) ≡ suc (levels (children t)))

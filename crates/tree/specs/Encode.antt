@@ -6,15 +6,16 @@ use mathlib.Core.List.{List, [], _∷_, _++_}
 use mathlib.Core.Bool.{true}
 use Prim.Native.Nat.{ℕ, suc, _/_, _%_, _<_, _≤_}
 use lib.ListN.{length, getD}
-use Rattle.forest.specs.Forest.{Forest, end, node, Tree, tree, nodeOf, Rising, nodes, levels}
+use Rattle.tree_forest.specs.Limits.{messageLevelsBelow, messageNodesBelow}
+use Rattle.tree_forest.specs.Forest.{Forest, end, node, Tree, tree, nodeOf, Rising, nodes, levels}
 use Rattle.scalar.specs.Basic.{void}
 use Rattle.scalar.specs.Value.{Value, value, basicOf, bytesOf, isValue}
 
 module _ {A : Type 0} where
   -- How many trees stand side by side: of a node's children, its "child count".
-  unfoldable pub count : Forest A → ℕ
-  count end = 0
-  count (node i a ks rest) = suc (count rest)
+  unfoldable pub rootCount : Forest A → ℕ
+  rootCount end = 0
+  rootCount (node i a ks rest) = suc (rootCount rest)
 
   -- What a tree's root carries, and its children.
   abbrev pub payload : Tree A → A
@@ -23,10 +24,11 @@ module _ {A : Type 0} where
   abbrev pub children : Tree A → Forest A
   children (tree a ks) = ks
 
--- "node = id u16, basic u8, child count u8, length u8, value, then its children"; then its later siblings.
+-- "node = id u16 .., basic u8, child count u8, length u8, value, then its children"; then its later siblings.
 unfoldable pub encode : Forest Value → List ℕ
 encode end = []
-encode (node i (value b v) ks rest) = i % 256 ∷ i / 256 ∷ b ∷ count ks ∷ length v ∷ (v ++ (encode ks ++ encode rest))
+encode (node i (value b v) ks rest) =
+    i % 256 ∷ i / 256 ∷ b ∷ rootCount ks ∷ length v ∷ (v ++ (encode ks ++ encode rest))
 
 -- "(root 0)": a tree alone, its root with the id 0.
 abbrev pub rooted : Tree Value → Forest Value
@@ -42,14 +44,14 @@ pub record Proper (a : Value) : Type 0 where
   pub bytes : Octets (bytesOf a)
 
 -- "id u16 .. not 0", and every value one of its basic type.
-unfoldable pub Sound : Forest Value → Type 0
-Sound end = Unit {0}
-Sound (node i a ks rest) = (0 < i) × (i < 65536) × Proper a × Sound ks × Sound rest
+unfoldable pub SoundValues : Forest Value → Type 0
+SoundValues end = Unit {0}
+SoundValues (node i a ks rest) = (0 < i) × (i < 65536) × Proper a × SoundValues ks × SoundValues rest
 
 -- A tree with at most `deep` levels and `many` nodes below its root.
-pub record WellFormed (deep many : ℕ) (t : Tree Value) : Type 0 where
+pub record WellFormedTree (deep many : ℕ) (t : Tree Value) : Type 0 where
   pub root : Proper (payload t)
-  pub sound : Sound (children t)
+  pub sound : SoundValues (children t)
   pub rising : Rising (children t)
   pub shallow : levels (children t) ≤ deep
   pub few : nodes (children t) ≤ many
@@ -57,25 +59,11 @@ pub record WellFormed (deep many : ℕ) (t : Tree Value) : Type 0 where
 -- The bytes s are those of the tree t, which keeps to the limits, and "nothing after it".
 pub record Encodes (deep many : ℕ) (s : List ℕ) (t : Tree Value) : Type 0 where
   pub bytes : s ≡ encode (rooted t)
-  pub good : WellFormed deep many t
-
--- "at most 16 nodes, 4 levels": one of each is the root.
-abbrev pub messageDeep : ℕ
-messageDeep = 3
-
-abbrev pub messageMany : ℕ
-messageMany = 15
+  pub good : WellFormedTree deep many t
 
 -- 01, Message: the bytes s are a message, that of the tree t.
 abbrev pub Message : List ℕ → Tree Value → Type 0
-Message s t = Encodes messageDeep messageMany s t
-
--- 01, 18: "48 nodes or 6 levels", counted below the root as those of an environment "below its empty root".
-abbrev pub treeDeep : ℕ
-treeDeep = 6
-
-abbrev pub treeMany : ℕ
-treeMany = 48
+Message s t = Encodes messageLevelsBelow messageNodesBelow s t
 
 -- What the root of a session's tree, and of an environment, carries.
 abbrev pub empty : Value

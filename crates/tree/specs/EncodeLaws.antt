@@ -11,11 +11,13 @@ use lib.ListN.{length, getD, take, drop, length-take, length-drop, length-append
 use lib.Seq.{drop-cons, getD-drop, getD-take, drop-drop, take-append-seam, drop-append-seam}
 use lib.Dec.{leb, ltb}
 use borrow.Author.Tests.{le-leb, lt-ltb, ltb-true, leb-true}
-use Rattle.forest.specs.Forest.{Forest, end, node, Above, Rising, measure, nodes, levels}
-use Rattle.scalar.specs.Value.{Value, value, isValue, pick}
+use Rattle.tree_forest.specs.Forest.{Forest, end, node, Above, Rising, measure, nodes, levels}
+use Rattle.scalar.specs.Value.{Value, value, isValue}
+use Rattle.basics.specs.Choice.{pick}
+use Rattle.basics.specs.TestLaws.{and-left, and-right}
 use Rattle.scalar.specs.ValueLaws.{value-basic, value-size, empty-void}
-use Rattle.tree.specs.Encode.{count, encode, Octets, Proper, Sound, empty}
-use Rattle.tree.specs.Decode.{idAt, basicAt, countAt, lenAt, valueAt, nextAt, headOk, headAt, Parse, bad, past, test, andThen, join, siblings}
+use Rattle.tree.specs.Encode.{rootCount, encode, Octets, Proper, SoundValues, empty}
+use Rattle.tree.specs.Decode.{idAt, basicAt, countAt, lenAt, valueAt, nextAt, headOk, headAt, Parse, bad, past, test, thenParse, join, parseSiblings}
 use Rattle.tree.specs.Decode.{parse, erase, scan}
 use Rattle.tree.specs.Standing.{Good}
 use Rattle.tree.specs.declared.Head.{Head}
@@ -36,22 +38,13 @@ octets-part s at n o = record { small = λ k. by k (decLt k n) }
         let h : length (take n (drop at s)) ≤ k = omega (arith, length-take n (drop at s)) in
         rw (List·getD-eq-default (take n (drop at s)) 0 h) (omega arith)
 
--- a conjunction that holds
-pub and-left : (a b : Bool) → (a && b) ≡ true → a ≡ true
-and-left true b e = refl
-and-left false b e = cc
-
-pub and-right : (a b : Bool) → (a && b) ≡ true → b ≡ true
-and-right true b e = e
-and-right false b e = cc
-
 -- a header that is right lies within the bytes
-pub record Sized (s : List ℕ) (at : ℕ) : Type 0 where
+pub record NodeSized (s : List ℕ) (at : ℕ) : Type 0 where
   pub header : at + 5 ≤ length s
   pub value : nextAt s at ≤ length s
   pub valid : isValue (basicAt s at) (valueAt s at) ≡ true
 
-pub sized : (s : List ℕ) (at : ℕ) → headOk s at ≡ true → Sized s at
+pub sized : (s : List ℕ) (at : ℕ) → headOk s at ≡ true → NodeSized s at
 unfolding headOk
 sized s at e =
     let r = and-right (leb (at + 5) (length s)) _ e in
@@ -103,10 +96,10 @@ pub record Fields (s : List ℕ) (at i b c : ℕ) (v t : List ℕ) : Type 0 wher
   pub after : drop (at + 5 + length v) s ≡ t
   pub size : at + 5 + length v ≤ length s
 
-pub fields : (s : List ℕ) (at i b c : ℕ) (v t : List ℕ) → drop at s ≡ i % 256 ∷ i / 256 ∷ b ∷ c ∷ length v ∷ (v ++ t) → isValue b v ≡ true →
+pub node-fields : (s : List ℕ) (at i b c : ℕ) (v t : List ℕ) → drop at s ≡ i % 256 ∷ i / 256 ∷ b ∷ c ∷ length v ∷ (v ++ t) → isValue b v ≡ true →
     Fields s at i b c v t
 unfolding headOk
-fields s at i b c v t e ok =
+node-fields s at i b c v t e ok =
     let l : List ℕ = i % 256 ∷ i / 256 ∷ b ∷ c ∷ length v ∷ (v ++ t) in
     let b0 : getD s (at + 0) 0 ≡ i % 256 = byte-at s l at 0 e in
     let b0′ : getD s at 0 ≡ i % 256 = rw (add-zero at) at b0 in
@@ -134,11 +127,11 @@ fields s at i b c v t e ok =
 parse-node : (s : List ℕ) (d n last left at : ℕ) (ks : Forest Value) (m l : ℕ) → 0 < left → headOk s at ≡ true → last < idAt s at →
     parse s d (countAt s at) 0 (left - 1) (nextAt s at) ≡ past ks m l →
     parse s (suc d) (suc n) last left at ≡ join (idAt s at) (value (basicAt s at) (valueAt s at)) ks (parse s (suc d) n (idAt s at) l m)
-unfolding parse siblings
+unfolding parse parseSiblings
 parse-node s d n last left at ks m l p h k e = rw (lt-ltb 0 left p, h, lt-ltb last (idAt s at) k, e) refl
 
 pub encode-node : (i b : ℕ) (v : List ℕ) (ks rest : Forest Value) (r : List ℕ) →
-    encode (node i (value b v) ks rest) ++ r ≡ i % 256 ∷ i / 256 ∷ b ∷ count ks ∷ length v ∷ (v ++ (encode ks ++ (encode rest ++ r)))
+    encode (node i (value b v) ks rest) ++ r ≡ i % 256 ∷ i / 256 ∷ b ∷ rootCount ks ∷ length v ∷ (v ++ (encode ks ++ (encode rest ++ r)))
 unfolding encode
 encode-node i b v ks rest r = simp append-assoc
 
@@ -153,25 +146,25 @@ pub split-node : (j b : ℕ) (v : List ℕ) (ks rest : Forest Value) (r : List �
 unfolding encode
 split-node j b v ks rest r = simp append-assoc
 
-pub count-nodes : (f : Forest Value) → count f ≤ nodes f
-unfolding count measure
+pub count-nodes : (f : Forest Value) → rootCount f ≤ nodes f
+unfolding rootCount measure
 count-nodes end = omega arith
 count-nodes (node i a ks rest) = omega (arith, count-nodes rest)
 
 -- the forest f, which stands at `at` and keeps to the limits, is parsed there
 abbrev pub Parsed : List ℕ → ℕ → Forest Value → Type 0
 Parsed s d f = (last left at : ℕ) (r : List ℕ) → drop at s ≡ encode f ++ r → Good d last f → nodes f ≤ left →
-    parse s d (count f) last left at ≡ past f (at + length (encode f)) (left - nodes f)
+    parse s d (rootCount f) last left at ≡ past f (at + length (encode f)) (left - nodes f)
 
 same-past : {f g : Forest Value} {e e′ l l′ : ℕ} → f ≡ g → e ≡ e′ → l ≡ l′ → past f e l ≡ past g e′ l′
 same-past p q r = cc
 
 complete-node : (s : List ℕ) (d i b : ℕ) (v : List ℕ) (ks rest : Forest Value) → Parsed s d ks → Parsed s (suc d) rest →
     Parsed s (suc d) (node i (value b v) ks rest)
-unfolding count measure Good
+unfolding rootCount measure Good
 complete-node s d i b v ks rest hk hr last left at r e g z =
-    let w = fields s at i b (count ks) v (encode ks ++ (encode rest ++ r)) (e ∙ encode-node i b v ks rest r) (g .2 .valid) in
-    let k1 : parse s d (count ks) 0 (left - 1) (at + 5 + length v) ≡ past ks (at + 5 + length v + length (encode ks)) (left - 1 - nodes ks) =
+    let w = node-fields s at i b (rootCount ks) v (encode ks ++ (encode rest ++ r)) (e ∙ encode-node i b v ks rest r) (g .2 .valid) in
+    let k1 : parse s d (rootCount ks) 0 (left - 1) (at + 5 + length v) ≡ past ks (at + 5 + length v + length (encode ks)) (left - 1 - nodes ks) =
     hk 0 (left - 1) (at + 5 + length v) (encode rest ++ r) (w .after) (g .3) (omega arith) in
     let k1′ : parse s d (countAt s at) 0 (left - 1) (nextAt s at) ≡ past ks (at + 5 + length v + length (encode ks)) (left - 1 - nodes ks) =
     rw (w .count, w .next) k1 in
@@ -179,12 +172,12 @@ complete-node s d i b v ks rest hk hr last left at r e g z =
     later s (encode ks ++ (encode rest ++ r)) (at + 5 + length v) (length (encode ks)) (w .after) ∙ drop-append-seam (encode ks) (encode rest ++ r) in
     let k2 = hr i (left - 1 - nodes ks) (at + 5 + length v + length (encode ks)) r af (g .4) (omega arith) in
     let ln = length-node i b v ks rest in
-    parse-node s d (count rest) last left at ks (at + 5 + length v + length (encode ks)) (left - 1 - nodes ks) (omega arith) (w .ok) (rw (w .id) (g .0)) k1′
+    parse-node s d (rootCount rest) last left at ks (at + 5 + length v + length (encode ks)) (left - 1 - nodes ks) (omega arith) (w .ok) (rw (w .id) (g .0)) k1′
     ∙ rw (w .id, w .basic, w .value, k2) (same-past refl (omega arith) (omega arith))
 
 -- what stands there is parsed
 pub parse-complete : (f : Forest Value) (s : List ℕ) (d : ℕ) → Parsed s d f
-unfolding parse siblings count measure encode Good
+unfolding parse parseSiblings rootCount measure encode Good
 parse-complete end s zero last left at r e g z = rw (add-zero at, sub-zero left) refl
 parse-complete end s (suc d) last left at r e g z = rw (add-zero at, sub-zero left) refl
 parse-complete (node i (value b v) ks rest) s zero last left at r e g z = absurd g
@@ -192,8 +185,8 @@ parse-complete (node i (value b v) ks rest) s (suc d) last left at r e g z =
     complete-node s d i b v ks rest (parse-complete ks s d) (parse-complete rest s (suc d)) last left at r e g z
 
 -- the forest f stands at `at`, ends at e, and leaves l of `left` nodes
-pub record Stands (s : List ℕ) (d n last left at : ℕ) (f : Forest Value) (e l : ℕ) : Type 0 where
-  pub many : count f ≡ n
+pub record ForestStands (s : List ℕ) (d n last left at : ℕ) (f : Forest Value) (e l : ℕ) : Type 0 where
+  pub many : rootCount f ≡ n
   pub good : Good d last f
   pub bytes : drop at s ≡ encode f ++ drop e s
   pub ends : e ≡ at + length (encode f)
@@ -209,7 +202,7 @@ header s at h =
     e0 ∙ rw (next-byte s at 1 (omega arith), next-byte s at 2 (omega arith), next-byte s at 3 (omega arith), next-byte s at 4 (omega arith)) refl
 
 -- the bytes of a node whose children and later siblings stand where they should
-pub node-bytes : (s : List ℕ) (at m e : ℕ) (ks rest : Forest Value) → Octets s → Sized s at → count ks ≡ countAt s at →
+pub node-bytes : (s : List ℕ) (at m e : ℕ) (ks rest : Forest Value) → Octets s → NodeSized s at → rootCount ks ≡ countAt s at →
     drop (nextAt s at) s ≡ encode ks ++ drop m s → drop m s ≡ encode rest ++ drop e s →
     drop at s ≡ encode (node (idAt s at) (value (basicAt s at) (valueAt s at)) ks rest) ++ drop e s
 node-bytes s at m e ks rest bs h c p q =
@@ -221,7 +214,7 @@ node-bytes s at m e ks rest bs h c p q =
     sym (take-append-drop (lenAt s at) (drop (at + 5) s)) ∙ rw (drop-drop (lenAt s at) (at + 5) s, p, q) refl in
     header s at (h .header) ∙ sym (encode-node (idAt s at) (basicAt s at) (valueAt s at) ks rest (drop e s) ∙ rw (e1, e2, len, c, ← e3) refl)
 
-pub proper-at : (s : List ℕ) (at : ℕ) → Octets s → Sized s at → Proper (value (basicAt s at) (valueAt s at))
+pub proper-at : (s : List ℕ) (at : ℕ) → Octets s → NodeSized s at → Proper (value (basicAt s at) (valueAt s at))
 proper-at s at bs h = record { valid = h .valid; bytes = octets-part s (at + 5) (lenAt s at) bs }
 
 -- how a parse of one more sibling came about
@@ -241,7 +234,7 @@ pub test-past : (t : Bool) (p : Parse) (f : Forest Value) (e l : ℕ) → test t
 test-past true p f e l h = (refl, h)
 test-past false p f e l h = (cc, cc)
 
-then-past : (p : Parse) (k : Forest Value → ℕ → ℕ → Parse) (f : Forest Value) (e l : ℕ) → andThen p k ≡ past f e l →
+then-past : (p : Parse) (k : Forest Value → ℕ → ℕ → Parse) (f : Forest Value) (e l : ℕ) → thenParse p k ≡ past f e l →
     (g : Forest Value) × (m : ℕ) × (l′ : ℕ) × (p ≡ past g m l′) × (k g m l′ ≡ past f e l)
 then-past bad k f e l h = (end, 0, 0, cc, cc)
 then-past (past g m l′) k f e l h = (g, m, l′, refl, h)
@@ -252,7 +245,7 @@ join-past i a ks bad f e l h = (end, cc, cc)
 join-past i a ks (past rest e′ l′) f e l h = (rest, cc, cc)
 
 came : (s : List ℕ) (d n last left at : ℕ) (f : Forest Value) (e l : ℕ) → parse s (suc d) (suc n) last left at ≡ past f e l → Came s d n last left at f e l
-unfolding parse siblings
+unfolding parse parseSiblings
 came s d n last left at f e l h =
     let a = test-past _ _ f e l h in
     let b = test-past _ _ f e l (a .1) in
@@ -273,10 +266,10 @@ came s d n last left at f e l h =
     }
 
 abbrev Truthful : List ℕ → ℕ → ℕ → Type 0
-Truthful s d n = (last left at : ℕ) (f : Forest Value) (e l : ℕ) → parse s d n last left at ≡ past f e l → Stands s d n last left at f e l
+Truthful s d n = (last left at : ℕ) (f : Forest Value) (e l : ℕ) → parse s d n last left at ≡ past f e l → ForestStands s d n last left at f e l
 
-none-stands : (s : List ℕ) (d last left at : ℕ) (f : Forest Value) (e l : ℕ) → past end at left ≡ past f e l → Stands s d 0 last left at f e l
-unfolding count measure encode Good
+none-stands : (s : List ℕ) (d last left at : ℕ) (f : Forest Value) (e l : ℕ) → past end at left ≡ past f e l → ForestStands s d 0 last left at f e l
+unfolding rootCount measure encode Good
 none-stands s d last left at f e l h =
     let p : end ≡ f = cc in
     let q : at ≡ e = cc in
@@ -284,7 +277,7 @@ none-stands s d last left at f e l h =
     rw (← p, ← q, ← r) (record { many = refl; good = tt; bytes = refl; ends = sym (add-zero at); used = omega arith })
 
 node-stands : (s : List ℕ) → Octets s → (d n : ℕ) → ((m : ℕ) → Truthful s d m) → Truthful s (suc d) n → Truthful s (suc d) (suc n)
-unfolding count measure Good
+unfolding rootCount measure Good
 node-stands s bs d n hk hr last left at f e l h =
     let w = came s d n last left at f e l h in
     let k = hk (countAt s at) 0 (left - 1) (nextAt s at) (w .ks) (w .mid) (w .left′) (w .below) in
@@ -301,7 +294,7 @@ node-stands s bs d n hk hr last left at f e l h =
     })
 
 siblings-stand : (s : List ℕ) → Octets s → (d : ℕ) → ((m : ℕ) → Truthful s d m) → (n : ℕ) → Truthful s (suc d) n
-unfolding parse siblings
+unfolding parse parseSiblings
 siblings-stand s bs d hk zero last left at f e l h = none-stands s (suc d) last left at f e l h
 siblings-stand s bs d hk (suc n) last left at f e l h = node-stands s bs d n hk (siblings-stand s bs d hk n) last left at f e l h
 
@@ -333,8 +326,8 @@ unfolding scan
 unscanned s d n last left at h = bad-by (parse s d n last left at) h
 
 -- well-formedness by parts
-pub sound-above : (f : Forest Value) → Sound f → Above 0 f
-unfolding Sound
+pub sound-above : (f : Forest Value) → SoundValues f → Above 0 f
+unfolding SoundValues
 sound-above end h = tt
 sound-above (node i a ks rest) h = h .0
 
@@ -344,8 +337,8 @@ good-above end d last g = tt
 good-above (node i a ks rest) zero last g = absurd g
 good-above (node i a ks rest) (suc d) last g = g .0
 
-pub good-of : (f : Forest Value) (d last : ℕ) → Above last f → Rising f → Sound f → levels f ≤ d → Good d last f
-unfolding Rising Sound measure Good
+pub good-of : (f : Forest Value) (d last : ℕ) → Above last f → Rising f → SoundValues f → levels f ≤ d → Good d last f
+unfolding Rising SoundValues measure Good
 good-of end d last a r o l = tt
 good-of (node i a ks rest) zero last ab r o l = absurd (omega arith)
 good-of (node i a ks rest) (suc d) last ab r o l =
@@ -354,11 +347,11 @@ good-of (node i a ks rest) (suc d) last ab r o l =
 -- what a good forest is
 pub record Fine (d : ℕ) (f : Forest Value) : Type 0 where
   pub rising : Rising f
-  pub sound : Sound f
+  pub sound : SoundValues f
   pub shallow : levels f ≤ d
 
 pub of-good : (f : Forest Value) (d last : ℕ) → Good d last f → Fine d f
-unfolding Rising Sound measure Good
+unfolding Rising SoundValues measure Good
 of-good end d last g = record { rising = tt; sound = tt; shallow = omega arith }
 of-good (node i a ks rest) zero last g = absurd g
 of-good (node i a ks rest) (suc d) last g =
@@ -375,7 +368,7 @@ good-up f d e last l g = let w = of-good f d last g in good-of f e last (good-ab
 
 -- two forests of as many siblings that stand at the same place are equal: the byte form is injective
 pub unique : (s : List ℕ) (at d e a b : ℕ) (f g : Forest Value) (r r′ : List ℕ) → drop at s ≡ encode f ++ r → drop at s ≡ encode g ++ r′ →
-    Good d a f → Good e b g → count f ≡ count g → f ≡ g
+    Good d a f → Good e b g → rootCount f ≡ rootCount g → f ≡ g
 unique s at d e a b f g r r′ p q x y c =
     let h = max d e in
     let z = max (nodes f) (nodes g) in
@@ -383,7 +376,7 @@ unique s at d e a b f g r r′ p q x y c =
     let y′ = of-good g e b y in
     let u = parse-complete f s h 0 z at r p (good-of f h 0 (sound-above f (x′ .sound)) (x′ .rising) (x′ .sound) (omega (arith, x′ .shallow))) (omega arith) in
     let v = parse-complete g s h 0 z at r′ q (good-of g h 0 (sound-above g (y′ .sound)) (y′ .rising) (y′ .sound) (omega (arith, y′ .shallow))) (omega arith) in
-    let v′ : parse s h (count f) 0 z at ≡ past g (at + length (encode g)) (z - nodes g) = rw c v in
+    let v′ : parse s h (rootCount f) 0 z at ≡ past g (at + length (encode g)) (z - nodes g) = rw c v in
     cc
 
 -- the byte form is bytes
@@ -405,14 +398,14 @@ octets-append (a ∷ l) r p q = octets-cons a (l ++ r) (p .small 0) (octets-appe
 value-small : (b : ℕ) (v : List ℕ) → isValue b v ≡ true → (b < 256) × (length v < 256)
 value-small b v e = (omega (arith, value-basic b v e), omega (arith, value-size b v e))
 
-pub encode-octets : (f : Forest Value) → Sound f → nodes f < 256 → Octets (encode f)
-unfolding encode Sound measure
+pub encode-octets : (f : Forest Value) → SoundValues f → nodes f < 256 → Octets (encode f)
+unfolding encode SoundValues measure
 encode-octets end h n = octets-nil
 encode-octets (node i (value b v) ks rest) h n =
     let k = encode-octets ks (h .3) (omega arith) in
     let r = encode-octets rest (h .4) (omega arith) in
     let s = value-small b v (h .2 .valid) in
-    let c : count ks < 256 = omega (arith, count-nodes ks) in
+    let c : rootCount ks < 256 = omega (arith, count-nodes ks) in
     octets-cons _ _ (omega arith) (octets-cons _ _ (omega (arith, h .1)) (octets-cons _ _ (s .0) (octets-cons _ _ c (octets-cons _ _ (s .1)
     (octets-append v (encode ks ++ encode rest) (h .2 .bytes) (octets-append (encode ks) (encode rest) k r))))))
 

@@ -4,8 +4,8 @@ use mathlib.Core.Bool.{Bool, true, false, _&&_}
 use Prim.Native.Nat.{ℕ, _<_}
 use lib.ListN.{getD}
 use lib.Dec.{eqb}
-use Rattle.forest.specs.Path.{Path, path}
-use Rattle.scalar.specs.Value.{pick}
+use Rattle.tree_forest.specs.Path.{Path, path}
+use Rattle.basics.specs.Choice.{pick}
 
 -- The ids up to the first 0.
 unfoldable pub steps : List ℕ → List ℕ
@@ -13,19 +13,19 @@ steps [] = []
 steps (i ∷ is) = pick (eqb i 0) [] (i ∷ steps is)
 
 -- The path that ids stand for. (Without ids it would be that of the id 0, which no node has.)
-unfoldable pub pathOf : List ℕ → Path
-pathOf [] = path 0 []
-pathOf (i ∷ is) = path i (steps is)
+unfoldable pub pathFromIds : List ℕ → Path
+pathFromIds [] = path 0 []
+pathFromIds (i ∷ is) = path i (steps is)
 
 -- Only 0.
-unfoldable pub zeros : List ℕ → Bool
-zeros [] = true
-zeros (i ∷ is) = eqb i 0 && zeros is
+unfoldable pub allZeros : List ℕ → Bool
+allZeros [] = true
+allZeros (i ∷ is) = eqb i 0 && allZeros is
 
 -- "after a 0 only 0".
 unfoldable pub endsInZeros : List ℕ → Bool
 endsInZeros [] = true
-endsInZeros (i ∷ is) = pick (eqb i 0) (zeros is) (endsInZeros is)
+endsInZeros (i ∷ is) = pick (eqb i 0) (allZeros is) (endsInZeros is)
 
 -- "the first is not 0; after a 0 only 0".
 unfoldable pub isPath : List ℕ → Bool

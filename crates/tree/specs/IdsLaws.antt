@@ -10,12 +10,12 @@ use lib.ListN.{length, getD, drop, drop-of-length-le, List·getD-eq-default}
 use lib.Seq.{drop-cons, getD-drop}
 use lib.Dec.{eqb}
 use borrow.Author.Tests.{eq-eqb, ne-eqb, eqb-false}
-use Rattle.forest.specs.Path.{Path, path}
-use Rattle.scalar.specs.Value.{pick}
-use Rattle.tree.specs.Ids.{steps, pathOf, isPath, endsInZeros, isNone, Words}
+use Rattle.tree_forest.specs.Path.{Path, path}
+use Rattle.basics.specs.Choice.{pick}
+use Rattle.tree.specs.Ids.{steps, pathFromIds, isPath, endsInZeros, isNone, Words}
 
-pub path-at : (ids : List ℕ) → length ids ≡ 4 → pathOf ids ≡ path (getD ids 0 0) (steps (drop 1 ids))
-unfolding pathOf
+pub path-at : (ids : List ℕ) → length ids ≡ 4 → pathFromIds ids ≡ path (getD ids 0 0) (steps (drop 1 ids))
+unfolding pathFromIds
 path-at [] h = absurd (omega arith)
 path-at (i ∷ is) h = refl
 

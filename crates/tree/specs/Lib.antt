@@ -2,7 +2,6 @@ pub mod Encode
 pub mod Decode
 pub mod Ids
 pub mod IdsLaws
-pub mod Part
 pub mod Standing
 pub mod EncodeLaws
 pub mod StandingLaws

@@ -6,16 +6,17 @@ use mathlib.Core.Bool.{Bool, true, _&&_}
 use Prim.Native.Nat.{ℕ, zero, suc, _+_, _<_, _≤_}
 use lib.ListN.{length, getD, drop}
 use lib.Dec.{leb}
-use Rattle.forest.specs.Forest.{Forest, end, node, Tree, nodeOf, Lookup, absent, present, find, Rising, nodes, levels}
-use Rattle.forest.specs.Path.{read}
+use Rattle.tree_forest.specs.Forest.{Forest, end, node, Tree, nodeOf, Lookup, absent, present, find, Rising, nodes, levels}
+use Rattle.tree_forest.specs.Path.{read}
 use Rattle.scalar.specs.Value.{Value}
-use Rattle.tree.specs.Encode.{count, payload, children, encode, rooted, Proper, Sound, treeDeep, treeMany}
-use Rattle.tree.specs.Ids.{isPath, pathOf, lastId}
+use Rattle.tree.specs.Encode.{rootCount, payload, children, encode, rooted, Proper, SoundValues}
+use Rattle.tree_forest.specs.Limits.{sessionLevels, sessionNodes}
+use Rattle.tree.specs.Ids.{isPath, pathFromIds, lastId}
 use Rattle.tree.specs.declared.Found.{Found}
 use Rattle.tree.specs.declared.Found.the-variants.{At, Nothing}
 
 -- At most d levels; ids rise strictly, are above `last` and fit u16; every value is one of its basic type. EncodeLaws (`good-of`, `of-good`)
--- prove that this is `Sound`, `Rising` and at most d levels.
+-- prove that this is `SoundValues`, `Rising` and at most d levels.
 unfoldable pub Good : ℕ → ℕ → Forest Value → Type 0
 Good d last end = Unit {0}
 Good zero last (node i a ks rest) = ⊥
@@ -26,16 +27,16 @@ pub record Row (s : List ℕ) (at : ℕ) (f : Forest Value) : Type 0 where
   pub after : List ℕ
   pub last : ℕ
   pub bytes : drop at s ≡ encode f ++ after
-  pub good : Good treeDeep last f
-  pub small : nodes f ≤ treeMany
+  pub good : Good sessionLevels last f
+  pub small : nodes f ≤ sessionNodes
 
 -- The tree t stands at `at` under the id i.
 pub record Root (s : List ℕ) (at i : ℕ) (t : Tree Value) : Type 0 where
   pub after : List ℕ
   pub bytes : drop at s ≡ encode (nodeOf i t end) ++ after
   pub proper : Proper (payload t)
-  pub good : Good treeDeep 0 (children t)
-  pub small : nodes (children t) ≤ treeMany
+  pub good : Good sessionLevels 0 (children t)
+  pub small : nodes (children t) ≤ sessionNodes
 
 -- What was looked up stands at p under the id i.
 pub record Stood (s : List ℕ) (p i : ℕ) (l : Lookup Value) : Type 0 where
@@ -54,7 +55,7 @@ pub record Ended (s : List ℕ) (at e : ℕ) : Type 0 where
 
 -- r says where the sibling with the id stands among the n siblings at `at`, if siblings stand there.
 pub record Sought (s : List ℕ) (at n id : ℕ) (r : Found) : Type 0 where
-  pub tells : (f : Forest Value) → Row s at f → count f ≡ n → Spot s id r (find id f)
+  pub tells : (f : Forest Value) → Row s at f → rootCount f ≡ n → Spot s id r (find id f)
 
 -- r says where the child with the id stands below the tree at `at`, if one stands there.
 pub record Below (s : List ℕ) (at id : ℕ) (r : Found) : Type 0 where
@@ -62,9 +63,9 @@ pub record Below (s : List ℕ) (at id : ℕ) (r : Found) : Type 0 where
 
 -- r says where the path leads from the tree at the start, if one stands there.
 pub record Followed (s ids : List ℕ) (r : Found) : Type 0 where
-  pub tells : (i : ℕ) (t : Tree Value) → Root s 0 i t → isPath ids ≡ true → Spot s (lastId (pathOf ids)) r (read (pathOf ids) (children t))
+  pub tells : (i : ℕ) (t : Tree Value) → Root s 0 i t → isPath ids ≡ true → Spot s (lastId (pathFromIds ids)) r (read (pathFromIds ids) (children t))
 
 -- b says whether the tree at the start of s, if a sound one stands there, keeps to the limits.
 pub record Within (deep many : ℕ) (s : List ℕ) (b : Bool) : Type 0 where
-  pub tells : (t : Tree Value) (after : List ℕ) → s ≡ encode (rooted t) ++ after → Proper (payload t) → Sound (children t) → Rising (children t) →
+  pub tells : (t : Tree Value) (after : List ℕ) → s ≡ encode (rooted t) ++ after → Proper (payload t) → SoundValues (children t) → Rising (children t) →
       b ≡ (leb (levels (children t)) deep && leb (nodes (children t)) many)

@@ -1,11 +1,10 @@
-// Trees in bytes: messages, session trees and environments; validity, walking, and the message reader.
+// Trees in bytes: messages, session trees and environments; validity and walking.
 ghost use mathlib.Core.Path.{_≡_};
-ghost use Prim.Native.Nat.{ℕ, _+_, _-_, _*_, _≤_, _<_};
-ghost use lib.ListN.{length, take, drop, getD};
+ghost use Prim.Native.Nat.{_+_, _<_};
+ghost use lib.ListN.{drop, getD};
 ghost use Rattle.tree.specs.Encode.{Octets};
 ghost use Rattle.tree.specs.Decode.{headAt, scan, isTree, isMessage, isSessionTree, valueAt};
 ghost use Rattle.tree.specs.Ids.{isPath, steps, isNone, Words};
-ghost use Rattle.tree.specs.Part.{partOf};
 ghost use Rattle.tree.specs.Standing.{Ended, Sought, Below, Followed, Within};
 
 // What reading siblings finds: the position past them and the nodes still allowed, or a fault.
@@ -264,23 +263,4 @@ pub fn words(ids: [u16; 4])
     let _b = wire::index(ids[1]);
     let _c = wire::index(ids[2]);
     let _d = wire::index(ids[3]);
-}
-
-// The message reader: the encoding of the child at the path, as that part of the message; the empty part where the child is
-// missing or the path or the message is malformed.
-pub fn part(message: &[u8], ids: [u16; 4]) -> &[u8]
-    ensures { λ r. ⌜ now r ≡ partOf (now (message .entry)) ids ⌝ }
-{
-    if !path_ok(ids) {
-        return &message[0..0];
-    }
-    if !is_message(message) {
-        return &message[0..0];
-    }
-    octets(message);
-    let Found::At(at) = follow(message, ids) else {
-        return &message[0..0];
-    };
-    let end = extent(message, at);
-    &message[at..end]
 }

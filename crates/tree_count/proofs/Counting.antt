@@ -5,9 +5,10 @@ use Prim.Native.Nat.{ℕ, _+_, _-_, _≤_, _<_}
 use native.Mathlib.Omega.{arith}
 use native.Mathlib.Decide.{decLt}
 use lib.ListN.{length, drop}
-use Rattle.forest.specs.Forest.{Forest, end, Tree, tree, nodes, levels}
+use Rattle.tree_forest.specs.Forest.{Forest, end, Tree, tree, nodes, levels}
 use Rattle.scalar.specs.Value.{Value, value}
-use Rattle.tree.specs.Encode.{children, encode, Octets, treeDeep, treeMany}
+use Rattle.tree.specs.Encode.{children, encode, Octets}
+use Rattle.tree_forest.specs.Limits.{sessionLevels, sessionNodes}
 use Rattle.tree.specs.Decode.{idAt, basicAt, valueAt, headAt, scan}
 use Rattle.tree.specs.Standing.{Root}
 use Rattle.tree.specs.EncodeLaws.{sized, got, node-bytes, proper-at, parse-complete, parse-sound, scanned}
@@ -21,12 +22,12 @@ use Rattle.tree_count.specs.Counted.{NodesBelow, LevelsBelow}
 
 -- a tree stands where a header was read and siblings were scanned
 module _ (s : List ℕ) (h : Head) (p : h ≡ headAt s 0) (i b c m : ℕ) (q : h ≡ Node i b c m) where
-  stands : (d e l : ℕ) → Octets s → d ≤ treeDeep → scan s d c 0 treeMany m ≡ Past e l → (t : Tree Value) × Root s 0 (idAt s 0) t
+  stands : (d e l : ℕ) → Octets s → d ≤ sessionLevels → scan s d c 0 sessionNodes m ≡ Past e l → (t : Tree Value) × Root s 0 (idAt s 0) t
   unfolding encode
   stands d e l bs dl z =
       let g = got p q in
-      let k = scanned s d c 0 treeMany m e l z in
-      let st = parse-sound s bs d c 0 treeMany m (k .0) e l (k .1) in
+      let k = scanned s d c 0 sessionNodes m e l z in
+      let st = parse-sound s bs d c 0 sessionNodes m (k .0) e l (k .1) in
       let hd = sized s 0 (g .ok) in
       let by = subst (λ (n : ℕ). drop n s ≡ encode (k .0) ++ drop e s) (g .next) (st .bytes) in (
         tree (value (basicAt s 0) (valueAt s 0)) (k .0),
@@ -34,32 +35,32 @@ module _ (s : List ℕ) (h : Head) (p : h ≡ headAt s 0) (i b c m : ℕ) (q : h
           after = drop e s;
           bytes = node-bytes s 0 e e (k .0) end bs hd (st .many ∙ g .count) by refl;
           proper = proper-at s 0 bs hd;
-          good = good-up (k .0) d treeDeep 0 dl (st .good);
+          good = good-up (k .0) d sessionLevels 0 dl (st .good);
           small = omega (arith, st .used);
         },
       )
 
   -- a limit of levels that is passed is kept to
-  shallow : (d e l x n : ℕ) (v : List ℕ) (ks : Forest Value) → Octets s → scan s d c 0 treeMany m ≡ Past e l →
+  shallow : (d e l x n : ℕ) (v : List ℕ) (ks : Forest Value) → Octets s → scan s d c 0 sessionNodes m ≡ Past e l →
       Root s 0 x (tree (value n v) ks) → levels ks ≤ d
   shallow d e l x n v ks bs z r =
       let u = root-seen s 0 x n v ks r h i b c m p q in
-      let k = scanned s d c 0 treeMany m e l z in
-      let st = parse-sound s bs d c 0 treeMany m (k .0) e l (k .1) in
+      let k = scanned s d c 0 sessionNodes m e l z in
+      let st = parse-sound s bs d c 0 sessionNodes m (k .0) e l (k .1) in
       let by = subst (λ (a : ℕ). drop a s ≡ encode (k .0) ++ drop e s) (u .next) (st .bytes) in
-      let same = unique s (5 + length v) treeDeep d 0 0 ks (k .0) (r .after) (drop e s) (root-fields s 0 x n v ks r .after) by (r .good) (st .good)
+      let same = unique s (5 + length v) sessionLevels d 0 0 ks (k .0) (r .after) (drop e s) (root-fields s 0 x n v ks r .after) by (r .good) (st .good)
       (sym (st .many ∙ u .count)) in
       rw same (of-good (k .0) d 0 (st .good) .shallow)
 
   -- a limit of levels that is kept to is passed
   passes : (d x n : ℕ) (v : List ℕ) (ks : Forest Value) → Root s 0 x (tree (value n v) ks) → levels ks ≤ d →
-      scan s d c 0 treeMany m ≡ Past (5 + length v + length (encode ks)) (treeMany - nodes ks)
+      scan s d c 0 sessionNodes m ≡ Past (5 + length v + length (encode ks)) (sessionNodes - nodes ks)
   unfolding scan
   passes d x n v ks r l =
       let u = root-seen s 0 x n v ks r h i b c m p q in
-      let o = of-good ks treeDeep 0 (r .good) in
+      let o = of-good ks sessionLevels 0 (r .good) in
       let g = good-of ks d 0 (sound-above ks (o .sound)) (o .rising) (o .sound) l in
-      let k = parse-complete ks s d 0 treeMany (5 + length v) (r .after) (root-fields s 0 x n v ks r .after) g (r .small) in
+      let k = parse-complete ks s d 0 sessionNodes (5 + length v) (r .after) (root-fields s 0 x n v ks r .after) g (r .small) in
       rw (u .count, u .next, k) refl
 
 -- nodes

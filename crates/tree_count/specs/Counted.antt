@@ -3,7 +3,7 @@
 use mathlib.Core.Path.{_≡_}
 use mathlib.Core.List.{List}
 use Prim.Native.Nat.{ℕ}
-use Rattle.forest.specs.Forest.{Tree, nodes, levels}
+use Rattle.tree_forest.specs.Forest.{Tree, nodes, levels}
 use Rattle.scalar.specs.Value.{Value}
 use Rattle.tree.specs.Encode.{children}
 use Rattle.tree.specs.Standing.{Root}

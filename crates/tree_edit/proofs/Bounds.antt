@@ -6,15 +6,16 @@ use Prim.Native.Nat.{ℕ, zero, suc, _+_, _-_, _*_, _/_, _%_, _≤_, _<_}
 use native.Mathlib.Omega.{arith}
 use lib.ListN.{length, getD, take, drop, length-append, length-drop}
 use lib.Seq.{getD-at, drop-at, drop-append-seam}
-use Rattle.forest.specs.Compare.{Compare, lt, eq, gt, compare}
-use Rattle.forest.specs.Forest.{Forest, end, node, Tree, tree, Lookup, absent, present, measure, nodes}
-use Rattle.forest.specs.Path.{Path, path, read, write}
+use Rattle.tree_forest.specs.Compare.{Compare, lt, eq, gt, compare}
+use Rattle.tree_forest.specs.Forest.{Forest, end, node, Tree, tree, Lookup, absent, present, measure, nodes}
+use Rattle.tree_forest.specs.Path.{Path, path, read, write}
 use Rattle.scalar.specs.Value.{Value, value}
-use Rattle.tree.specs.Encode.{count, encode, rooted, Octets, Encodes, WellFormed, treeDeep, treeMany}
+use Rattle.tree.specs.Encode.{rootCount, encode, rooted, Octets, Encodes, WellFormedTree}
+use Rattle.tree_forest.specs.Limits.{sessionLevels, sessionNodes}
 use Rattle.tree.specs.EncodeLaws.{encode-node, length-node, split-node, count-nodes, later}
 use Rattle.tree.specs.Decode.{headAt, decode, isTree}
 use Rattle.tree.specs.DecodeLaws.{present-is, decode-sound, decoded-root}
-use Rattle.tree.specs.Ids.{steps, pathOf}
+use Rattle.tree.specs.Ids.{steps, pathFromIds}
 use Rattle.tree.specs.IdsLaws.{path-at, steps-length}
 use Rattle.tree.specs.Standing.{Row, Root}
 use Rattle.tree.specs.StandingLaws.{root-seen, root-unseen, root-kids}
@@ -38,7 +39,7 @@ module _ (s : List ℕ) where
   -- the bytes of a node, its header's count, and what follows its children
   module _ (j c : ℕ) (w : List ℕ) (ls rest : Forest Value) (at : ℕ) (pre post : List ℕ) (e : s ≡ pre ++ (encode (node j (value c w) ls rest) ++ post)) (h : length pre ≡ at) where
     hd : List ℕ
-    hd = j % 256 ∷ j / 256 ∷ c ∷ count ls ∷ length w ∷ w
+    hd = j % 256 ∷ j / 256 ∷ c ∷ rootCount ls ∷ length w ∷ w
 
     below : s ≡ (pre ++ hd) ++ (encode ls ++ (encode rest ++ post))
     unfolding hd
@@ -46,14 +47,14 @@ module _ (s : List ℕ) where
 
     below-length : length (pre ++ hd) ≡ at + 5 + length w
     unfolding hd
-    below-length = length-append pre (j % 256 ∷ j / 256 ∷ c ∷ count ls ∷ length w ∷ w) ∙ omega arith
+    below-length = length-append pre (j % 256 ∷ j / 256 ∷ c ∷ rootCount ls ∷ length w ∷ w) ∙ omega arith
 
-    count-byte : getD s (at + 3) 0 ≡ count ls
+    count-byte : getD s (at + 3) 0 ≡ rootCount ls
     unfolding hd
     count-byte =
         let p3 : length (pre ++ (j % 256 ∷ j / 256 ∷ c ∷ [])) ≡ at + 3 = length-append pre (j % 256 ∷ j / 256 ∷ c ∷ []) ∙ ap (λ (x : ℕ). x + 3) h in
-        let e2 : s ≡ (pre ++ (j % 256 ∷ j / 256 ∷ c ∷ [])) ++ (count ls ∷ (length w ∷ (w ++ (encode ls ++ (encode rest ++ post))))) = below ∙ simp append-assoc in
-        ap (λ (l : List ℕ). getD l (at + 3) 0) e2 ∙ getD-at (pre ++ (j % 256 ∷ j / 256 ∷ c ∷ [])) (count ls) (length w ∷ (w ++ (encode ls ++ (encode rest ++ post)))) 0 (at + 3) p3
+        let e2 : s ≡ (pre ++ (j % 256 ∷ j / 256 ∷ c ∷ [])) ++ (rootCount ls ∷ (length w ∷ (w ++ (encode ls ++ (encode rest ++ post))))) = below ∙ simp append-assoc in
+        ap (λ (l : List ℕ). getD l (at + 3) 0) e2 ∙ getD-at (pre ++ (j % 256 ∷ j / 256 ∷ c ∷ [])) (rootCount ls) (length w ∷ (w ++ (encode ls ++ (encode rest ++ post)))) 0 (at + 3) p3
 
     children-at : drop (at + 5 + length w) s ≡ encode ls ++ (encode rest ++ post)
     children-at = ap (drop (at + 5 + length w)) below ∙ drop-at (pre ++ hd) (encode ls ++ (encode rest ++ post)) (at + 5 + length w) below-length
@@ -101,7 +102,7 @@ module _ (s : List ℕ) where
   plan-inside (node j (value c w) ls rest) i is k up at pre post e h u g z d = node-safe j c w ls rest (plan-inside ls) (plan-inside rest) i is (compare i j) k up at pre post e h u g z d
 
 -- the plan of a whole tree
-planned : (s ids : List ℕ) (c : ℕ) (w : List ℕ) (f : Forest Value) (r : Plan) → length ids ≡ 4 → decode treeDeep treeMany s ≡ present (tree (value c w) f) → s ≡ encode (node 0 (value c w) f end) →
+planned : (s ids : List ℕ) (c : ℕ) (w : List ℕ) (f : Forest Value) (r : Plan) → length ids ≡ 4 → decode sessionLevels sessionNodes s ≡ present (tree (value c w) f) → s ≡ encode (node 0 (value c w) f end) →
     nodes f ≤ 48 → r ≡ planOf 0 (getD ids 0 0) (steps (drop 1 ids)) f 0 (5 + length w) → Planned s ids r
 planned s ids c w f r four dec es small led =
     let p = path-at ids four in
@@ -109,7 +110,7 @@ planned s ids c w f r four dec es small led =
     let ld = length-drop 1 ids in
     let cs = count-nodes f in
     let e1 : s ≡ front c w f ++ (encode f ++ []) = es ∙ front-encode c w f in
-    let b3 : getD s 3 0 ≡ count f = ap (λ (l : List ℕ). getD l 3 0) e1 in
+    let b3 : getD s 3 0 ≡ rootCount f = ap (λ (l : List ℕ). getD l 3 0) e1 in
     let ins = plan-inside s f (getD ids 0 0) (steps (drop 1 ids)) 0 0 (5 + length w) (front c w f) [] e1 (omega arith) (omega arith) (omega (arith, b3, cs)) (omega arith) (omega arith) in
     record {
       root = value c w;
@@ -119,10 +120,10 @@ planned s ids c w f r four dec es small led =
       right = λ missing g. rw (p, led) (edit-root missing g ids s c w f es);
     }
 
-routed : (s ids : List ℕ) (t : Tree Value) → Octets s → decode treeDeep treeMany s ≡ present t → length ids ≡ 4 → (h : Head) (i b c m : ℕ) (r : Plan) → h ≡ headAt s 0 → h ≡ Node i b c m →
+routed : (s ids : List ℕ) (t : Tree Value) → Octets s → decode sessionLevels sessionNodes s ≡ present t → length ids ≡ 4 → (h : Head) (i b c m : ℕ) (r : Plan) → h ≡ headAt s 0 → h ≡ Node i b c m →
     Led s 0 (getD ids 0 0) (steps (drop 1 ids)) 0 m c r → Planned s ids r
 routed s ids (tree (value d w) f) bs dec four h i b c m r p q ld =
-    let x = decode-sound treeDeep treeMany s (tree (value d w) f) bs dec in
+    let x = decode-sound sessionLevels sessionNodes s (tree (value d w) f) bs dec in
     let root = decoded-root s (tree (value d w) f) bs dec in
     let u = root-seen s 0 0 d w f root h i b c m p q in
     let rows = root-kids s 0 0 d w f root in

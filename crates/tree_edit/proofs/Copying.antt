@@ -9,15 +9,15 @@ use native.Mathlib.Omega.{arith}
 use borrow.Rule.Slice.PartMut.{putMid}
 use lib.ListN.{length, getD, take, drop, set, replicate, length-set, length-take, length-drop, length-append, length-replicate, List·getD-append, getD-replicate}
 use lib.Seq.{take-suc, take-suc-set, getD-drop, getD-take, getD-append-add, take-all, drop-set-lt, drop-drop, length-take-le, drop-cons}
-use Rattle.forest.specs.Forest.{end, tree}
+use Rattle.tree_forest.specs.Forest.{end, tree}
 use Rattle.scalar.specs.Value.{Value, value, basicOf, bytesOf}
-use Rattle.tree.specs.Encode.{encode, rooted, count}
+use Rattle.tree.specs.Encode.{encode, rooted, rootCount}
 use Rattle.tree.specs.EncodeLaws.{part-length}
 use Rattle.tree.specs.Ids.{steps, isNone}
 use Rattle.tree.specs.IdsLaws.{none-is, steps-next}
-use Rattle.tree_edit.specs.Wrote.{Wrote, padded, stored}
+use Rattle.tree_edit.specs.Wrote.{Wrote, paddedWith, stored}
 use Rattle.tree_edit.specs.WroteLaws.{wrote-more, wrote-as, wrote-all-of, wrote-over}
-use Rattle.tree_edit.specs.Change.{missingStep}
+use Rattle.tree_edit.specs.Change.{missingValue}
 use Rattle.tree_edit.specs.Plan.{prefix}
 
 -- k bytes of s from a on were copied to o from w on
@@ -76,7 +76,7 @@ pub insert-wrote : {o₀ o₁ o₂ o₃ o₄ : List ℕ} {a b c r n₁ n₂ n₃
 insert-wrote {n₃ = n₃} {n₄ = n₄} {l = l} s m p i x w h y z u h₃ h₄ =
     wrote-all-of (rw (rest-all m 2 n₃ h₃, rest-all s p n₄ h₄) (simp append-assoc)) (wrote-more (wrote-more (wrote-more (wrote-over w i x h) y) z) u)
 
-pub missing-short : (ty : Bool) → length (bytesOf (missingStep ty)) ≤ 2
+pub missing-short : (ty : Bool) → length (bytesOf (missingValue ty)) ≤ 2
 missing-short true = omega arith
 missing-short false = omega arith
 
@@ -90,51 +90,51 @@ prefix-more (value b v) i j js = refl
 
 -- the writes of `push_steps`
 module _ {o o₁ : List ℕ} {w a : ℕ} (ty : Bool) (i : ℕ) (is : List ℕ) (k : ℕ) (h : k < 4) (x : Wrote o o₁ w a 2 (i % 256 ∷ i / 256 ∷ [])) where
-  pub push-last : isNone is ≡ true → (a ≤ w + 7 * (4 - k)) × Wrote o o₁ w a (a - w) (prefix (missingStep ty) i is)
-  push-last e = (omega (arith, x .next), rw (none-is is e) (wrote-as (prefix-last (missingStep ty) i) (omega (arith, x .next)) x))
+  pub push-last : isNone is ≡ true → (a ≤ w + 7 * (4 - k)) × Wrote o o₁ w a (a - w) (prefix (missingValue ty) i is)
+  push-last e = (omega (arith, x .next), rw (none-is is e) (wrote-as (prefix-last (missingValue ty) i) (omega (arith, x .next)) x))
 
   pub push-next : {o₂ o₃ : List ℕ} {b r : ℕ} (y : ℕ) (ys : List ℕ) →
-      Wrote o₁ o₂ a b (3 + length (bytesOf (missingStep ty))) (basicOf (missingStep ty) ∷ 1 ∷ length (bytesOf (missingStep ty)) ∷ bytesOf (missingStep ty)) →
-      (r ≤ b + 7 * (4 - (k + 1))) × Wrote o₂ o₃ b r (r - b) (prefix (missingStep ty) y ys) → k + 1 < 4 → is ≡ y ∷ ys → (r ≤ w + 7 * (4 - k)) × Wrote o o₃ w r (r - w) (prefix (missingStep ty) i is)
+      Wrote o₁ o₂ a b (3 + length (bytesOf (missingValue ty))) (basicOf (missingValue ty) ∷ 1 ∷ length (bytesOf (missingValue ty)) ∷ bytesOf (missingValue ty)) →
+      (r ≤ b + 7 * (4 - (k + 1))) × Wrote o₂ o₃ b r (r - b) (prefix (missingValue ty) y ys) → k + 1 < 4 → is ≡ y ∷ ys → (r ≤ w + 7 * (4 - k)) × Wrote o o₃ w r (r - w) (prefix (missingValue ty) i is)
   push-next y ys p z l e = (
     omega (arith, x .next, p .next, z .0, missing-short ty),
     rw e (wrote-as
-        (append-assoc (i % 256 ∷ i / 256 ∷ []) (basicOf (missingStep ty) ∷ 1 ∷ length (bytesOf (missingStep ty)) ∷ bytesOf (missingStep ty)) (prefix (missingStep ty) y ys)
-        ∙ prefix-more (missingStep ty) i y ys)
+        (append-assoc (i % 256 ∷ i / 256 ∷ []) (basicOf (missingValue ty) ∷ 1 ∷ length (bytesOf (missingValue ty)) ∷ bytesOf (missingValue ty)) (prefix (missingValue ty) y ys)
+        ∙ prefix-more (missingValue ty) i y ys)
         (omega (arith, x .next, p .next, z .1 .next)) (wrote-more (wrote-more x p) (z .1))),
   )
 
 -- the writes of `push_missing`
 pub missing-typed : {o o₁ o₂ o₃ o₄ o₅ : List ℕ} {w a b c d e : ℕ} (ty : Bool) → ty ≡ true → Wrote o o₁ w a 1 (5 ∷ []) → Wrote o₁ o₂ a b 1 (1 ∷ []) → Wrote o₂ o₃ b c 1 (2 ∷ []) → Wrote o₃ o₄ c d 1 (1 ∷ []) →
-    Wrote o₄ o₅ d e 1 (6 ∷ []) → Wrote o o₅ w e (3 + length (bytesOf (missingStep ty))) (basicOf (missingStep ty) ∷ 1 ∷ length (bytesOf (missingStep ty)) ∷ bytesOf (missingStep ty))
+    Wrote o₄ o₅ d e 1 (6 ∷ []) → Wrote o o₅ w e (3 + length (bytesOf (missingValue ty))) (basicOf (missingValue ty) ∷ 1 ∷ length (bytesOf (missingValue ty)) ∷ bytesOf (missingValue ty))
 missing-typed ty q p r s t u = rw q (wrote-more (wrote-more (wrote-more (wrote-more p r) s) t) u)
 
 pub missing-void : {o o₁ o₂ o₃ : List ℕ} {w a b c : ℕ} (ty : Bool) → ty ≡ false → Wrote o o₁ w a 1 (6 ∷ []) → Wrote o₁ o₂ a b 1 (1 ∷ []) → Wrote o₂ o₃ b c 1 (0 ∷ []) →
-    Wrote o o₃ w c (3 + length (bytesOf (missingStep ty))) (basicOf (missingStep ty) ∷ 1 ∷ length (bytesOf (missingStep ty)) ∷ bytesOf (missingStep ty))
+    Wrote o o₃ w c (3 + length (bytesOf (missingValue ty))) (basicOf (missingValue ty) ∷ 1 ∷ length (bytesOf (missingValue ty)) ∷ bytesOf (missingValue ty))
 missing-void ty q p r s = rw q (wrote-more (wrote-more p r) s)
 
 -- the writes of `leaf`
 pub leaf-wrote : {o o₁ o₂ o₃ o₄ o₅ : List ℕ} {w a b c d r n : ℕ} (basic : ℕ) (v : List ℕ) → Wrote o o₁ w a 2 (0 ∷ 0 ∷ []) → Wrote o₁ o₂ a b 1 (basic ∷ []) → Wrote o₂ o₃ b c 1 (0 ∷ []) →
     Wrote o₃ o₄ c d 1 (length v ∷ []) → Wrote o₄ o₅ d r n (take n (drop 0 v)) → n ≡ length v → Wrote o o₅ w r (5 + length v) (encode (rooted (tree (value basic v) end)))
-unfolding encode count
+unfolding encode rootCount
 leaf-wrote {n = n} basic v x y z u t h =
     wrote-as (rw (rest-all v 0 n (omega arith)) (simp append-nil)) (omega arith) (wrote-more (wrote-more (wrote-more (wrote-more x y) z) u) t)
 
 -- the region that `fill` and `store` write
 module _ (s : List ℕ) (n k : ℕ) (h : n ≤ length s) (g : n ≤ k) where
-  pub pad-length : length (padded k s n) ≡ k
+  pub pad-length : length (paddedWith k s n) ≡ k
   pad-length = length-append (take n s) (replicate (k - n) 0) ∙ simp (length-take, length-replicate) (omega arith)
 
-  pub pad-low : (i : ℕ) → i < n → getD (padded k s n) i 0 ≡ getD s i 0
+  pub pad-low : (i : ℕ) → i < n → getD (paddedWith k s n) i 0 ≡ getD s i 0
   pad-low i l =
       let len = length-take-le n s h in
       List·getD-append (take n s) (replicate (k - n) 0) 0 i (omega (arith, len)) ∙ getD-take n s i 0 l
 
-  pub pad-high : (i : ℕ) → n ≤ i → i < k → getD (padded k s n) i 0 ≡ 0
+  pub pad-high : (i : ℕ) → n ≤ i → i < k → getD (paddedWith k s n) i 0 ≡ 0
   pad-high i l m =
       let e : i ≡ n + (i - n) = omega arith in
-      ap (λ (x : ℕ). getD (padded k s n) x 0) e
-      ∙ ap (λ (x : ℕ). getD (padded k s n) (x + (i - n)) 0) (sym (length-take-le n s h))
+      ap (λ (x : ℕ). getD (paddedWith k s n) x 0) e
+      ∙ ap (λ (x : ℕ). getD (paddedWith k s n) (x + (i - n)) 0) (sym (length-take-le n s h))
       ∙ getD-append-add (take n s) (replicate (k - n) 0) (i - n) 0 ∙ getD-replicate (k - n) (i - n) 0 0 (omega arith)
 
 -- one more byte of t
@@ -149,7 +149,7 @@ pub front-step : (r r′ t : List ℕ) (i v k : ℕ) → r′ ≡ set r i v → 
 front-step r r′ t i v k e h l m q p = (omega arith, rw e (length-set r i v ∙ l), rw e (front-more r t i v (omega arith) (omega arith) q p))
 
 -- a region that was lent comes back: the list with the middle replaced
-pub region-back : (s p q : List ℕ) (b n k e : ℕ) → e ≡ n → b + n ≤ length s → p ≡ padded (length (take e (drop b s))) q k → putMid b e s p ≡ stored s b n q k
+pub region-back : (s p q : List ℕ) (b n k e : ℕ) → e ≡ n → b + n ≤ length s → p ≡ paddedWith (length (take e (drop b s))) q k → putMid b e s p ≡ stored s b n q k
 region-back s p q b n k e h l d =
     let len : length (take e (drop b s)) ≡ n = simp (length-take, length-drop) (omega arith) in
     rw (d, len, drop-drop e b s, h) refl

@@ -4,33 +4,33 @@ use mathlib.Core.List.{List}
 use mathlib.Core.Bool.{Bool, true, false}
 use Prim.Native.Nat.{ℕ}
 use lib.ListN.{length}
-use Rattle.forest.specs.Forest.{Forest, end, Tree, tree, Lookup, present}
-use Rattle.forest.specs.Path.{replaceAt, setPayloadAt}
+use Rattle.tree_forest.specs.Forest.{Forest, end, Tree, tree, Lookup, present}
+use Rattle.tree_forest.specs.Path.{replaceAt, setPayloadAt}
 use Rattle.scalar.specs.Value.{Value}
 use Rattle.tree.specs.Encode.{encode, rooted, Octets}
 use Rattle.tree.specs.Decode.{decode}
 use Rattle.tree.specs.DecodeLaws.{decode-sound}
-use Rattle.tree.specs.Ids.{isPath, pathOf, Words}
+use Rattle.tree.specs.Ids.{isPath, pathFromIds, Words}
 use Rattle.tree.specs.Standing.{Within as WithinLimits}
 use Rattle.tree_edit.specs.Wrote.{Wrote}
 use Rattle.tree_edit.specs.WroteLaws.{wrote-as}
-use Rattle.tree_edit.specs.Change.{missingStep, replaced, assigned}
+use Rattle.tree_edit.specs.Change.{missingValue, replaced, assignedBytes}
 use Rattle.tree_edit.specs.ChangeLaws.{Right, replace-right, set-right, within-is, within-encodes}
 use Rattle.tree_edit.specs.Limited.{PutOutcome, SetOutcome}
 use Rattle.tree_edit.specs.declared.Grown.{Grown}
 use Rattle.tree_edit.specs.declared.Grown.the-variants.{Within, Past}
 
 replaced-of : (ty : Bool) (ids : List ℕ) (l k : Lookup Value) (a : Value) (f : Forest Value) (t : Tree Value) → k ≡ present (tree a f) → l ≡ present t →
-    replaced ty (pathOf ids) l k ≡ encode (rooted (tree a (replaceAt (missingStep ty) (pathOf ids) t f)))
+    replaced ty (pathFromIds ids) l k ≡ encode (rooted (tree a (replaceAt (missingValue ty) (pathFromIds ids) t f)))
 replaced-of ty ids l k a f t p q = rw (p, q) refl
 
 assigned-of : (ids : List ℕ) (l k : Lookup Value) (a : Value) (f : Forest Value) (b : Value) → k ≡ present (tree a f) → l ≡ present (tree b end) →
-    assigned (pathOf ids) l k ≡ encode (rooted (tree a (setPayloadAt (missingStep false) (pathOf ids) b f)))
+    assignedBytes (pathFromIds ids) l k ≡ encode (rooted (tree a (setPayloadAt (missingValue false) (pathFromIds ids) b f)))
 assigned-of ids l k a f b p q = rw (p, q) refl
 
 module _ (ids s m : List ℕ) {o o′ : List ℕ} {r : ℕ} (four : length ids ≡ 4) (ok : isPath ids ≡ true) (bs : Octets s) (bm : Octets m) (ws : Words ids)
     (b : Bool) (t : WithinLimits 6 48 o′ b) where
-  module _ (ty : Bool) (w : Wrote o o′ 0 r r (replaced ty (pathOf ids) (decode 6 48 m) (decode 6 48 s))) where
+  module _ (ty : Bool) (w : Wrote o o′ 0 r r (replaced ty (pathFromIds ids) (decode 6 48 m) (decode 6 48 s))) where
     pub put-kept : b ≡ true → PutOutcome ty ids s m o o′ (Within r)
     put-kept e = record {
       tells = λ a f u p q.
@@ -51,7 +51,7 @@ module _ (ids s m : List ℕ) {o o′ : List ℕ} {r : ℕ} (four : length ids �
           record { wrote = v; large = sym (within-is 6 48 a _ b v (y .good .root) h t) ∙ e };
     }
 
-  module _ (w : Wrote o o′ 0 r r (assigned (pathOf ids) (decode 0 0 m) (decode 6 48 s))) where
+  module _ (w : Wrote o o′ 0 r r (assignedBytes (pathFromIds ids) (decode 0 0 m) (decode 6 48 s))) where
     pub set-kept : b ≡ true → SetOutcome ids s m o o′ (Within r)
     set-kept e = record {
       tells = λ a f u p q.

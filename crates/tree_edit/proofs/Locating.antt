@@ -7,9 +7,10 @@ use native.Mathlib.Omega.{arith}
 use lib.ListN.{length, getD, take, drop}
 use lib.Dec.{eqb, ltb}
 use borrow.Author.Tests.{lt-ltb, le-ltb}
-use Rattle.forest.specs.Forest.{Forest, end, node, Tree, tree}
-use Rattle.scalar.specs.Value.{Value, value, pick}
-use Rattle.tree.specs.Encode.{count, encode}
+use Rattle.tree_forest.specs.Forest.{Forest, end, node, Tree, tree}
+use Rattle.scalar.specs.Value.{Value, value}
+use Rattle.basics.specs.Choice.{pick}
+use Rattle.tree.specs.Encode.{rootCount, encode}
 use Rattle.tree.specs.Decode.{headAt}
 use Rattle.tree.specs.Ids.{steps, isNone}
 use Rattle.tree.specs.IdsLaws.{none-is, steps-next}
@@ -49,18 +50,18 @@ plan-deep k i y ys up at b v ks rest = rw (le-ltb i i (omega arith)) refl
 
 module _ (s : List ℕ) (k i : ℕ) (is : List ℕ) (up at n : ℕ) where
   abbrev Leads : Plan → Type 0
-  Leads r = (f : Forest Value) → Row s at f → count f ≡ n → r ≡ planOf k i is f up at
+  Leads r = (f : Forest Value) → Row s at f → rootCount f ≡ n → r ≡ planOf k i is f up at
 
   pub locate-none : n ≡ 0 → Led s k i is up at n (Insert up at k)
   locate-none z = record { leads = go }
     where
       go : Leads (Insert up at k)
       go end w e = unfold planOf in refl
-      go (node j a ks rest) w e = absurd (unfold count in omega arith)
+      go (node j a ks rest) w e = absurd (unfold rootCount in omega arith)
 
   module _ (h : Head) (p : h ≡ headAt s at) (z : n ≡ 0 → ⊥) where
-    none : {A : Type 0} → count {A = Value} end ≡ n → A
-    none e = absurd (z (sym (unfold count in e)))
+    none : {A : Type 0} → rootCount {A = Value} end ≡ n → A
+    none e = absurd (z (sym (unfold rootCount in e)))
 
     pub locate-fault : h ≡ Fault → Led s k i is up at n Fail
     locate-fault q = record { leads = go }
@@ -84,7 +85,7 @@ module _ (s : List ℕ) (k i : ℕ) (is : List ℕ) (up at n : ℕ) where
           go end w e = none e
           go (node x (value d v) ks rest) w e =
               let u = ex .ends x (tree (value d v) ks) (row-root s at x d v ks rest w) in
-              let less : count rest ≡ n - 1 = unfold count in omega arith in
+              let less : rootCount rest ≡ n - 1 = unfold rootCount in omega arith in
               ih .leads rest (subst (λ (z : ℕ). Row s z rest) (sym u) (row-rest s at x d v ks rest w)) less
               ∙ ap (planOf k i is rest up) u ∙ sym (plan-on k i is up at x d v ks rest (omega (arith, seen s at x d v ks rest w h j b c m p q .id)))
 
@@ -103,8 +104,8 @@ pub locate-deep : (s ids : List ℕ) (k up at n : ℕ) (h : Head) (j b c m : ℕ
     Led s (k + 1) (getD ids (k + 1) 0) (steps (drop (k + 1 + 1) ids)) at m c r → Led s k (getD ids k 0) (steps (drop (k + 1) ids)) up at n r
 locate-deep s ids k up at n h j b c m y r four p z q l g o t ih = record { leads = go }
   where
-    go : (f : Forest Value) → Row s at f → count f ≡ n → r ≡ planOf k (getD ids k 0) (steps (drop (k + 1) ids)) f up at
-    go end w e = absurd (z (sym (unfold count in e)))
+    go : (f : Forest Value) → Row s at f → rootCount f ≡ n → r ≡ planOf k (getD ids k 0) (steps (drop (k + 1) ids)) f up at
+    go end w e = absurd (z (sym (unfold rootCount in e)))
     go (node x (value d v) ks rest) w e =
         let u = seen s at x d v ks rest w h j b c m p q in
         let xi : x ≡ getD ids k 0 = omega (arith, u .id) in

@@ -10,14 +10,15 @@ use native.Mathlib.Numerals.{add-one}
 use lib.ListN.{length, getD, take, drop, set, length-append, List·getD-append, drop-of-length-le}
 use lib.Seq.{drop-cons, drop-append-seam, take-at, drop-at, set-at, getD-at, set-append-left, set-getD, take-append-add, drop-append-add}
 use lib.Dec.{eqb}
-use Rattle.forest.specs.Compare.{Compare, lt, eq, gt, compare}
-use Rattle.forest.specs.Forest.{Forest, end, node, Tree, tree, nodeOf, Lookup, absent, present, find}
-use Rattle.forest.specs.Path.{Path, path, read, write, writeSteps}
-use Rattle.scalar.specs.Value.{Value, value, pick}
-use Rattle.tree.specs.Encode.{count, encode}
+use Rattle.tree_forest.specs.Compare.{Compare, lt, eq, gt, compare}
+use Rattle.tree_forest.specs.Forest.{Forest, end, node, Tree, tree, nodeOf, Lookup, absent, present, find}
+use Rattle.tree_forest.specs.Path.{Path, path, read, write, writeSteps}
+use Rattle.scalar.specs.Value.{Value, value}
+use Rattle.basics.specs.Choice.{pick}
+use Rattle.tree.specs.Encode.{rootCount, encode}
 use Rattle.tree.specs.EncodeLaws.{encode-node, length-node, split-node}
 use Rattle.tree.specs.Ids.{steps}
-use Rattle.tree_edit.specs.ForestWrite.{read-none, read-gap, read-on, read-hit, read-deep, fresh, fresh-more, write-end, write-gap, write-on, write-hit, write-deep}
+use Rattle.tree_edit.specs.ForestWrite.{read-none, read-gap, read-on, read-hit, read-deep, freshSteps, fresh-more, write-end, write-gap, write-on, write-hit, write-deep}
 use Rattle.tree_edit.specs.Plan.{planOf, body, prefix, spliced}
 use Rattle.tree_edit.specs.declared.Plan.{Plan}
 use Rattle.tree_edit.specs.declared.Plan.the-variants.{Insert, Replace, Fail}
@@ -45,8 +46,8 @@ steps-cons ids n y ys e = by (decLt n (length ids))
         (cc, cc)
 
 -- a node by its body
-pub count-of : (i : ℕ) (t : Tree Value) (rest : Forest Value) → count (nodeOf i t rest) ≡ suc (count rest)
-unfolding count
+pub count-of : (i : ℕ) (t : Tree Value) (rest : Forest Value) → rootCount (nodeOf i t rest) ≡ suc (rootCount rest)
+unfolding rootCount
 count-of i (tree a ks) rest = refl
 
 pub node-body : (i : ℕ) (t : Tree Value) (rest : Forest Value) (r : List ℕ) → encode (nodeOf i t rest) ++ r ≡ i % 256 ∷ i / 256 ∷ (body t ++ (encode rest ++ r))
@@ -73,8 +74,8 @@ lift-header pre w at a b c n d h =
     rw (e, e′, getD-at p n w 0 (at + 3) len) (set-at p n w (n + d) (at + 3) len)
 
 -- new nodes
-encode-fresh : (m : Value) (g : Lookup Value → Tree Value) (is : List ℕ) (i : ℕ) (rest : Forest Value) → encode (fresh m g i is rest) ≡ prefix m i is ++ (body (g absent) ++ encode rest)
-unfolding encode prefix count writeSteps
+encode-fresh : (m : Value) (g : Lookup Value → Tree Value) (is : List ℕ) (i : ℕ) (rest : Forest Value) → encode (freshSteps m g i is rest) ≡ prefix m i is ++ (body (g absent) ++ encode rest)
+unfolding encode prefix rootCount writeSteps
 encode-fresh (value b v) g [] i rest = sym (append-nil _) ∙ node-body i (g absent) rest [] ∙ simp append-nil
 encode-fresh (value b v) g (j ∷ js) i rest =
     ap encode (fresh-more (value b v) g i j js rest)
@@ -90,30 +91,30 @@ plan-end k i is up at = refl
 
 module _ (m : Value) (g : Lookup Value → Tree Value) where
   -- a change adds one sibling or none
-  count-node : (i : ℕ) (is : List ℕ) (j : ℕ) (a : Value) (ls rest : Forest Value) → count rest ≤ count (write m (path i is) g rest) → Compare i j →
-      count (node j a ls rest) ≤ count (write m (path i is) g (node j a ls rest))
-  unfolding count
+  count-node : (i : ℕ) (is : List ℕ) (j : ℕ) (a : Value) (ls rest : Forest Value) → rootCount rest ≤ rootCount (write m (path i is) g rest) → Compare i j →
+      rootCount (node j a ls rest) ≤ rootCount (write m (path i is) g (node j a ls rest))
+  unfolding rootCount
   count-node i is j a ls rest ih (lt l) = rw (write-gap m g i is j a ls rest l, count-of i (writeSteps m is g absent) (node j a ls rest)) (omega arith)
   count-node i is j a ls rest ih (gt l) = rw (write-on m g i is j a ls rest l) (omega arith)
   count-node i [] j a ls rest ih (eq e) = rw (e, write-hit m g j a ls rest, count-of j (g (present (tree a ls))) rest) (omega arith)
   count-node i (x ∷ xs) j a ls rest ih (eq e) = rw (e, write-deep m g j x xs a ls rest) (omega arith)
 
-  count-write : (f : Forest Value) (i : ℕ) (is : List ℕ) → count f ≤ count (write m (path i is) g f)
-  count-write end i is = unfold count in omega arith
+  count-write : (f : Forest Value) (i : ℕ) (is : List ℕ) → rootCount f ≤ rootCount (write m (path i is) g f)
+  count-write end i is = unfold rootCount in omega arith
   count-write (node j a ls rest) i is = count-node i is j a ls rest (count-write rest i is) (compare i j)
 
   module _ (all : List ℕ) where
     abbrev Right : Forest Value → Type 0
     Right f = (i : ℕ) (is : List ℕ) (k up at : ℕ) (pre post : List ℕ) → Way all k i is → length pre ≡ at → up + 3 < at →
         spliced m all (body (g (read (path i is) f))) (planOf k i is f up at) (pre ++ (encode f ++ post))
-        ≡ lift (up + 3) (count (write m (path i is) g f) - count f) pre ++ (encode (write m (path i is) g f) ++ post)
+        ≡ lift (up + 3) (rootCount (write m (path i is) g f) - rootCount f) pre ++ (encode (write m (path i is) g f) ++ post)
 
     gap-bytes : (f : Forest Value) (i : ℕ) (is : List ℕ) (k up at : ℕ) (pre post : List ℕ) → Way all k i is → length pre ≡ at → up + 3 < at →
         spliced m all (body (g absent)) (Insert up at k) (pre ++ (encode f ++ post))
-        ≡ lift (up + 3) (count (fresh m g i is f) - count f) pre ++ (encode (fresh m g i is f) ++ post)
+        ≡ lift (up + 3) (rootCount (freshSteps m g i is f) - rootCount f) pre ++ (encode (freshSteps m g i is f) ++ post)
     unfolding spliced
     gap-bytes f i is k up at pre post e h l =
-        let one : suc (count f) - count f ≡ 1 = omega arith in
+        let one : suc (rootCount f) - rootCount f ≡ 1 = omega arith in
         rw (
           take-at pre (encode f ++ post) at h,
           drop-at pre (encode f ++ post) at h,
@@ -127,49 +128,49 @@ module _ (m : Value) (g : Lookup Value → Tree Value) where
 
     on-bytes : (j c : ℕ) (w : List ℕ) (ls rest : Forest Value) → Right rest → (i : ℕ) (is : List ℕ) (k up at : ℕ) (pre post : List ℕ) → Way all k i is → length pre ≡ at → up + 3 < at →
         spliced m all (body (g (read (path i is) rest))) (planOf k i is rest up (at + length (encode (node j (value c w) ls end)))) (pre ++ (encode (node j (value c w) ls rest) ++ post))
-        ≡ lift (up + 3) (count (node j (value c w) ls (write m (path i is) g rest)) - count (node j (value c w) ls rest)) pre ++ (encode (node j (value c w) ls (write m (path i is) g rest)) ++ post)
-    unfolding count
+        ≡ lift (up + 3) (rootCount (node j (value c w) ls (write m (path i is) g rest)) - rootCount (node j (value c w) ls rest)) pre ++ (encode (node j (value c w) ls (write m (path i is) g rest)) ++ post)
+    unfolding rootCount
     on-bytes j c w ls rest ih i is k up at pre post e h l =
         let x = encode (node j (value c w) ls end) in
         let new = write m (path i is) g rest in
         let len : length (pre ++ x) ≡ at + length x = length-append pre x ∙ ap (λ (n : ℕ). n + length x) h in
         let r = ih i is k up (at + length x) (pre ++ x) post e len (omega arith) in
-        let d : suc (count new) - suc (count rest) ≡ count new - count rest = omega arith in
+        let d : suc (rootCount new) - suc (rootCount rest) ≡ rootCount new - rootCount rest = omega arith in
         rw (split-node j c w ls rest post, split-node j c w ls new post, d, ← append-assoc pre x (encode rest ++ post))
-        (r ∙ rw (lift-left (up + 3) (count new - count rest) pre x (omega arith)) (simp append-assoc))
+        (r ∙ rw (lift-left (up + 3) (rootCount new - rootCount rest) pre x (omega arith)) (simp append-assoc))
 
     hit-bytes : (i c : ℕ) (w : List ℕ) (ls rest : Forest Value) (t : Tree Value) (up at mid : ℕ) (pre post : List ℕ) → length pre ≡ at →
         spliced m all (body t) (Replace at mid (at + length (encode (node i (value c w) ls end)))) (pre ++ (encode (node i (value c w) ls rest) ++ post))
-        ≡ lift (up + 3) (count (nodeOf i t rest) - count (node i (value c w) ls rest)) pre ++ (encode (nodeOf i t rest) ++ post)
-    unfolding spliced count
+        ≡ lift (up + 3) (rootCount (nodeOf i t rest) - rootCount (node i (value c w) ls rest)) pre ++ (encode (nodeOf i t rest) ++ post)
+    unfolding spliced rootCount
     hit-bytes i c w ls rest t up at mid pre post h =
         let x = encode (node i (value c w) ls end) in
         let y = encode (node i (value c w) ls rest) ++ post in
-        let none : suc (count rest) - suc (count rest) ≡ 0 = omega arith in
+        let none : suc (rootCount rest) - suc (rootCount rest) ≡ 0 = omega arith in
         let tk : take (at + 2) (pre ++ y) ≡ pre ++ (i % 256 ∷ i / 256 ∷ []) = rw (← h) (take-append-add pre y 2 ∙ ap (λ (l : List ℕ). pre ++ take 2 l) (encode-node i c w ls rest post)) in
         let dr : drop (at + length x) (pre ++ y) ≡ encode rest ++ post = rw (← h) (drop-append-add pre y (length x) ∙ rw (split-node i c w ls rest post) (drop-append-seam x (encode rest ++ post))) in
         rw (tk, dr, count-of i t rest, none, lift-zero (up + 3) pre, node-body i t rest post) (append-assoc pre (i % 256 ∷ i / 256 ∷ []) (body t ++ (encode rest ++ post)))
 
     deep-bytes : (i c : ℕ) (w : List ℕ) (ls rest : Forest Value) → Right ls → (x : ℕ) (xs : List ℕ) (k up at : ℕ) (pre post : List ℕ) → Way all k i (x ∷ xs) → length pre ≡ at →
         spliced m all (body (g (read (path x xs) ls))) (planOf (k + 1) x xs ls at (at + 5 + length w)) (pre ++ (encode (node i (value c w) ls rest) ++ post))
-        ≡ lift (up + 3) (count (node i (value c w) (write m (path x xs) g ls) rest) - count (node i (value c w) ls rest)) pre ++ (encode (node i (value c w) (write m (path x xs) g ls) rest) ++ post)
-    unfolding count
+        ≡ lift (up + 3) (rootCount (node i (value c w) (write m (path x xs) g ls) rest) - rootCount (node i (value c w) ls rest)) pre ++ (encode (node i (value c w) (write m (path x xs) g ls) rest) ++ post)
+    unfolding rootCount
     deep-bytes i c w ls rest ih x xs k up at pre post e h =
         let new = write m (path x xs) g ls in
-        let p = pre ++ (i % 256 ∷ i / 256 ∷ c ∷ count ls ∷ length w ∷ w) in
-        let len : length p ≡ at + 5 + length w = length-append pre (i % 256 ∷ i / 256 ∷ c ∷ count ls ∷ length w ∷ w) ∙ omega arith in
+        let p = pre ++ (i % 256 ∷ i / 256 ∷ c ∷ rootCount ls ∷ length w ∷ w) in
+        let len : length p ≡ at + 5 + length w = length-append pre (i % 256 ∷ i / 256 ∷ c ∷ rootCount ls ∷ length w ∷ w) ∙ omega arith in
         let e1 : Way all (k + 1) x xs = steps-cons all (k + 1) x xs (e .1) in
         let r = ih x xs (k + 1) at (at + 5 + length w) p (encode rest ++ post) e1 len (omega arith) in
-        let none : suc (count rest) - suc (count rest) ≡ 0 = omega arith in
-        let sum : count ls + (count new - count ls) ≡ count new = omega (arith, count-write ls x xs) in
+        let none : suc (rootCount rest) - suc (rootCount rest) ≡ 0 = omega arith in
+        let sum : rootCount ls + (rootCount new - rootCount ls) ≡ rootCount new = omega (arith, count-write ls x xs) in
         let s1 : pre ++ (encode (node i (value c w) ls rest) ++ post) ≡ p ++ (encode ls ++ (encode rest ++ post)) = rw (encode-node i c w ls rest post) (simp append-assoc) in
-        let s2 : pre ++ (encode (node i (value c w) new rest) ++ post) ≡ (pre ++ (i % 256 ∷ i / 256 ∷ c ∷ count new ∷ length w ∷ w)) ++ (encode new ++ (encode rest ++ post)) = rw (encode-node i c w new rest post) (simp append-assoc) in
+        let s2 : pre ++ (encode (node i (value c w) new rest) ++ post) ≡ (pre ++ (i % 256 ∷ i / 256 ∷ c ∷ rootCount new ∷ length w ∷ w)) ++ (encode new ++ (encode rest ++ post)) = rw (encode-node i c w new rest post) (simp append-assoc) in
         rw (none, lift-zero (up + 3) pre, s1, s2)
-        (r ∙ rw (lift-header pre (length w ∷ w) at (i % 256) (i / 256) c (count ls) (count new - count ls) h, sum) refl)
+        (r ∙ rw (lift-header pre (length w ∷ w) at (i % 256) (i / 256) c (rootCount ls) (rootCount new - rootCount ls) h, sum) refl)
 
     node-right : (j c : ℕ) (w : List ℕ) (ls rest : Forest Value) → Right ls → Right rest → (i : ℕ) (is : List ℕ) → Compare i j → (k up at : ℕ) (pre post : List ℕ) → Way all k i is → length pre ≡ at → up + 3 < at →
         spliced m all (body (g (read (path i is) (node j (value c w) ls rest)))) (planOf k i is (node j (value c w) ls rest) up at) (pre ++ (encode (node j (value c w) ls rest) ++ post))
-        ≡ lift (up + 3) (count (write m (path i is) g (node j (value c w) ls rest)) - count (node j (value c w) ls rest)) pre ++ (encode (write m (path i is) g (node j (value c w) ls rest)) ++ post)
+        ≡ lift (up + 3) (rootCount (write m (path i is) g (node j (value c w) ls rest)) - rootCount (node j (value c w) ls rest)) pre ++ (encode (write m (path i is) g (node j (value c w) ls rest)) ++ post)
     node-right j c w ls rest hl hr i is (lt l) k up at pre post e h u =
         rw (read-gap i is j (value c w) ls rest l, plan-gap k i is up at j c w ls rest l, write-gap m g i is j (value c w) ls rest l) (gap-bytes (node j (value c w) ls rest) i is k up at pre post e h u)
     node-right j c w ls rest hl hr i is (gt l) k up at pre post e h u =
@@ -187,7 +188,7 @@ module _ (m : Value) (g : Lookup Value → Tree Value) where
 
 -- the bytes before the children of a tree's root
 abbrev pub front : ℕ → List ℕ → Forest Value → List ℕ
-front c w f = 0 ∷ 0 ∷ c ∷ count f ∷ length w ∷ w
+front c w f = 0 ∷ 0 ∷ c ∷ rootCount f ∷ length w ∷ w
 
 pub front-encode : (c : ℕ) (w : List ℕ) (f : Forest Value) → encode (node 0 (value c w) f end) ≡ front c w f ++ (encode f ++ [])
 unfolding encode
@@ -202,5 +203,5 @@ edit-root m g ids s c w f e =
     let is = steps (drop 1 ids) in
     let new = write m (path i is) g f in
     let r = write-bytes m g ids f i is 0 0 (5 + length w) (front c w f) [] (refl, refl) (omega arith) (omega arith) in
-    let sum : count f + (count new - count f) ≡ count new = omega (arith, count-write m g f i is) in
+    let sum : rootCount f + (rootCount new - rootCount f) ≡ rootCount new = omega (arith, count-write m g f i is) in
     rw (e ∙ front-encode c w f) (r ∙ ap (λ (n : ℕ). 0 ∷ 0 ∷ c ∷ n ∷ length w ∷ (w ++ (encode new ++ []))) sum ∙ sym (front-encode c w new))

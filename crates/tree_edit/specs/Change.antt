@@ -3,33 +3,33 @@
 use mathlib.Core.List.{List, [], _∷_}
 use mathlib.Core.Bool.{Bool, true, false}
 use Prim.Native.Nat.{ℕ}
-use Rattle.forest.specs.Forest.{Forest, Tree, tree, Lookup, absent, present}
-use Rattle.forest.specs.Path.{Path, read, replaceAt, setPayloadAt}
+use Rattle.tree_forest.specs.Forest.{Forest, Tree, tree, Lookup, absent, present}
+use Rattle.tree_forest.specs.Path.{Path, read, replaceAt, setPayloadAt}
 use Rattle.scalar.specs.Basic.{raw, void}
 use Rattle.scalar.specs.Value.{Value, value}
 use Rattle.tree.specs.Encode.{encode, rooted}
 use Rattle.tree.specs.Decode.{decode}
-use Rattle.tree.specs.Ids.{pathOf}
+use Rattle.tree.specs.Ids.{pathFromIds}
 
 -- What a missing step carries: in an environment the mark of a mandatory void type, else a void value.
-abbrev pub missingStep : Bool → Value
-missingStep true = value raw (1 ∷ void ∷ [])
-missingStep false = value void []
+abbrev pub missingValue : Bool → Value
+missingValue true = value raw (1 ∷ void ∷ [])
+missingValue false = value void []
 
 -- The bytes of a tree with what stands below its root changed.
-abbrev pub changed : (Forest Value → Forest Value) → Lookup Value → List ℕ
-changed g absent = []
-changed g (present (tree a F)) = encode (rooted (tree a (g F)))
+abbrev pub changedBytes : (Forest Value → Forest Value) → Lookup Value → List ℕ
+changedBytes g absent = []
+changedBytes g (present (tree a F)) = encode (rooted (tree a (g F)))
 
 -- The subtree at the path replaced by a tree.
 abbrev pub replaced : Bool → Path → Lookup Value → Lookup Value → List ℕ
 replaced typed x absent l = []
-replaced typed x (present t) l = changed (replaceAt (missingStep typed) x t) l
+replaced typed x (present t) l = changedBytes (replaceAt (missingValue typed) x t) l
 
 -- What the root of a tree carries set at the path, the children there kept.
-abbrev pub assigned : Path → Lookup Value → Lookup Value → List ℕ
-assigned x absent l = []
-assigned x (present (tree a ks)) l = changed (setPayloadAt (missingStep false) x a) l
+abbrev pub assignedBytes : Path → Lookup Value → Lookup Value → List ℕ
+assignedBytes x absent l = []
+assignedBytes x (present (tree a ks)) l = changedBytes (setPayloadAt (missingValue false) x a) l
 
 -- What was found, as a tree alone; nothing where nothing was.
 abbrev pub alone : Lookup Value → List ℕ

@@ -3,10 +3,10 @@ use mathlib.Core.Path.{_≡_, refl, ap, sym, subst, _∙_}
 use mathlib.Core.List.{List, [], _∷_}
 use Prim.Native.Nat.{ℕ, _<_}
 use native.Mathlib.Omega.{arith}
-use Rattle.forest.specs.Compare.{Compare, lt, eq, gt, compare}
-use Rattle.forest.specs.Forest.{Forest, end, node, Tree, tree, Lookup, absent, present, find, nodeOf, setBy, set}
-use Rattle.forest.specs.ForestLaws.{find-eq, find-lt, find-gt}
-use Rattle.forest.specs.Path.{Path, path, read, readSteps, write, writeSteps}
+use Rattle.tree_forest.specs.Compare.{Compare, lt, eq, gt, compare}
+use Rattle.tree_forest.specs.Forest.{Forest, end, node, Tree, tree, Lookup, absent, present, find, nodeOf, setBy, set}
+use Rattle.tree_forest.specs.ForestLaws.{find-eq, find-lt, find-gt}
+use Rattle.tree_forest.specs.Path.{Path, path, read, readSteps, write, writeSteps}
 
 module _ {A : Type 0} where
   set-lt : {i j : ℕ} (c : Compare i j) → i < j → (n : Tree A) (a : A) (k r s : Forest A) → setBy c n a k r s ≡ nodeOf i n (node j a k r)
@@ -48,19 +48,19 @@ module _ {A : Type 0} where
 
   module _ (missing : A) (g : Lookup A → Tree A) where
     -- new nodes for the steps i, is before `rest`: each missing step with one child, the last as g makes it of nothing
-    abbrev pub fresh : ℕ → List ℕ → Forest A → Forest A
-    fresh i is rest = nodeOf i (writeSteps missing is g absent) rest
+    abbrev pub freshSteps : ℕ → List ℕ → Forest A → Forest A
+    freshSteps i is rest = nodeOf i (writeSteps missing is g absent) rest
 
-    pub fresh-more : (i j : ℕ) (js : List ℕ) (rest : Forest A) → fresh i (j ∷ js) rest ≡ node i missing (fresh j js end) rest
+    pub fresh-more : (i j : ℕ) (js : List ℕ) (rest : Forest A) → freshSteps i (j ∷ js) rest ≡ node i missing (freshSteps j js end) rest
     unfolding writeSteps find set
     fresh-more i j js rest = refl
 
-    pub write-end : (i : ℕ) (is : List ℕ) → write missing (path i is) g end ≡ fresh i is end
+    pub write-end : (i : ℕ) (is : List ℕ) → write missing (path i is) g end ≡ freshSteps i is end
     unfolding find set
     write-end i is = refl
 
     module _ (i : ℕ) (is : List ℕ) (j : ℕ) (a : A) (ls rest : Forest A) where
-      pub write-gap : i < j → write missing (path i is) g (node j a ls rest) ≡ fresh i is (node j a ls rest)
+      pub write-gap : i < j → write missing (path i is) g (node j a ls rest) ≡ freshSteps i is (node j a ls rest)
       unfolding find set
       write-gap l =
           set-lt (compare i j) l (writeSteps missing is g (find i (node j a ls rest))) a ls rest _

@@ -1,17 +1,19 @@
--- Where a path leads in the bytes of a tree, and the bytes spliced there: the code's way to the changes of Change.antt. PlanLaws prove
--- that splicing as planned gives the byte form of the changed tree.
+-- Where a path leads in the bytes of a tree, and the bytes spliced there: the code's way to the changes of Change.antt. proofs/Splicing
+-- proves that splicing as planned gives the byte form of the changed tree.
 use mathlib.Core.Path.{_≡_}
 use mathlib.Core.List.{List, [], _∷_, _++_}
 use mathlib.Core.Bool.{Bool, true, false}
 use Prim.Native.Nat.{ℕ, _+_, _/_, _%_, _<_, _≤_}
 use lib.ListN.{length, getD, take, drop, set}
 use lib.Dec.{ltb}
-use Rattle.forest.specs.Forest.{Forest, end, node, Tree, tree, Lookup, absent, present}
-use Rattle.forest.specs.Path.{read, write}
-use Rattle.scalar.specs.Value.{Value, value, pick}
-use Rattle.tree.specs.Encode.{count, encode, rooted, treeDeep, treeMany}
+use Rattle.tree_forest.specs.Forest.{Forest, end, node, Tree, tree, Lookup, absent, present}
+use Rattle.tree_forest.specs.Path.{read, write}
+use Rattle.scalar.specs.Value.{Value, value}
+use Rattle.basics.specs.Choice.{pick}
+use Rattle.tree.specs.Encode.{rootCount, encode, rooted}
+use Rattle.tree_forest.specs.Limits.{sessionLevels, sessionNodes}
 use Rattle.tree.specs.Decode.{decode}
-use Rattle.tree.specs.Ids.{steps, pathOf}
+use Rattle.tree.specs.Ids.{steps, pathFromIds}
 use Rattle.tree.specs.Standing.{Row}
 use Rattle.tree_edit.specs.declared.Plan.{Plan}
 use Rattle.tree_edit.specs.declared.Plan.the-variants.{Insert, Replace, Fail}
@@ -30,7 +32,7 @@ planOf k i (x ∷ xs) (node j (value c w) ls rest) up at =
 
 -- a node's bytes after its id
 abbrev pub body : Tree Value → List ℕ
-body (tree (value b v) ks) = b ∷ count ks ∷ length v ∷ (v ++ encode ks)
+body (tree (value b v) ks) = b ∷ rootCount ks ∷ length v ∷ (v ++ encode ks)
 
 -- the bytes of new nodes for all steps but the last, and the last one's id
 unfoldable pub prefix : Value → ℕ → List ℕ → List ℕ
@@ -46,7 +48,7 @@ spliced missing ids new Fail s = s
 
 -- r says where the path leads in the n siblings at `at`, if siblings stand there
 pub record Led (s : List ℕ) (k i : ℕ) (is : List ℕ) (up at n : ℕ) (r : Plan) : Type 0 where
-  pub leads : (f : Forest Value) → Row s at f → count f ≡ n → r ≡ planOf k i is f up at
+  pub leads : (f : Forest Value) → Row s at f → rootCount f ≡ n → r ≡ planOf k i is f up at
 
 -- a gap at p below the node at `up`, which may have one child more, reached with k steps taken; nothing was found
 pub record Gap (s : List ℕ) (up p k : ℕ) : Type 0 where
@@ -66,7 +68,7 @@ pub record ChildrenAt (s : List ℕ) (l : Lookup Value) (p m q : ℕ) : Type 0 w
   pub root : Value
   pub kids : Forest Value
   pub is : l ≡ present (tree root kids)
-  pub many : getD s (p + 3) 0 ≡ count kids
+  pub many : getD s (p + 3) 0 ≡ rootCount kids
   pub after : drop m s ≡ encode kids ++ drop q s
 
 -- a plan lies within the bytes and agrees with what was found
@@ -79,7 +81,7 @@ Inside s l Fail = ⊥
 pub record Planned (s ids : List ℕ) (r : Plan) : Type 0 where
   pub root : Value
   pub kids : Forest Value
-  pub decoded : decode treeDeep treeMany s ≡ present (tree root kids)
-  pub inside : Inside s (read (pathOf ids) kids) r
+  pub decoded : decode sessionLevels sessionNodes s ≡ present (tree root kids)
+  pub inside : Inside s (read (pathFromIds ids) kids) r
   pub right : (missing : Value) (g : Lookup Value → Tree Value) →
-      spliced missing ids (body (g (read (pathOf ids) kids))) r s ≡ encode (rooted (tree root (write missing (pathOf ids) g kids)))
+      spliced missing ids (body (g (read (pathFromIds ids) kids))) r s ≡ encode (rooted (tree root (write missing (pathFromIds ids) g kids)))

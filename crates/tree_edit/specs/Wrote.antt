@@ -14,9 +14,9 @@ pub record Wrote (o o′ : List ℕ) (w r n : ℕ) (l : List ℕ) : Type 0 where
   pub keeps : drop r o′ ≡ drop r o
 
 -- The first n bytes of s, then zeros up to `size` in all.
-abbrev pub padded : ℕ → List ℕ → ℕ → List ℕ
-padded size s n = take n s ++ replicate (size - n) 0
+abbrev pub paddedWith : ℕ → List ℕ → ℕ → List ℕ
+paddedWith size s n = take n s ++ replicate (size - n) 0
 
 -- The bytes s with the region of `size` bytes at `base` holding the first n bytes of src and then zeros.
 abbrev pub stored : List ℕ → ℕ → ℕ → List ℕ → ℕ → List ℕ
-stored s base size src n = take base s ++ (padded size src n ++ drop (base + size) s)
+stored s base size src n = take base s ++ (paddedWith size src n ++ drop (base + size) s)

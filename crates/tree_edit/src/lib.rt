@@ -4,13 +4,13 @@ ghost use mathlib.Core.Bool.{true};
 ghost use mathlib.Core.List.{_++_, [], _∷_};
 ghost use Prim.Native.Nat.{ℕ, _+_, _-_, _*_, _/_, _%_, _≤_, _<_};
 ghost use lib.ListN.{length, take, drop, getD, set};
-ghost use Rattle.forest.specs.Forest.{end, tree};
+ghost use Rattle.tree_forest.specs.Forest.{end, tree};
 ghost use Rattle.scalar.specs.Value.{value, basicOf, bytesOf};
 ghost use Rattle.tree.specs.Encode.{encode, rooted};
 ghost use Rattle.tree.specs.Decode.{decode, isTree};
-ghost use Rattle.tree.specs.Ids.{isPath, pathOf, steps, isNone};
-ghost use Rattle.tree_edit.specs.Wrote.{Wrote, padded, stored};
-ghost use Rattle.tree_edit.specs.Change.{missingStep, replaced, assigned, subtreeOf};
+ghost use Rattle.tree.specs.Ids.{isPath, pathFromIds, steps, isNone};
+ghost use Rattle.tree_edit.specs.Wrote.{Wrote, paddedWith, stored};
+ghost use Rattle.tree_edit.specs.Change.{missingValue, replaced, assignedBytes, subtreeOf};
 ghost use Rattle.tree_edit.specs.Limited.{PutOutcome, SetOutcome};
 ghost use Rattle.tree_edit.specs.Plan.{prefix, spliced, Led, Gap, Hit, Planned};
 
@@ -62,8 +62,8 @@ pub fn push_id(out: &mut [u8], w: usize, id: u16) -> usize
 // Writes the bytes of a missing step with one child, from its basic type on.
 fn push_missing(out: &mut [u8], w: usize, typed: bool) -> usize
     requires { ⌜ w + 5 ≤ length (now out) ⌝ }
-    ensures { λ r. ⌜ Wrote (now (out .entry)) (now (out .exit)) w r (3 + length (bytesOf (missingStep typed)))
-        (basicOf (missingStep typed) ∷ 1 ∷ length (bytesOf (missingStep typed)) ∷ bytesOf (missingStep typed)) ⌝ }
+    ensures { λ r. ⌜ Wrote (now (out .entry)) (now (out .exit)) w r (3 + length (bytesOf (missingValue typed)))
+        (basicOf (missingValue typed) ∷ 1 ∷ length (bytesOf (missingValue typed)) ∷ bytesOf (missingValue typed)) ⌝ }
 {
     if typed {
         let a = push(out, w, scalar::RAW);
@@ -81,7 +81,7 @@ fn push_missing(out: &mut [u8], w: usize, typed: bool) -> usize
 fn push_steps(out: &mut [u8], w: usize, ids: [u16; 4], k: usize, typed: bool) -> usize
     requires { ⌜ (k < 4) × (w + 7 * (4 - k) ≤ length (now out)) ⌝ }
     ensures { λ r. ⌜ (r ≤ w + 7 * (4 - k)) ×
-        Wrote (now (out .entry)) (now (out .exit)) w r (r - w) (prefix (missingStep typed) (getD ids k 0) (steps (drop (k + 1) ids))) ⌝ }
+        Wrote (now (out .entry)) (now (out .exit)) w r (r - w) (prefix (missingValue typed) (getD ids k 0) (steps (drop (k + 1) ids))) ⌝ }
 {
     let a = push_id(out, w, ids[k]);
     if tree::is_last(ids, k) {
@@ -168,7 +168,7 @@ fn insert(
     requires { ⌜ Gap (now s) up p k × (2 ≤ length (now m)) × (length (now s) + 28 + length (now m) ≤ length (now out)) ⌝ }
     ensures { λ r. ⌜ Wrote (now (out .entry)) (now (out .exit)) 0 r r
         (set (take p (now (s .entry))) (up + 3) (getD (now (s .entry)) (up + 3) 0 + 1) ++
-        (prefix (missingStep typed) (getD ids k 0) (steps (drop (k + 1) ids)) ++ (drop 2 (now (m .entry)) ++ drop p (now (s .entry))))) ⌝ }
+        (prefix (missingValue typed) (getD ids k 0) (steps (drop (k + 1) ids)) ++ (drop 2 (now (m .entry)) ++ drop p (now (s .entry))))) ⌝ }
 {
     let a = append(out, 0, s, 0, p);
     out[up + 3] = s[up + 3] + 1;
@@ -182,7 +182,7 @@ fn insert(
 pub fn put(out: &mut [u8], s: &[u8], ids: [u16; 4], m: &[u8], typed: bool) -> usize
     requires { ⌜ (isTree 6 48 (now s) ≡ true) × (isTree 6 48 (now m) ≡ true) × (length (now s) + 28 + length (now m) ≤ length (now out)) ⌝ }
     ensures { λ r. ⌜ Wrote (now (out .entry)) (now (out .exit)) 0 r r
-        (replaced typed (pathOf ids) (decode 6 48 (now (m .entry))) (decode 6 48 (now (s .entry)))) ⌝ }
+        (replaced typed (pathFromIds ids) (decode 6 48 (now (m .entry))) (decode 6 48 (now (s .entry)))) ⌝ }
 {
     tree::octets(m);
     match route(s, ids) {
@@ -212,7 +212,7 @@ fn replace_value(out: &mut [u8], s: &[u8], p: usize, mid: usize, m: &[u8]) -> us
 pub fn set_value(out: &mut [u8], s: &[u8], ids: [u16; 4], m: &[u8]) -> usize
     requires { ⌜ (isTree 6 48 (now s) ≡ true) × (isTree 0 0 (now m) ≡ true) × (length (now s) + 28 + length (now m) ≤ length (now out)) ⌝ }
     ensures { λ r. ⌜ Wrote (now (out .entry)) (now (out .exit)) 0 r r
-        (assigned (pathOf ids) (decode 0 0 (now (m .entry))) (decode 6 48 (now (s .entry)))) ⌝ }
+        (assignedBytes (pathFromIds ids) (decode 0 0 (now (m .entry))) (decode 6 48 (now (s .entry)))) ⌝ }
 {
     tree::octets(m);
     match route(s, ids) {
@@ -257,7 +257,7 @@ pub fn set_within(out: &mut [u8], s: &[u8], ids: [u16; 4], m: &[u8]) -> Grown
 // Writes to out the subtree at the path of the tree s as a tree alone, its root with the id 0. Gives its length; 0 where it is missing.
 pub fn subtree(out: &mut [u8], s: &[u8], ids: [u16; 4]) -> usize
     requires { ⌜ (isTree 6 48 (now s) ≡ true) × (isPath ids ≡ true) × (length (now s) ≤ length (now out)) ⌝ }
-    ensures { λ r. ⌜ Wrote (now (out .entry)) (now (out .exit)) 0 r r (subtreeOf (pathOf ids) (decode 6 48 (now (s .entry)))) ⌝ }
+    ensures { λ r. ⌜ Wrote (now (out .entry)) (now (out .exit)) 0 r r (subtreeOf (pathFromIds ids) (decode 6 48 (now (s .entry)))) ⌝ }
 {
     tree::octets(s);
     let tree::Found::At(at) = tree::follow(s, ids) else {
@@ -271,7 +271,7 @@ pub fn subtree(out: &mut [u8], s: &[u8], ids: [u16; 4]) -> usize
 // Sets r to the first n bytes of src and then zeros.
 fn fill(r: &mut [u8], src: &[u8], n: usize)
     requires { ⌜ (n ≤ length (now r)) × (n ≤ length (now src)) ⌝ }
-    ensures { λ _. ⌜ now (r .exit) ≡ padded (length (now (r .entry))) (now (src .entry)) n ⌝ }
+    ensures { λ _. ⌜ now (r .exit) ≡ paddedWith (length (now (r .entry))) (now (src .entry)) n ⌝ }
 {
     let mut i: usize = 0;
     while i < r.len() {

@@ -1,5 +1,5 @@
--- Laws of numbers in bytes, so that callers need not look at bytes: what is stored is read back (`same`), what lies apart is
--- kept (`other`), a store keeps the length, and a lent part agrees with the whole.
+-- Laws of numbers in bytes, so that callers need not look at bytes: what is stored is read back (`same-16` ..), what lies apart is
+-- kept (`other-16` ..), a store keeps the length, and a lent part agrees with the whole.
 use Prim.Native.Nat.{ℕ, _+_, _-_, _/_, _%_, _≤_, _<_}
 use native.Mathlib.Omega.{arith}
 use native.Mathlib.Nat.{add-zero}
@@ -12,8 +12,8 @@ use lib.Seq.{drop-set-add, drop-set-lt, take-set-le, take-set-lt, drop-drop, len
 use Rattle.wire.specs.Wire.{byteAt, u16At, u32At, u64At, putU16, putU32, putU64, part, withPart}
 
 -- The n bytes at k and the m bytes at `at` have none in common.
-abbrev pub Apart : ℕ → ℕ → ℕ → ℕ → Type 0
-Apart k n at m = (k + n ≤ at) ⊎ (at + m ≤ k)
+abbrev pub SpansApart : ℕ → ℕ → ℕ → ℕ → Type 0
+SpansApart k n at m = (k + n ≤ at) ⊎ (at + m ≤ k)
 
 -- ---- two slices that agree on a run of bytes
 
@@ -103,35 +103,35 @@ length-64 s at v = simp length-32
 
 -- ---- what lies apart is kept: `agree-byte`, `agree-16`, .. of these
 
-byte-16 : (s : List ℕ) (at v k : ℕ) → Apart k 1 at 2 → byteAt (putU16 s at v) k ≡ byteAt s k
+byte-16 : (s : List ℕ) (at v k : ℕ) → SpansApart k 1 at 2 → byteAt (putU16 s at v) k ≡ byteAt s k
 unfolding putU16
 byte-16 s at v k h =
     getD-set-other (set s at (v % 256)) (at + 1) k (v / 256) 0 (λ e. ⊎-elim (λ l. omega arith) (λ l. omega arith) h)
     ∙ getD-set-other s at k (v % 256) 0 (λ e. ⊎-elim (λ l. omega arith) (λ l. omega arith) h)
 
-byte-32 : (s : List ℕ) (at v k : ℕ) → Apart k 1 at 4 → byteAt (putU32 s at v) k ≡ byteAt s k
+byte-32 : (s : List ℕ) (at v k : ℕ) → SpansApart k 1 at 4 → byteAt (putU32 s at v) k ≡ byteAt s k
 unfolding putU32
 byte-32 s at v k h =
     byte-16 (putU16 s at (v % 0x10000)) (at + 2) (v / 0x10000) k (⊎-elim (λ l. inl (omega arith)) (λ l. inr (omega arith)) h)
     ∙ byte-16 s at (v % 0x10000) k (⊎-elim (λ l. inl (omega arith)) (λ l. inr (omega arith)) h)
 
-byte-64 : (s : List ℕ) (at v k : ℕ) → Apart k 1 at 8 → byteAt (putU64 s at v) k ≡ byteAt s k
+byte-64 : (s : List ℕ) (at v k : ℕ) → SpansApart k 1 at 8 → byteAt (putU64 s at v) k ≡ byteAt s k
 unfolding putU64
 byte-64 s at v k h =
     byte-32 (putU32 s at (v % 0x100000000)) (at + 4) (v / 0x100000000) k (⊎-elim (λ l. inl (omega arith)) (λ l. inr (omega arith)) h)
     ∙ byte-32 s at (v % 0x100000000) k (⊎-elim (λ l. inl (omega arith)) (λ l. inr (omega arith)) h)
 
-apart-byte : (k n at m : ℕ) → Apart k n at m → (q : ℕ) → q < n → Apart (k + q) 1 at m
+apart-byte : (k n at m : ℕ) → SpansApart k n at m → (q : ℕ) → q < n → SpansApart (k + q) 1 at m
 apart-byte k n at m (inl h) q l = inl (omega arith)
 apart-byte k n at m (inr h) q l = inr (omega arith)
 
-pub other-16 : (s : List ℕ) (at v k n : ℕ) → Apart k n at 2 → Agree (putU16 s at v) k s k n
+pub other-16 : (s : List ℕ) (at v k n : ℕ) → SpansApart k n at 2 → Agree (putU16 s at v) k s k n
 other-16 s at v k n h = record { bytes = λ q l. byte-16 s at v (k + q) (apart-byte k n at 2 h q l) }
 
-pub other-32 : (s : List ℕ) (at v k n : ℕ) → Apart k n at 4 → Agree (putU32 s at v) k s k n
+pub other-32 : (s : List ℕ) (at v k n : ℕ) → SpansApart k n at 4 → Agree (putU32 s at v) k s k n
 other-32 s at v k n h = record { bytes = λ q l. byte-32 s at v (k + q) (apart-byte k n at 4 h q l) }
 
-pub other-64 : (s : List ℕ) (at v k n : ℕ) → Apart k n at 8 → Agree (putU64 s at v) k s k n
+pub other-64 : (s : List ℕ) (at v k n : ℕ) → SpansApart k n at 8 → Agree (putU64 s at v) k s k n
 other-64 s at v k n h = record { bytes = λ q l. byte-64 s at v (k + q) (apart-byte k n at 8 h q l) }
 
 -- ---- what is stored is read back
@@ -205,7 +205,7 @@ module _ (s : List ℕ) (at : ℕ) (new : List ℕ) (fits : at + length new ≤ 
       { bytes = λ q l. let e : at + k + q ≡ at + (k + q) = omega arith in rw e (inside (k + q) (omega arith)) }
 
   -- A read elsewhere.
-  pub withPart-outside : (k n : ℕ) → Apart k n at (length new) → Agree (withPart s at new) k s k n
+  pub withPart-outside : (k n : ℕ) → SpansApart k n at (length new) → Agree (withPart s at new) k s k n
   withPart-outside k n (inl h) = record { bytes = λ q l. before (k + q) (omega arith) }
   withPart-outside k n (inr h) = record {
     bytes = λ q l.

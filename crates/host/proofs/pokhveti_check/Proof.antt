@@ -5,7 +5,7 @@ use Rattle.host.proofs.pokhveti_check.Statement.{statement}
 use Rattle.host.proofs.pokhveti_check.Tie as tie
 use Rattle.host.proofs.pokhveti_check.Reads as reads
 use Rattle.host.proofs.pokhveti_check.Lts as lts
-use Rattle.checker.proofs.check.Reads as check-reads
+use Rattle.controller.proofs.check.Reads as check-reads
 use Rattle.refusal.proofs.number.Reads as number-reads
 use Rattle.refusal.proofs.place.Reads as place-reads
 

@@ -12,7 +12,7 @@ use Rattle.report.proofs.print_path.Reads as print-path-reads
 use Rattle.report.proofs.word.Reads as word-reads
 use Rattle.console.proofs.number.Reads as number-reads
 use Rattle.console.proofs.write.Reads as write-reads
-use Rattle.types.proofs.type_head.Reads as type-head-reads
+use Rattle.check_types.proofs.type_head.Reads as type-head-reads
 use Rattle.report.proofs.+nodes.{statement}
 use Rattle.report.proofs.+nodes.Tie.{close}
 

@@ -13,7 +13,10 @@ both-requires : tie.Need-both-requires
 both-requires c κs = search needs
 
 returns : tie.Need-returns
-returns c = let s = c .before .before .before .before in and-bools (s .before .args .a) (s .before .args .b) (s .paired .result) (s .paired .ensures) (c .before .before .p .given .1) (c .both .ensures)
+returns c =
+    let d1 = c .before .before in
+    let d2 = d1 .before .before in
+    let s = d2 in and-bools (s .before .args .a) (s .before .args .b) (s .paired .result) (s .paired .ensures) (d1 .p .given .1) (c .both .ensures)
 
 returns-2 : tie.Need-returns-2
 returns-2 c = let s = c .before in and-other (s .before .args .a) (s .before .args .b) (s .paired .result) (s .paired .ensures) (c .match .keys2)

@@ -53,43 +53,64 @@ returns : tie.Need-returns
 returns c = search needs
 
 returns-2 : tie.Need-returns-2
-returns-2 c = kinds-differ 0 (1 ∷ 2 ∷ 3 ∷ 4 ∷ 5 ∷ 6 ∷ []) (c .before .before .before .before .args .x) (c .before .before .before .before .args .y) (miss (1 ∷ 2 ∷ 3 ∷ 4 ∷ 5 ∷ 6 ∷ []) 0 tt) (ap kindOf (c .before .before .x .given .1)) (c .match2 .keys2)
+returns-2 c =
+    let d1 = c .before .before in
+    let start = d1 .before .before in
+    kinds-differ 0 (1 ∷ 2 ∷ 3 ∷ 4 ∷ 5 ∷ 6 ∷ []) (start .args .x) (start .args .y) (miss (1 ∷ 2 ∷ 3 ∷ 4 ∷ 5 ∷ 6 ∷ []) 0 tt) (ap kindOf (d1 .x .given .1)) (c .match2 .keys2)
 
 returns-3 : tie.Need-returns-3
 returns-3 c = search needs
 
 returns-4 : tie.Need-returns-4
-returns-4 c = kinds-differ 1 (0 ∷ 2 ∷ 3 ∷ 4 ∷ 5 ∷ 6 ∷ []) (c .before .before .before .before .args .x) (c .before .before .before .before .args .y) (miss (0 ∷ 2 ∷ 3 ∷ 4 ∷ 5 ∷ 6 ∷ []) 1 tt) (ap kindOf (c .before .before .x2 .given .1)) (c .match3 .keys2)
+returns-4 c =
+    let d1 = c .before .before in
+    let start = d1 .before .before in
+    kinds-differ 1 (0 ∷ 2 ∷ 3 ∷ 4 ∷ 5 ∷ 6 ∷ []) (start .args .x) (start .args .y) (miss (0 ∷ 2 ∷ 3 ∷ 4 ∷ 5 ∷ 6 ∷ []) 1 tt) (ap kindOf (d1 .x2 .given .1)) (c .match3 .keys2)
 
 returns-5 : tie.Need-returns-5
 returns-5 c = search needs
 
 returns-6 : tie.Need-returns-6
-returns-6 c = kinds-differ 2 (0 ∷ 1 ∷ 3 ∷ 4 ∷ 5 ∷ 6 ∷ []) (c .before .before .before .before .args .x) (c .before .before .before .before .args .y) (miss (0 ∷ 1 ∷ 3 ∷ 4 ∷ 5 ∷ 6 ∷ []) 2 tt) (ap kindOf (c .before .before .x3 .given .1)) (c .match4 .keys2)
+returns-6 c =
+    let d1 = c .before .before in
+    let start = d1 .before .before in
+    kinds-differ 2 (0 ∷ 1 ∷ 3 ∷ 4 ∷ 5 ∷ 6 ∷ []) (start .args .x) (start .args .y) (miss (0 ∷ 1 ∷ 3 ∷ 4 ∷ 5 ∷ 6 ∷ []) 2 tt) (ap kindOf (d1 .x3 .given .1)) (c .match4 .keys2)
 
 returns-7 : tie.Need-returns-7
 returns-7 c = search needs
 
 returns-8 : tie.Need-returns-8
-returns-8 c = kinds-differ 3 (0 ∷ 1 ∷ 2 ∷ 4 ∷ 5 ∷ 6 ∷ []) (c .before .before .before .before .args .x) (c .before .before .before .before .args .y) (miss (0 ∷ 1 ∷ 2 ∷ 4 ∷ 5 ∷ 6 ∷ []) 3 tt) (ap kindOf (c .before .before .x4 .given .1)) (c .match5 .keys2)
+returns-8 c =
+    let d1 = c .before .before in
+    let start = d1 .before .before in
+    kinds-differ 3 (0 ∷ 1 ∷ 2 ∷ 4 ∷ 5 ∷ 6 ∷ []) (start .args .x) (start .args .y) (miss (0 ∷ 1 ∷ 2 ∷ 4 ∷ 5 ∷ 6 ∷ []) 3 tt) (ap kindOf (d1 .x4 .given .1)) (c .match5 .keys2)
 
 returns-9 : tie.Need-returns-9
 returns-9 c = search needs
 
 returns-10 : tie.Need-returns-10
-returns-10 c = kinds-differ 4 (0 ∷ 1 ∷ 2 ∷ 3 ∷ 5 ∷ 6 ∷ []) (c .before .before .before .args .x) (c .before .before .before .args .y) (miss (0 ∷ 1 ∷ 2 ∷ 3 ∷ 5 ∷ 6 ∷ []) 4 tt) (ap kindOf (c .before .enum-told .given .1)) (c .match6 .keys2)
+returns-10 c =
+    let d1 = c .before in
+    let start = d1 .before .before in
+    kinds-differ 4 (0 ∷ 1 ∷ 2 ∷ 3 ∷ 5 ∷ 6 ∷ []) (start .args .x) (start .args .y) (miss (0 ∷ 1 ∷ 2 ∷ 3 ∷ 5 ∷ 6 ∷ []) 4 tt) (ap kindOf (d1 .enum-told .given .1)) (c .match6 .keys2)
 
 returns-11 : tie.Need-returns-11
 returns-11 c = search needs
 
 returns-12 : tie.Need-returns-12
-returns-12 c = kinds-differ 5 (0 ∷ 1 ∷ 2 ∷ 3 ∷ 4 ∷ 6 ∷ []) (c .before .before .before .args .x) (c .before .before .before .args .y) (miss (0 ∷ 1 ∷ 2 ∷ 3 ∷ 4 ∷ 6 ∷ []) 5 tt) (ap kindOf (c .before .enum-told3 .given .1)) (c .match7 .keys2)
+returns-12 c =
+    let d1 = c .before in
+    let start = d1 .before .before in
+    kinds-differ 5 (0 ∷ 1 ∷ 2 ∷ 3 ∷ 4 ∷ 6 ∷ []) (start .args .x) (start .args .y) (miss (0 ∷ 1 ∷ 2 ∷ 3 ∷ 4 ∷ 6 ∷ []) 5 tt) (ap kindOf (d1 .enum-told3 .given .1)) (c .match7 .keys2)
 
 returns-13 : tie.Need-returns-13
 returns-13 c = search needs
 
 returns-14 : tie.Need-returns-14
-returns-14 c = kinds-differ 6 (0 ∷ 1 ∷ 2 ∷ 3 ∷ 4 ∷ 5 ∷ []) (c .before .before .before .args .x) (c .before .before .before .args .y) (miss (0 ∷ 1 ∷ 2 ∷ 3 ∷ 4 ∷ 5 ∷ []) 6 tt) (ap kindOf (c .before .enum-told5 .given .1)) (c .match8 .keys2)
+returns-14 c =
+    let d1 = c .before in
+    let start = d1 .before .before in
+    kinds-differ 6 (0 ∷ 1 ∷ 2 ∷ 3 ∷ 4 ∷ 5 ∷ []) (start .args .x) (start .args .y) (miss (0 ∷ 1 ∷ 2 ∷ 3 ∷ 4 ∷ 5 ∷ []) 6 tt) (ap kindOf (d1 .enum-told5 .given .1)) (c .match8 .keys2)
 
 pub paired-spec : {M : Type 1} → statement M
 paired-spec =

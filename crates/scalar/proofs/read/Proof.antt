@@ -50,16 +50,39 @@ plain-requires-5 : tie.Need-plain-requires-5
 plain-requires-5 c κs = search needs
 
 returns : tie.Need-returns
-returns c = let a = c .before .before .before .before in read-bool (a .args .s .now) (a .args .at) (a .args .basic) (a .args .len) (a .pre .0) (a .pre .1) (λ k. c .before .before .before .shared-slice-known .given k .fits) (c .before .before .match .keys1) (c .before .byte-at .ensures) (c .plain .ensures)
+returns c =
+    let d1 = c .before in
+    let d2 = d1 .before in
+    let d3 = d2 .before in
+    let d4 = d3 .before in
+    let a = d4 in read-bool (a .args .s .now) (a .args .at) (a .args .basic) (a .args .len) (a .pre .0) (a .pre .1) (λ k. d3 .shared-slice-known .given k .fits) (d2 .match .keys1) (d1 .byte-at .ensures) (c .plain .ensures)
 
 returns-2 : tie.Need-returns-2
-returns-2 c = let a = c .before .before .before .before .before in read-int (a .args .s .now) (a .args .at) (a .args .basic) (a .args .len) (a .pre .0) (a .pre .1) (λ k. c .before .before .before .before .shared-slice-known .given k .fits) (c .before .before .before .match .keys2) (c .before .before .u32-at .ensures) (toZ-ofZ w32 (c .before .int-of .result) (record { sfits = c .before .int-of .ok }) ∙ c .before .int-of .ensures) (c .plain2 .ensures)
+returns-2 c =
+    let d1 = c .before in
+    let d2 = d1 .before in
+    let d3 = d2 .before in
+    let d4 = d3 .before in
+    let d5 = d4 .before in
+    let a = d5 in read-int (a .args .s .now) (a .args .at) (a .args .basic) (a .args .len) (a .pre .0) (a .pre .1) (λ k. d4 .shared-slice-known .given k .fits) (d3 .match .keys2) (d2 .u32-at .ensures) (toZ-ofZ w32 (d1 .int-of .result) (record { sfits = d1 .int-of .ok }) ∙ d1 .int-of .ensures) (c .plain2 .ensures)
 
 returns-3 : tie.Need-returns-3
-returns-3 c = let a = c .before .before .before .before .before in read-double (a .args .s .now) (a .args .at) (a .args .basic) (a .args .len) (a .pre .0) (a .pre .1) (λ k. c .before .before .before .before .shared-slice-known .given k .fits) (c .before .before .before .match .keys3) (c .before .before .u64-at .ensures) (c .before .double-of .ensures) (c .plain3 .ensures)
+returns-3 c =
+    let d1 = c .before in
+    let d2 = d1 .before in
+    let d3 = d2 .before in
+    let d4 = d3 .before in
+    let d5 = d4 .before in
+    let a = d5 in read-double (a .args .s .now) (a .args .at) (a .args .basic) (a .args .len) (a .pre .0) (a .pre .1) (λ k. d4 .shared-slice-known .given k .fits) (d3 .match .keys3) (d2 .u64-at .ensures) (d1 .double-of .ensures) (c .plain3 .ensures)
 
 returns-4 : tie.Need-returns-4
-returns-4 c = let a = c .before .before .before .before .before in read-long (a .args .s .now) (a .args .at) (a .args .basic) (a .args .len) (a .pre .0) (a .pre .1) (λ k. c .before .before .before .before .shared-slice-known .given k .fits) (c .before .before .before .match .keys4) (c .before .before .u64-at2 .ensures) (toZ-ofZ w64 (c .before .long-of .result) (record { sfits = c .before .long-of .ok }) ∙ c .before .long-of .ensures) (c .plain4 .ensures)
+returns-4 c =
+    let d1 = c .before in
+    let d2 = d1 .before in
+    let d3 = d2 .before in
+    let d4 = d3 .before in
+    let d5 = d4 .before in
+    let a = d5 in read-long (a .args .s .now) (a .args .at) (a .args .basic) (a .args .len) (a .pre .0) (a .pre .1) (λ k. d4 .shared-slice-known .given k .fits) (d3 .match .keys4) (d2 .u64-at2 .ensures) (toZ-ofZ w64 (d1 .long-of .result) (record { sfits = d1 .long-of .ok }) ∙ d1 .long-of .ensures) (c .plain4 .ensures)
 
 returns-5 : tie.Need-returns-5
 returns-5 c = let a = c .before .before .before in read-string (a .args .s .now) (a .args .at) (a .args .basic) (a .args .len) (a .pre .0) (a .pre .1) (λ k. c .before .before .shared-slice-known .given k .fits) (c .before .match .keys5) (c .with-bytes .ensures)

@@ -3,13 +3,13 @@ use mathlib.Core.Path.{_≡_, refl, _∙_}
 use native.Mathlib.Omega.{arith}
 use borrow.Author.Needs.{needs}
 use lib.ListN.{length, drop}
-use Rattle.scalar.specs.Operator.{sameBytes}
+use Rattle.scalar.specs.Operator.{equalBytes}
 use Rattle.scalar.proofs.Same.{long-apart, same-on, same-off, same-end}
 use Rattle.scalar.proofs.same_bytes.Statement.{statement}
 use Rattle.scalar.proofs.same_bytes.Tie as tie
 
 abbrev Inv-loop : tie.InvT-loop
-Inv-loop s t i₀ i = (i ≤ length s) × (length s ≡ length t) × (sameBytes (drop i s) (drop i t) ≡ sameBytes s t)
+Inv-loop s t i₀ i = (i ≤ length s) × (length s ≡ length t) × (equalBytes (drop i s) (drop i t) ≡ equalBytes s t)
 
 abbrev μ-loop : tie.MeasureT-loop
 μ-loop s t i₀ i = length s - i
@@ -28,8 +28,10 @@ shared-slice-read-if2-2 c = search needs
 
 returns-2 : tie.Need-returns-2 Inv-loop μ-loop
 returns-2 c =
-    let l = c .before .before .before .before .loop in
-    let a = c .before .before .before .before .before .before .args in
+    let d1 = c .before .before .before .before in
+    let start = d1 .before .before in
+    let l = d1 .loop in
+    let a = start .args in
     same-off (a .s .now) (a .t .now) (l .i) (omega arith) (omega (arith, l .inv .1)) (c .if2 .taken) ∙ l .inv .2
 
 add-i : tie.Need-add-i Inv-loop μ-loop
@@ -40,8 +42,10 @@ loop-less c = search needs
 
 loop-again : tie.Need-loop-again Inv-loop μ-loop
 loop-again c =
-    let l = c .before .before .before .before .loop in
-    let a = c .before .before .before .before .before .before .args in (
+    let d1 = c .before .before .before .before in
+    let start = d1 .before .before in
+    let l = d1 .loop in
+    let a = start .args in (
       omega arith,
       l .inv .1,
       same-on (a .s .now) (a .t .now) (l .i) (omega arith) (omega (arith, l .inv .1)) (c .if2 .left) ∙ l .inv .2,

@@ -10,16 +10,30 @@ byte-at-requires : tie.Need-byte-at-requires
 byte-at-requires c κs = search needs
 
 returns : tie.Need-returns
-returns c = let a = c .before .before .before .before in bool-value (a .args .s .now) (a .args .at) (a .args .basic) (a .args .len) (a .pre) _ (c .before .before .match .keys1) (c .before .if1 .taken) (c .byte-at .ensures)
+returns c =
+    let d1 = c .before in
+    let d2 = d1 .before in
+    let d3 = d2 .before .before in
+    let a = d3 in bool-value (a .args .s .now) (a .args .at) (a .args .basic) (a .args .len) (a .pre) _ (d2 .match .keys1) (d1 .if1 .taken) (c .byte-at .ensures)
 
 u64-at-requires : tie.Need-u64-at-requires
 u64-at-requires c κs = search needs
 
 returns-2 : tie.Need-returns-2
-returns-2 c = let a = c .before .before .before .before .before in double-plain (a .args .s .now) (a .args .at) (a .args .basic) (a .args .len) (a .pre) _ (c .before .before .before .match .keys3) (c .before .before .if2 .taken) (c .before .u64-at .ensures) (c .if3 .taken)
+returns-2 c =
+    let d1 = c .before in
+    let d2 = d1 .before in
+    let d3 = d2 .before in
+    let d4 = d3 .before .before in
+    let a = d4 in double-plain (a .args .s .now) (a .args .at) (a .args .basic) (a .args .len) (a .pre) _ (d3 .match .keys3) (d2 .if2 .taken) (d1 .u64-at .ensures) (c .if3 .taken)
 
 returns-3 : tie.Need-returns-3
-returns-3 c = let a = c .before .before .before .before .before in double-nan (a .args .s .now) (a .args .at) (a .args .basic) (a .args .len) (a .pre) _ (c .before .before .before .match .keys3) (c .before .before .if2 .taken) (c .before .u64-at .ensures) (c .if3 .left)
+returns-3 c =
+    let d1 = c .before in
+    let d2 = d1 .before in
+    let d3 = d2 .before in
+    let d4 = d3 .before .before in
+    let a = d4 in double-nan (a .args .s .now) (a .args .at) (a .args .basic) (a .args .len) (a .pre) _ (d3 .match .keys3) (d2 .if2 .taken) (d1 .u64-at .ensures) (c .if3 .left)
 
 returns-4 : tie.Need-returns-4
 returns-4 c = let a = c .before .before .before in bool-long (a .args .s .now) (a .args .at) (a .args .basic) (a .args .len) (a .pre) (c .before .match .keys1) (c .if1 .left)

@@ -20,7 +20,10 @@ flag-requires : tie.Need-flag-requires
 flag-requires c κs = search needs
 
 slice-write-out : tie.Need-slice-write-out
-slice-write-out c = let a = c .before .before .before .before .before in let r = room (a .args .out .now) (a .args .at) 1 (bool-written (a .args .x) (c .before .before .k .given .1)) refl (a .pre) in omega arith
+slice-write-out c =
+    let d1 = c .before .before in
+    let d2 = d1 .before .before .before in
+    let a = d2 in let r = room (a .args .out .now) (a .args .at) 1 (bool-written (a .args .x) (d1 .k .given .1)) refl (a .pre) in omega arith
 
 enum-known-k-2 : tie.Need-enum-known-k-2
 enum-known-k-2 c = search needs
@@ -38,7 +41,10 @@ double-bits-requires : tie.Need-double-bits-requires
 double-bits-requires c κs = search needs
 
 put-u64-requires : tie.Need-put-u64-requires
-put-u64-requires c κs = let a = c .before .before .before .before .before .before in room (a .args .out .now) (a .args .at) 8 (double-written (a .args .x) (c .before .before .before .k3 .given .1)) (length-littleEndian 8 _) (a .pre)
+put-u64-requires c κs =
+    let d1 = c .before .before .before in
+    let d2 = d1 .before .before .before in
+    let a = d2 in room (a .args .out .now) (a .args .at) 8 (double-written (a .args .x) (d1 .k3 .given .1)) (length-littleEndian 8 _) (a .pre)
 
 enum-known-k-4 : tie.Need-enum-known-k-4
 enum-known-k-4 c = search needs
@@ -68,7 +74,10 @@ same-length : tie.Need-same-length
 same-length c = search needs
 
 returns : tie.Need-returns
-returns c = let a = c .before .before .before .before .before in wrote-byte (a .args .out .now) _ (a .args .at) (bytesOf (valueOf (a .args .x))) (bool-written (a .args .x) (c .before .before .k .given .1)) (a .pre) (c .flag .ensures) refl
+returns c =
+    let d1 = c .before .before in
+    let d2 = d1 .before .before .before in
+    let a = d2 in wrote-byte (a .args .out .now) _ (a .args .at) (bytesOf (valueOf (a .args .x))) (bool-written (a .args .x) (d1 .k .given .1)) (a .pre) (c .flag .ensures) refl
 
 same-length-2 : tie.Need-same-length-2
 same-length-2 c = search needs
@@ -109,13 +118,21 @@ same-length-5 : tie.Need-same-length-5
 same-length-5 c = search needs
 
 returns-5 : tie.Need-returns-5
-returns-5 c = let a = c .before .before .before .before .before .before .before in wrote-all (a .args .out .now) (c .before .before .write-beside .last .0) (a .args .at) (bytesOf (valueOf (a .args .x))) (c .before .before .write-beside .result) (string-written (a .args .x) (c .before .before .before .before .enum-told .given .1)) (c .before .before .write-beside .ensures)
+returns-5 c =
+    let d1 = c .before .before in
+    let d2 = d1 .before .before in
+    let d3 = d2 .before .before .before in
+    let a = d3 in wrote-all (a .args .out .now) (d1 .write-beside .last .0) (a .args .at) (bytesOf (valueOf (a .args .x))) (d1 .write-beside .result) (string-written (a .args .x) (d2 .enum-told .given .1)) (d1 .write-beside .ensures)
 
 same-length-6 : tie.Need-same-length-6
 same-length-6 c = search needs
 
 returns-6 : tie.Need-returns-6
-returns-6 c = let a = c .before .before .before .before .before .before .before in wrote-all (a .args .out .now) (c .before .before .write-beside2 .last .0) (a .args .at) (bytesOf (valueOf (a .args .x))) (c .before .before .write-beside2 .result) (raw-written (a .args .x) (c .before .before .before .before .enum-told2 .given .1)) (c .before .before .write-beside2 .ensures)
+returns-6 c =
+    let d1 = c .before .before in
+    let d2 = d1 .before .before in
+    let d3 = d2 .before .before .before in
+    let a = d3 in wrote-all (a .args .out .now) (d1 .write-beside2 .last .0) (a .args .at) (bytesOf (valueOf (a .args .x))) (d1 .write-beside2 .result) (raw-written (a .args .x) (d2 .enum-told2 .given .1)) (d1 .write-beside2 .ensures)
 
 returns-7 : tie.Need-returns-7
 returns-7 c = let a = c .before .before .before in wrote-none (a .args .out .now) (a .args .at) (bytesOf (valueOf (a .args .x))) (void-written (a .args .x) (c .enum-told3 .given .1))

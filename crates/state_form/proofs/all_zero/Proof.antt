@@ -5,7 +5,7 @@ use Rattle.state_form.proofs.all_zero.Statement.{statement}
 use Rattle.state_form.proofs.all_zero.Tie as tie
 use Rattle.state_form.proofs.all_zero.Reads as reads
 use Rattle.state_form.proofs.all_zero.Lts as lts
-use Rattle.layout.proofs.both.Reads as both-reads
+use Rattle.network_layout.proofs.both.Reads as both-reads
 use Rattle.state_form.proofs.end_of.Reads as end-of-reads
 
 abbrev Inv-loop : tie.InvT-loop

@@ -11,9 +11,9 @@ use Rattle.state_rows.proofs.+mark_branches+mark_row.Lts-mark_branches 
 use Rattle.state_rows.proofs.mark_row.Reads as mark-row
 use Rattle.state_rows.proofs.mark_row.Kinds as mark-row-kinds
 use Rattle.state_rows.proofs.+mark_branches+mark_row.Lts-mark_row as mark-row-lts
-use Rattle.layout.proofs.start.Reads as start-reads
-use Rattle.row_parts.proofs.subs_of.Reads as subs-of-reads
-use Rattle.rows.proofs.branch_at.Reads as branch-at-reads
+use Rattle.network_layout.proofs.start.Reads as start-reads
+use Rattle.network_row_parts.proofs.subs_of.Reads as subs-of-reads
+use Rattle.network_rows.proofs.branch_at.Reads as branch-at-reads
 use Rattle.state_rows.proofs.mark.Reads as mark-reads
 use Rattle.wire.proofs.index.Reads as index-reads
 use Rattle.state_rows.proofs.+mark_branches+mark_row.{statement}

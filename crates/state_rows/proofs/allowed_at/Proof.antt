@@ -4,7 +4,7 @@ use Rattle.state_rows.proofs.allowed_at.Statement.{statement}
 use Rattle.state_rows.proofs.allowed_at.Tie as tie
 use Rattle.state_rows.proofs.allowed_at.Reads as reads
 use Rattle.state_rows.proofs.allowed_at.Lts as lts
-use Rattle.rows.proofs.behaviour_row.Reads as behaviour-row-reads
+use Rattle.network_rows.proofs.behaviour_row.Reads as behaviour-row-reads
 use Rattle.state_rows.proofs.allowed_by.Reads as allowed-by-reads
 use Rattle.state_rows.proofs.allowing.Reads as allowing-reads
 use Rattle.wire.proofs.index.Reads as index-reads

@@ -4,9 +4,9 @@ use Rattle.state_rows.proofs.is_destination.Statement.{statement}
 use Rattle.state_rows.proofs.is_destination.Tie as tie
 use Rattle.state_rows.proofs.is_destination.Reads as reads
 use Rattle.state_rows.proofs.is_destination.Lts as lts
-use Rattle.layout.proofs.behaviour_count.Reads as behaviour-count-reads
-use Rattle.layout.proofs.both.Reads as both-reads
-use Rattle.layout.proofs.service_count.Reads as service-count-reads
+use Rattle.network_layout.proofs.behaviour_count.Reads as behaviour-count-reads
+use Rattle.network_layout.proofs.both.Reads as both-reads
+use Rattle.network_layout.proofs.service_count.Reads as service-count-reads
 use Rattle.wire.proofs.byte_to_u16.Reads as byte-to-u16-reads
 
 enum-known-d : tie.Need-enum-known-d

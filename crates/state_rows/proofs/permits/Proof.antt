@@ -4,8 +4,8 @@ use Rattle.state_rows.proofs.permits.Statement.{statement}
 use Rattle.state_rows.proofs.permits.Tie as tie
 use Rattle.state_rows.proofs.permits.Reads as reads
 use Rattle.state_rows.proofs.permits.Lts as lts
-use Rattle.layout.proofs.both.Reads as both-reads
-use Rattle.progress.proofs.progress_at.Reads as progress-at-reads
+use Rattle.network_layout.proofs.both.Reads as both-reads
+use Rattle.state_progress.proofs.progress_at.Reads as progress-at-reads
 use Rattle.state_rows.proofs.is_destination.Reads as is-destination-reads
 use Rattle.wire.proofs.byte_to_u16.Reads as byte-to-u16-reads
 

@@ -4,7 +4,7 @@ use Rattle.state_rows.proofs.rows_of.Statement.{statement}
 use Rattle.state_rows.proofs.rows_of.Tie as tie
 use Rattle.state_rows.proofs.rows_of.Reads as reads
 use Rattle.state_rows.proofs.rows_of.Lts as lts
-use Rattle.layout.proofs.behaviour_count.Reads as behaviour-count-reads
+use Rattle.network_layout.proofs.behaviour_count.Reads as behaviour-count-reads
 use Rattle.state_rows.proofs.mark_row.Reads as mark-row-reads
 
 behaviour-count-requires : tie.Need-behaviour-count-requires

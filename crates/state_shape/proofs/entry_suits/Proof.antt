@@ -4,11 +4,11 @@ use Rattle.state_shape.proofs.entry_suits.Statement.{statement}
 use Rattle.state_shape.proofs.entry_suits.Tie as tie
 use Rattle.state_shape.proofs.entry_suits.Reads as reads
 use Rattle.state_shape.proofs.entry_suits.Lts as lts
-use Rattle.destinations.proofs.read_reply.Reads as read-reply-reads
-use Rattle.layout.proofs.operation_count.Reads as operation-count-reads
-use Rattle.rows.proofs.operation_direction.Reads as operation-direction-reads
-use Rattle.rows.proofs.operation_service.Reads as operation-service-reads
-use Rattle.rows.proofs.operation_two_way.Reads as operation-two-way-reads
+use Rattle.state_destinations.proofs.read_reply.Reads as read-reply-reads
+use Rattle.network_layout.proofs.operation_count.Reads as operation-count-reads
+use Rattle.network_rows.proofs.operation_direction.Reads as operation-direction-reads
+use Rattle.network_rows.proofs.operation_service.Reads as operation-service-reads
+use Rattle.network_rows.proofs.operation_two_way.Reads as operation-two-way-reads
 use Rattle.state_shape.proofs.reply_suits.Reads as reply-suits-reads
 use Rattle.wire.proofs.byte_at.Reads as byte-at-reads
 

@@ -4,7 +4,7 @@ use Rattle.state_shape.proofs.reply_suits.Statement.{statement}
 use Rattle.state_shape.proofs.reply_suits.Tie as tie
 use Rattle.state_shape.proofs.reply_suits.Reads as reads
 use Rattle.state_shape.proofs.reply_suits.Lts as lts
-use Rattle.layout.proofs.both.Reads as both-reads
+use Rattle.network_layout.proofs.both.Reads as both-reads
 use Rattle.state_rows.proofs.is_destination.Reads as is-destination-reads
 
 enum-told : tie.Need-enum-told

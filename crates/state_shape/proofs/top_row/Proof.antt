@@ -4,9 +4,9 @@ use Rattle.state_shape.proofs.top_row.Statement.{statement}
 use Rattle.state_shape.proofs.top_row.Tie as tie
 use Rattle.state_shape.proofs.top_row.Reads as reads
 use Rattle.state_shape.proofs.top_row.Lts as lts
-use Rattle.layout.proofs.service_count.Reads as service-count-reads
-use Rattle.rows.proofs.client_row.Reads as client-row-reads
-use Rattle.rows.proofs.starter_row.Reads as starter-row-reads
+use Rattle.network_layout.proofs.service_count.Reads as service-count-reads
+use Rattle.network_rows.proofs.client_row.Reads as client-row-reads
+use Rattle.network_rows.proofs.starter_row.Reads as starter-row-reads
 
 service-count-requires : tie.Need-service-count-requires
 service-count-requires c κs = search needs

@@ -74,7 +74,12 @@ add-t16 : tie.Need-add-t16
 add-t16 c = search needs
 
 returns-5 : tie.Need-returns-5
-returns-5 c = head-node _ _ _ _ _ _ (c .before .before .before .before .before .before .before .wide .ensures .0) (omega arith) (c .before .before .before .before .value-ok .ensures) (c .before .before .before .if4 .left) (c .before .before .u16-at .ensures) refl
+returns-5 c =
+    let d1 = c .before .before in
+    let d2 = d1 .before in
+    let d3 = d2 .before in
+    let d4 = d3 .before .before .before in
+    head-node _ _ _ _ _ _ (d4 .wide .ensures .0) (omega arith) (d3 .value-ok .ensures) (d2 .if4 .left) (d1 .u16-at .ensures) refl
 
 pub head-at-spec : {M : Type 1} → statement M
 head-at-spec =

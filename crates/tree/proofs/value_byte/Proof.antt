@@ -14,7 +14,10 @@ sub-if2 : tie.Need-sub-if2
 sub-if2 c = search needs
 
 returns-2 : tie.Need-returns-2
-returns-2 c = value-none (c .before .before .before .args .s .now) (c .before .before .before .args .at) (c .before .before .before .args .k) (omega arith)
+returns-2 c =
+    let start = c .before .before .before in
+    let a = start .args in
+    value-none (a .s .now) (a .at) (a .k) (omega arith)
 
 add-wide : tie.Need-add-wide
 add-wide c = search needs
@@ -26,7 +29,11 @@ wide-requires : tie.Need-wide-requires
 wide-requires c κs = search needs
 
 returns-3 : tie.Need-returns-3
-returns-3 c = value-out (c .before .before .before .before .before .before .args .s .now) (c .before .before .before .before .before .before .args .at) (c .before .before .before .before .before .before .args .k) _ (c .before .wide .ensures .0) (c .if3 .taken)
+returns-3 c =
+    let d1 = c .before in
+    let start = d1 .before .before .before .before .before in
+    let a = start .args in
+    value-out (a .s .now) (a .at) (a .k) _ (d1 .wide .ensures .0) (c .if3 .taken)
 
 sub-if4 : tie.Need-sub-if4
 sub-if4 c = search needs
@@ -35,7 +42,10 @@ sub-if4-2 : tie.Need-sub-if4-2
 sub-if4-2 c = search needs
 
 returns-4 : tie.Need-returns-4
-returns-4 c = value-cut (c .before .before .before .before .before .before .before .args .s .now) (c .before .before .before .before .before .before .before .args .at) (c .before .before .before .before .before .before .before .args .k) (omega arith)
+returns-4 c =
+    let start = c .before .before .before .before .before .before .before in
+    let a = start .args in
+    value-cut (a .s .now) (a .at) (a .k) (omega arith)
 
 add-result : tie.Need-add-result
 add-result c = search needs
@@ -47,7 +57,12 @@ shared-slice-read-result : tie.Need-shared-slice-read-result
 shared-slice-read-result c = search needs
 
 returns-5 : tie.Need-returns-5
-returns-5 c = value-in (c .before .before .before .before .before .before .before .before .args .s .now) (c .before .before .before .before .before .before .before .before .args .at) (c .before .before .before .before .before .before .before .before .args .k) _ (c .before .before .before .wide .ensures .0) (c .before .before .if3 .left)
+returns-5 c =
+    let d1 = c .before .before in
+    let d2 = d1 .before in
+    let start = d2 .before .before .before .before .before in
+    let a = start .args in
+    value-in (a .s .now) (a .at) (a .k) _ (d2 .wide .ensures .0) (d1 .if3 .left)
 
 pub value-byte-spec : {M : Type 1} → statement M
 value-byte-spec =

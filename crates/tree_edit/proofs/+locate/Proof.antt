@@ -9,259 +9,63 @@ use Prim.Native.Nat.{ℕ, _<_}
 use borrow.Fn.Kinds.{In}
 use borrow.Fn.PlainCycle.{Measures, is, falls, and}
 use Rattle.tree_edit.proofs.locate.Reads as locate
-use Rattle.tree_edit.proofs.locate.Kinds as locate-kinds
-use Rattle.tree_edit.proofs.+locate.Lts-locate as locate-lts
+use Rattle.tree_edit.proofs.locate.Kinds as kinds
+use Rattle.tree_edit.proofs.+locate.Lts-locate as lts
 use Rattle.tree.proofs.extent.Reads as extent-reads
 use Rattle.tree.proofs.head_at.Reads as head-at-reads
 use Rattle.tree.proofs.is_last.Reads as is-last-reads
 use Rattle.tree_edit.proofs.+locate.{statement}
 use Rattle.tree_edit.proofs.+locate.Tie.{close}
 
-abbrev μ-locate : Measures 1 locate-kinds.ps ℕ
-μ-locate κs a = 256 * (4 - a .1 .1 .0) + a .1 .1 .1 .1 .1 .0
+abbrev μ : Measures 1 kinds.ps ℕ
+μ κs a = 256 * (4 - a .1 .1 .0) + a .1 .1 .1 .1 .1 .0
 
-abbrev locate-at : ℕ → In 1 locate-kinds.ps
-locate-at t = and 1 locate-kinds.ps (is 1 locate-kinds.ps μ-locate t) locate.Pre
+abbrev now-at : ℕ → In 1 kinds.ps
+now-at t = and 1 kinds.ps (is 1 kinds.ps μ t) locate.Pre
 
-abbrev locate-below : ℕ → In 1 locate-kinds.ps
-locate-below t = and 1 locate-kinds.ps (falls 1 locate-kinds.ps _<_ μ-locate t) locate.Pre
+abbrev below : ℕ → In 1 kinds.ps
+below t = and 1 kinds.ps (falls 1 kinds.ps _<_ μ t) locate.Pre
 
-locate-returns : (t : ℕ) → locate-lts.Need-returns (
-  head-at-reads.Asked,
-  head-at-reads.Learnt,
-  extent-reads.Asked,
-  extent-reads.Learnt,
-  locate-below t,
-  locate.Post,
-  is-last-reads.Asked,
-  is-last-reads.Learnt,
-) (locate-at t) locate.Post
-locate-returns t c = search locate-laws depth 12
+abbrev claims : ℕ → lts.Claims
+claims t = (head-at-reads.Asked, head-at-reads.Learnt, extent-reads.Asked, extent-reads.Learnt, below t, locate.Post, is-last-reads.Asked, is-last-reads.Learnt)
 
-locate-head-at-requires : (t : ℕ) → locate-lts.Need-head-at-requires (
-  head-at-reads.Asked,
-  head-at-reads.Learnt,
-  extent-reads.Asked,
-  extent-reads.Learnt,
-  locate-below t,
-  locate.Post,
-  is-last-reads.Asked,
-  is-last-reads.Learnt,
-) (locate-at t) locate.Post
-locate-head-at-requires t c κs = search needs
+locate-requires : (t : ℕ) → lts.Need-locate-requires (claims t) (now-at t) locate.Post
+locate-requires t c κs = (omega arith, omega arith)
 
-locate-enum-known-j : (t : ℕ) → locate-lts.Need-enum-known-j (
-  head-at-reads.Asked,
-  head-at-reads.Learnt,
-  extent-reads.Asked,
-  extent-reads.Learnt,
-  locate-below t,
-  locate.Post,
-  is-last-reads.Asked,
-  is-last-reads.Learnt,
-) (locate-at t) locate.Post
-locate-enum-known-j t c = search needs
-
-locate-enum-told : (t : ℕ) → locate-lts.Need-enum-told (
-  head-at-reads.Asked,
-  head-at-reads.Learnt,
-  extent-reads.Asked,
-  extent-reads.Learnt,
-  locate-below t,
-  locate.Post,
-  is-last-reads.Asked,
-  is-last-reads.Learnt,
-) (locate-at t) locate.Post
-locate-enum-told t c = search needs
-
-locate-returns-2 : (t : ℕ) → locate-lts.Need-returns-2 (
-  head-at-reads.Asked,
-  head-at-reads.Learnt,
-  extent-reads.Asked,
-  extent-reads.Learnt,
-  locate-below t,
-  locate.Post,
-  is-last-reads.Asked,
-  is-last-reads.Learnt,
-) (locate-at t) locate.Post
-locate-returns-2 t c = search locate-laws depth 12
-
-locate-mul-id : (t : ℕ) → locate-lts.Need-mul-id (
-  head-at-reads.Asked,
-  head-at-reads.Learnt,
-  extent-reads.Asked,
-  extent-reads.Learnt,
-  locate-below t,
-  locate.Post,
-  is-last-reads.Asked,
-  is-last-reads.Learnt,
-) (locate-at t) locate.Post
-locate-mul-id t c = search needs
-
-locate-array-read-id : (t : ℕ) → locate-lts.Need-array-read-id (
-  head-at-reads.Asked,
-  head-at-reads.Learnt,
-  extent-reads.Asked,
-  extent-reads.Learnt,
-  locate-below t,
-  locate.Post,
-  is-last-reads.Asked,
-  is-last-reads.Learnt,
-) (locate-at t) locate.Post
-locate-array-read-id t c = search needs
-
-locate-returns-3 : (t : ℕ) → locate-lts.Need-returns-3 (
-  head-at-reads.Asked,
-  head-at-reads.Learnt,
-  extent-reads.Asked,
-  extent-reads.Learnt,
-  locate-below t,
-  locate.Post,
-  is-last-reads.Asked,
-  is-last-reads.Learnt,
-) (locate-at t) locate.Post
-locate-returns-3 t c = search locate-laws depth 12
-
-locate-extent-requires : (t : ℕ) → locate-lts.Need-extent-requires (
-  head-at-reads.Asked,
-  head-at-reads.Learnt,
-  extent-reads.Asked,
-  extent-reads.Learnt,
-  locate-below t,
-  locate.Post,
-  is-last-reads.Asked,
-  is-last-reads.Learnt,
-) (locate-at t) locate.Post
-locate-extent-requires t c κs = search needs
-
-locate-sub-locate : (t : ℕ) → locate-lts.Need-sub-locate (
-  head-at-reads.Asked,
-  head-at-reads.Learnt,
-  extent-reads.Asked,
-  extent-reads.Learnt,
-  locate-below t,
-  locate.Post,
-  is-last-reads.Asked,
-  is-last-reads.Learnt,
-) (locate-at t) locate.Post
-locate-sub-locate t c = search needs
-
-locate-locate-requires : (t : ℕ) → locate-lts.Need-locate-requires (
-  head-at-reads.Asked,
-  head-at-reads.Learnt,
-  extent-reads.Asked,
-  extent-reads.Learnt,
-  locate-below t,
-  locate.Post,
-  is-last-reads.Asked,
-  is-last-reads.Learnt,
-) (locate-at t) locate.Post
-locate-locate-requires t c κs = (omega arith, omega arith)
-
-locate-returns-4 : (t : ℕ) → locate-lts.Need-returns-4 (
-  head-at-reads.Asked,
-  head-at-reads.Learnt,
-  extent-reads.Asked,
-  extent-reads.Learnt,
-  locate-below t,
-  locate.Post,
-  is-last-reads.Asked,
-  is-last-reads.Learnt,
-) (locate-at t) locate.Post
-locate-returns-4 t c = search locate-laws depth 12
-
-locate-is-last-requires : (t : ℕ) → locate-lts.Need-is-last-requires (
-  head-at-reads.Asked,
-  head-at-reads.Learnt,
-  extent-reads.Asked,
-  extent-reads.Learnt,
-  locate-below t,
-  locate.Post,
-  is-last-reads.Asked,
-  is-last-reads.Learnt,
-) (locate-at t) locate.Post
-locate-is-last-requires t c κs = search needs
-
-locate-returns-5 : (t : ℕ) → locate-lts.Need-returns-5 (
-  head-at-reads.Asked,
-  head-at-reads.Learnt,
-  extent-reads.Asked,
-  extent-reads.Learnt,
-  locate-below t,
-  locate.Post,
-  is-last-reads.Asked,
-  is-last-reads.Learnt,
-) (locate-at t) locate.Post
-locate-returns-5 t c = search locate-laws depth 12
-
-locate-add-locate : (t : ℕ) → locate-lts.Need-add-locate (
-  head-at-reads.Asked,
-  head-at-reads.Learnt,
-  extent-reads.Asked,
-  extent-reads.Learnt,
-  locate-below t,
-  locate.Post,
-  is-last-reads.Asked,
-  is-last-reads.Learnt,
-) (locate-at t) locate.Post
-locate-add-locate t c = search needs
-
-locate-locate-requires-2 : (t : ℕ) → locate-lts.Need-locate-requires-2 (
-  head-at-reads.Asked,
-  head-at-reads.Learnt,
-  extent-reads.Asked,
-  extent-reads.Learnt,
-  locate-below t,
-  locate.Post,
-  is-last-reads.Asked,
-  is-last-reads.Learnt,
-) (locate-at t) locate.Post
-locate-locate-requires-2 t c κs =
-    let l : length (c .before .before .before .before .before .before .before .before .before .before .before .args .t2) ≡ 4 = search needs in
-    let p = steps-next (c .before .before .before .before .before .before .before .before .before .before .before .args .t2) (c .before .before .before .before .before .before .before .before .before .before .before .args .k) l (sym (c .before .is-last .ensures) ∙ c .if4 .left) in
+locate-requires-2 : (t : ℕ) → lts.Need-locate-requires-2 (claims t) (now-at t) locate.Post
+locate-requires-2 t c κs =
+    let d1 = c .before in
+    let d2 = d1 .before .before .before .before .before .before .before .before .before in
+    let start = d2 .before in
+    let l : length (start .args .t2) ≡ 4 = search needs in
+    let p = steps-next (start .args .t2) (start .args .k) l (sym (d1 .is-last .ensures) ∙ c .if4 .left) in
     (omega (arith, p .0), p .0)
 
-locate-returns-6 : (t : ℕ) → locate-lts.Need-returns-6 (
-  head-at-reads.Asked,
-  head-at-reads.Learnt,
-  extent-reads.Asked,
-  extent-reads.Learnt,
-  locate-below t,
-  locate.Post,
-  is-last-reads.Asked,
-  is-last-reads.Learnt,
-) (locate-at t) locate.Post
-locate-returns-6 t c =
-    let l : length (c .before .before .before .before .before .before .before .before .before .before .before .before .args .t2) ≡ 4 = search needs in
-    search (locate-deep (c .before .before .before .before .before .before .before .before .before .before .before .before .args .s .now) (c .before .before .before .before .before .before .before .before .before .before .before .before .args .t2)) depth 12
+returns-6 : (t : ℕ) → lts.Need-returns-6 (claims t) (now-at t) locate.Post
+returns-6 t c =
+    let d6 = c .before .before .before .before .before .before in
+    let start = d6 .before .before .before .before .before .before in
+    let l : length (start .args .t2) ≡ 4 = search needs in
+    search (locate-deep (start .args .s .now) (start .args .t2)) depth 12
 
 pub +locate-spec : {M : Type 1} → statement M
-+locate-spec = close μ-locate λ t. locate-lts.spec (
-  head-at-reads.Asked,
-  head-at-reads.Learnt,
-  extent-reads.Asked,
-  extent-reads.Learnt,
-  locate-below t,
-  locate.Post,
-  is-last-reads.Asked,
-  is-last-reads.Learnt,
-)
-    (locate-at t)
++locate-spec = close μ λ t. lts.spec (claims t)
+    (now-at t)
     locate.Post
-    (locate-returns t)
-    (locate-head-at-requires t)
-    (locate-enum-known-j t)
-    (locate-enum-told t)
-    (locate-returns-2 t)
-    (locate-mul-id t)
-    (locate-array-read-id t)
-    (locate-returns-3 t)
-    (locate-extent-requires t)
-    (locate-sub-locate t)
-    (locate-locate-requires t)
-    (locate-returns-4 t)
-    (locate-is-last-requires t)
-    (locate-returns-5 t)
-    (locate-add-locate t)
-    (locate-locate-requires-2 t)
-    (locate-returns-6 t)
+    (λ c. search locate-laws depth 12)
+    (λ c κs. search needs)
+    (λ c. search needs)
+    (λ c. search needs)
+    (λ c. search locate-laws depth 12)
+    (λ c. search needs)
+    (λ c. search needs)
+    (λ c. search locate-laws depth 12)
+    (λ c κs. search needs)
+    (λ c. search needs)
+    (locate-requires t)
+    (λ c. search locate-laws depth 12)
+    (λ c κs. search needs)
+    (λ c. search locate-laws depth 12)
+    (λ c. search needs)
+    (locate-requires-2 t)
+    (returns-6 t)

@@ -1,4 +1,4 @@
-use Rattle.tree_edit.specs.Wrote.{padded}
+use Rattle.tree_edit.specs.Wrote.{paddedWith}
 use borrow.Author.Needs.{needs}
 use native.Mathlib.Omega.{arith}
 use mathlib.Core.Path.{_≡_, refl, sym, _∙_}
@@ -8,32 +8,15 @@ use lib.ListN.{length, take}
 use Rattle.tree_edit.proofs.Copying.{pad-length, pad-low, pad-high, front-step, front-all}
 use Rattle.tree_edit.proofs.fill.Statement.{statement}
 use Rattle.tree_edit.proofs.fill.Tie as tie
-use Rattle.tree_edit.proofs.fill.Reads as reads
-use Rattle.tree_edit.proofs.fill.Lts as lts
 
 abbrev Inv-loop : tie.InvT-loop
-Inv-loop r₀ src n i₀ r i = (i ≤ length r₀) × (length r ≡ length r₀) × (take i r ≡ take i (padded (length r₀) src n))
+Inv-loop r₀ src n i₀ r i = (i ≤ length r₀) × (length r ≡ length r₀) × (take i r ≡ take i (paddedWith (length r₀) src n))
 
 abbrev μ-loop : tie.MeasureT-loop
 μ-loop r₀ src n i₀ r i = length r₀ - i
 
 loop-holds : tie.Need-loop-holds Inv-loop μ-loop
 loop-holds c = (search needs, refl, refl)
-
-shared-slice-read-r : tie.Need-shared-slice-read-r Inv-loop μ-loop
-shared-slice-read-r c = search needs
-
-slice-write-r : tie.Need-slice-write-r Inv-loop μ-loop
-slice-write-r c = search needs
-
-slice-write-r-2 : tie.Need-slice-write-r-2 Inv-loop μ-loop
-slice-write-r-2 c = search needs
-
-add-i : tie.Need-add-i Inv-loop μ-loop
-add-i c = search needs
-
-loop-less : tie.Need-loop-less Inv-loop μ-loop
-loop-less c = search needs
 
 loop-again : tie.Need-loop-again Inv-loop μ-loop
 loop-again c =
@@ -56,7 +39,7 @@ returns c =
     let s = c .before .before in
     let a = s .args in
     let len = pad-length (a .src .now) (a .n) (length (a .r .now)) (s .pre .1) (s .pre .0) in
-    front-all (l .r) (padded (length (a .r .now)) (a .src .now) (a .n)) (l .i) (omega arith) (l .inv .1 ∙ sym len) (l .inv .2)
+    front-all (l .r) (paddedWith (length (a .r .now)) (a .src .now) (a .n)) (l .i) (omega arith) (l .inv .1 ∙ sym len) (l .inv .2)
 
 pub fill-spec : {M : Type 1} → statement M
 fill-spec =
@@ -65,11 +48,11 @@ fill-spec =
     Inv-loop
     μ-loop
     loop-holds
-    shared-slice-read-r
-    slice-write-r
-    slice-write-r-2
-    add-i
-    loop-less
+    (λ c. search needs)
+    (λ c. search needs)
+    (λ c. search needs)
+    (λ c. search needs)
+    (λ c. search needs)
     loop-again
     same-length
     returns)

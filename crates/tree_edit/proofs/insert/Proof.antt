@@ -6,64 +6,60 @@ use Rattle.tree_edit.proofs.Copying.{insert-wrote}
 use borrow.Author.Needs.{needs}
 use Rattle.tree_edit.proofs.insert.Statement.{statement}
 use Rattle.tree_edit.proofs.insert.Tie as tie
-use Rattle.tree_edit.proofs.insert.Reads as reads
-use Rattle.tree_edit.proofs.insert.Lts as lts
-use Rattle.tree_edit.proofs.append.Reads as append-reads
-use Rattle.tree_edit.proofs.push_steps.Reads as push-steps-reads
-
-append-requires : tie.Need-append-requires
-append-requires c κs = search needs
-
-add-out : tie.Need-add-out
-add-out c = search needs
-
-shared-slice-read-out : tie.Need-shared-slice-read-out
-shared-slice-read-out c = search needs
-
-add-out-2 : tie.Need-add-out-2
-add-out-2 c = search needs
-
-add-out-3 : tie.Need-add-out-3
-add-out-3 c = search needs
-
-slice-write-out : tie.Need-slice-write-out
-slice-write-out c = search needs
 
 push-steps-requires : tie.Need-push-steps-requires
-push-steps-requires c κs = (c .before .before .before .before .before .before .before .before .before .pre .0 .step, simp length-set (omega (arith, c .before .before .before .before .before .before .before .before .before .pre .0 .step, c .before .before .before .before .before .before .before .before .before .pre .0 .above, c .before .before .before .before .before .before .before .before .before .pre .0 .inside, c .before .before .before .before .before .before .before .before .before .pre .1, c .before .before .before .before .before .before .before .before .before .pre .2, c .before .before .before .before .append .ensures .next, c .before .before .before .before .append .kept .0)))
-
-sub-append : tie.Need-sub-append
-sub-append c = search needs
+push-steps-requires c κs =
+    let d1 = c .before .before .before .before in
+    let start = d1 .before .before .before .before .before in
+    (start .pre .0 .step, simp length-set (omega (arith, start .pre .0 .step, start .pre .0 .above, start .pre .0 .inside, start .pre .1, start .pre .2, d1 .append .ensures .next, d1 .append .kept .0)))
 
 append-requires-2 : tie.Need-append-requires-2
-append-requires-2 c κs = (omega (arith, c .before .before .before .before .before .before .before .before .before .before .before .before .before .pre .0 .step, c .before .before .before .before .before .before .before .before .before .before .before .before .before .pre .0 .above, c .before .before .before .before .before .before .before .before .before .before .before .before .before .pre .0 .inside, c .before .before .before .before .before .before .before .before .before .before .before .before .before .pre .1, c .before .before .before .before .before .before .before .before .before .before .before .before .before .pre .2), omega (arith, c .before .before .before .before .before .before .before .before .before .before .before .before .before .pre .0 .step, c .before .before .before .before .before .before .before .before .before .before .before .before .before .pre .0 .above, c .before .before .before .before .before .before .before .before .before .before .before .before .before .pre .0 .inside, c .before .before .before .before .before .before .before .before .before .before .before .before .before .pre .1, c .before .before .before .before .before .before .before .before .before .before .before .before .before .pre .2, c .before .before .before .before .before .before .before .before .append .ensures .next, c .before .before .before .before .before .before .before .before .append .kept .0, c .before .before .before .push-steps .ensures .0, simp length-set at (c .before .before .before .push-steps .kept .0)))
-
-sub-append-2 : tie.Need-sub-append-2
-sub-append-2 c = search needs
+append-requires-2 c κs =
+    let d1 = c .before .before .before in
+    let d2 = d1 .before .before .before .before .before in
+    let start = d2 .before .before .before .before .before in
+    (omega (arith, start .pre .0 .step, start .pre .0 .above, start .pre .0 .inside, start .pre .1, start .pre .2), omega (arith, start .pre .0 .step, start .pre .0 .above, start .pre .0 .inside, start .pre .1, start .pre .2, d2 .append .ensures .next, d2 .append .kept .0, d1 .push-steps .ensures .0, simp length-set at (d1 .push-steps .kept .0)))
 
 append-requires-3 : tie.Need-append-requires-3
-append-requires-3 c κs = (omega (arith, c .before .before .before .before .before .before .before .before .before .before .before .before .before .before .before .before .before .pre .0 .step, c .before .before .before .before .before .before .before .before .before .before .before .before .before .before .before .before .before .pre .0 .above, c .before .before .before .before .before .before .before .before .before .before .before .before .before .before .before .before .before .pre .0 .inside, c .before .before .before .before .before .before .before .before .before .before .before .before .before .before .before .before .before .pre .1, c .before .before .before .before .before .before .before .before .before .before .before .before .before .before .before .before .before .pre .2), omega (arith, c .before .before .before .before .before .before .before .before .before .before .before .before .before .before .before .before .before .pre .0 .step, c .before .before .before .before .before .before .before .before .before .before .before .before .before .before .before .before .before .pre .0 .above, c .before .before .before .before .before .before .before .before .before .before .before .before .before .before .before .before .before .pre .0 .inside, c .before .before .before .before .before .before .before .before .before .before .before .before .before .before .before .before .before .pre .1, c .before .before .before .before .before .before .before .before .before .before .before .before .before .before .before .before .before .pre .2, c .before .before .before .before .before .before .before .before .before .before .before .before .append .ensures .next, c .before .before .before .before .before .before .before .before .before .before .before .before .append .kept .0, c .before .before .before .before .before .before .before .push-steps .ensures .0, simp length-set at (c .before .before .before .before .before .before .before .push-steps .kept .0), c .before .before .before .append2 .ensures .next, c .before .before .before .append2 .kept .0))
+append-requires-3 c κs =
+    let d1 = c .before .before .before in
+    let d2 = d1 .before .before .before .before in
+    let d3 = d2 .before .before .before .before .before in
+    let start = d3 .before .before .before .before .before in
+    (omega (arith, start .pre .0 .step, start .pre .0 .above, start .pre .0 .inside, start .pre .1, start .pre .2), omega (arith, start .pre .0 .step, start .pre .0 .above, start .pre .0 .inside, start .pre .1, start .pre .2, d3 .append .ensures .next, d3 .append .kept .0, d2 .push-steps .ensures .0, simp length-set at (d2 .push-steps .kept .0), d1 .append2 .ensures .next, d1 .append2 .kept .0))
 
 same-length : tie.Need-same-length
-same-length c = c .before .before .append3 .kept .0 ∙ c .before .before .before .before .before .before .append2 .kept .0 ∙ c .before .before .before .before .before .before .before .before .before .before .push-steps .kept .0 ∙ simp length-set (c .before .before .before .before .before .before .before .before .before .before .before .before .before .before .before .append .kept .0)
+same-length c =
+    let d1 = c .before .before in
+    let d2 = d1 .before .before .before .before in
+    let d3 = d2 .before .before .before .before in
+    let d4 = d3 .before .before .before .before .before in
+    d1 .append3 .kept .0 ∙ d2 .append2 .kept .0 ∙ d3 .push-steps .kept .0 ∙ simp length-set (d4 .append .kept .0)
 
 returns : tie.Need-returns
-returns c = insert-wrote (c .before .before .before .before .before .before .before .before .before .before .before .before .before .before .before .before .before .before .before .before .args .s .now) (c .before .before .before .before .before .before .before .before .before .before .before .before .before .before .before .before .before .before .before .before .args .m .now) (c .before .before .before .before .before .before .before .before .before .before .before .before .before .before .before .before .before .before .before .before .args .p) (c .before .before .before .before .before .before .before .before .before .before .before .before .before .before .before .before .before .before .before .before .args .up + 3) (getD (c .before .before .before .before .before .before .before .before .before .before .before .before .before .before .before .before .before .before .before .before .args .s .now) (c .before .before .before .before .before .before .before .before .before .before .before .before .before .before .before .before .before .before .before .before .args .up + 3) 0 + 1) (c .before .before .before .before .before .before .before .before .before .before .before .before .before .before .before .append .ensures) (omega (arith, c .before .before .before .before .before .before .before .before .before .before .before .before .before .before .before .before .before .before .before .before .pre .0 .step, c .before .before .before .before .before .before .before .before .before .before .before .before .before .before .before .before .before .before .before .before .pre .0 .above, c .before .before .before .before .before .before .before .before .before .before .before .before .before .before .before .before .before .before .before .before .pre .0 .inside, c .before .before .before .before .before .before .before .before .before .before .before .before .before .before .before .before .before .before .before .before .pre .1, c .before .before .before .before .before .before .before .before .before .before .before .before .before .before .before .before .before .before .before .before .pre .2, c .before .before .before .before .before .before .before .before .before .before .before .before .before .before .before .append .ensures .next, c .before .before .before .before .before .before .before .before .before .before .before .before .before .before .before .append .kept .0)) (c .before .before .before .before .before .before .before .before .before .before .push-steps .ensures .1) (c .before .before .before .before .before .before .append2 .ensures) (c .before .before .append3 .ensures) refl refl
+returns c =
+    let d1 = c .before .before in
+    let d2 = d1 .before .before .before .before in
+    let d3 = d2 .before .before .before .before in
+    let d4 = d3 .before .before .before .before .before in
+    let start = d4 .before .before .before .before .before in
+    let a = start .args in
+    insert-wrote (a .s .now) (a .m .now) (a .p) (a .up + 3) (getD (a .s .now) (a .up + 3) 0 + 1) (d4 .append .ensures) (omega (arith, start .pre .0 .step, start .pre .0 .above, start .pre .0 .inside, start .pre .1, start .pre .2, d4 .append .ensures .next, d4 .append .kept .0)) (d3 .push-steps .ensures .1) (d2 .append2 .ensures) (d1 .append3 .ensures) refl refl
 
 pub insert-spec : {M : Type 1} → statement M
 insert-spec =
     tie.close
     (tie.spec
-    append-requires
-    add-out
-    shared-slice-read-out
-    add-out-2
-    add-out-3
-    slice-write-out
+    (λ c κs. search needs)
+    (λ c. search needs)
+    (λ c. search needs)
+    (λ c. search needs)
+    (λ c. search needs)
+    (λ c. search needs)
     push-steps-requires
-    sub-append
+    (λ c. search needs)
     append-requires-2
-    sub-append-2
+    (λ c. search needs)
     append-requires-3
     same-length
     returns)

@@ -1,49 +1,28 @@
-use native.Mathlib.Omega.{arith}
 use mathlib.Core.Path.{refl}
-use Prim.Native.Nat.{_+_}
 use Rattle.tree_edit.proofs.Copying.{leaf-wrote}
 use borrow.Author.Needs.{needs}
 use Rattle.tree_edit.proofs.leaf.Statement.{statement}
 use Rattle.tree_edit.proofs.leaf.Tie as tie
-use Rattle.tree_edit.proofs.leaf.Reads as reads
-use Rattle.tree_edit.proofs.leaf.Lts as lts
-use Rattle.tree_edit.proofs.append.Reads as append-reads
-use Rattle.tree_edit.proofs.push.Reads as push-reads
-use Rattle.tree_edit.proofs.push_id.Reads as push-id-reads
-
-push-id-requires : tie.Need-push-id-requires
-push-id-requires c κs = search needs
-
-push-requires : tie.Need-push-requires
-push-requires c κs = search needs
-
-push-requires-2 : tie.Need-push-requires-2
-push-requires-2 c κs = search needs
-
-cast-push : tie.Need-cast-push
-cast-push c = search needs
-
-push-requires-3 : tie.Need-push-requires-3
-push-requires-3 c κs = search needs
-
-append-requires : tie.Need-append-requires
-append-requires c κs = search needs
-
-same-length : tie.Need-same-length
-same-length c = search needs
 
 returns : tie.Need-returns
-returns c = leaf-wrote (c .before .before .before .before .before .before .before .before .before .before .before .before .before .before .before .before .before .before .before .before .before .before .args .basic) (c .before .before .before .before .before .before .before .before .before .before .before .before .before .before .before .before .before .before .before .before .before .before .args .v .now) (c .before .before .before .before .before .before .before .before .before .before .before .before .before .before .before .before .before .before .push-id .ensures) (c .before .before .before .before .before .before .before .before .before .before .before .before .before .before .push .ensures) (c .before .before .before .before .before .before .before .before .before .before .push2 .ensures) (c .before .before .before .before .before .before .push3 .ensures) (c .before .before .append .ensures) refl
+returns c =
+    let d1 = c .before .before in
+    let d2 = d1 .before .before .before .before in
+    let d3 = d2 .before .before .before .before in
+    let d4 = d3 .before .before .before .before in
+    let d5 = d4 .before .before .before .before in
+    let start = d5 .before .before .before .before in
+    leaf-wrote (start .args .basic) (start .args .v .now) (d5 .push-id .ensures) (d4 .push .ensures) (d3 .push2 .ensures) (d2 .push3 .ensures) (d1 .append .ensures) refl
 
 pub leaf-spec : {M : Type 1} → statement M
 leaf-spec =
     tie.close
     (tie.spec
-    push-id-requires
-    push-requires
-    push-requires-2
-    cast-push
-    push-requires-3
-    append-requires
-    same-length
+    (λ c κs. search needs)
+    (λ c κs. search needs)
+    (λ c κs. search needs)
+    (λ c. search needs)
+    (λ c κs. search needs)
+    (λ c κs. search needs)
+    (λ c. search needs)
     returns)

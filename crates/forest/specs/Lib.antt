@@ -1,4 +1,0 @@
-pub mod Compare
-pub mod Forest
-pub mod ForestLaws
-pub mod Path

@@ -1,0 +1,100 @@
+use Rattle.move_local.proofs.RowLaws.{if-laws}
+use borrow.Author.Needs.{needs}
+use Rattle.move_local.proofs.decide.Statement.{statement}
+use Rattle.move_local.proofs.decide.Tie as tie
+use Rattle.move_local.proofs.decide.Reads as reads
+use Rattle.move_local.proofs.decide.Lts as lts
+use Rattle.move_local.proofs.condition_at.Reads as condition-at-reads
+use Rattle.state_progress.proofs.is_undone.Reads as is-undone-reads
+use Rattle.move_local.proofs.not_allowed.Reads as not-allowed-reads
+use Rattle.move_local.proofs.settle.Reads as settle-reads
+use Rattle.refusal.proofs.refused.Reads as refused-reads
+
+is-undone-requires : tie.Need-is-undone-requires
+is-undone-requires c κs = search needs
+
+not-allowed-requires : tie.Need-not-allowed-requires
+not-allowed-requires c κs = search needs
+
+same-length : tie.Need-same-length
+same-length c = search needs
+
+returns : tie.Need-returns
+returns c = search (if-laws, needs) depth 12
+
+condition-at-requires : tie.Need-condition-at-requires
+condition-at-requires c κs = search needs
+
+enum-told : tie.Need-enum-told
+enum-told c = search needs
+
+settle-requires : tie.Need-settle-requires
+settle-requires c κs = search needs
+
+enum-told-2 : tie.Need-enum-told-2
+enum-told-2 c = search needs
+
+settle-requires-2 : tie.Need-settle-requires-2
+settle-requires-2 c κs = search needs
+
+enum-told-3 : tie.Need-enum-told-3
+enum-told-3 c = search needs
+
+refused-requires : tie.Need-refused-requires
+refused-requires c κs = search needs
+
+enum-told-4 : tie.Need-enum-told-4
+enum-told-4 c = search needs
+
+refused-requires-2 : tie.Need-refused-requires-2
+refused-requires-2 c κs = search needs
+
+same-length-2 : tie.Need-same-length-2
+same-length-2 c = search needs
+
+returns-2 : tie.Need-returns-2
+returns-2 c = search (if-laws, needs) depth 12
+
+same-length-3 : tie.Need-same-length-3
+same-length-3 c = search needs
+
+returns-3 : tie.Need-returns-3
+returns-3 c = search (if-laws, needs) depth 12
+
+same-length-4 : tie.Need-same-length-4
+same-length-4 c = search needs
+
+returns-4 : tie.Need-returns-4
+returns-4 c = search (if-laws, needs) depth 12
+
+same-length-5 : tie.Need-same-length-5
+same-length-5 c = search needs
+
+returns-5 : tie.Need-returns-5
+returns-5 c = search (if-laws, needs) depth 12
+
+pub decide-spec : {M : Type 1} → statement M
+decide-spec =
+    tie.close
+    (tie.spec
+    is-undone-requires
+    not-allowed-requires
+    same-length
+    returns
+    condition-at-requires
+    enum-told
+    settle-requires
+    enum-told-2
+    settle-requires-2
+    enum-told-3
+    refused-requires
+    enum-told-4
+    refused-requires-2
+    same-length-2
+    returns-2
+    same-length-3
+    returns-3
+    same-length-4
+    returns-4
+    same-length-5
+    returns-5)

@@ -1,6 +1,0 @@
-pub mod Made
-pub mod Stepped
-pub mod MadeLaws
-pub mod StepLaws
-pub mod Holding
-pub mod HoldingLaws

@@ -1,3 +1,0 @@
-pub mod Span
-pub mod SpanLaws
-pub mod Located

@@ -1,4 +1,0 @@
-pub mod Meaning
-pub mod Stored
-pub mod StateLaws
-pub mod UndoneLaws

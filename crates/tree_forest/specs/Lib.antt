@@ -1,0 +1,5 @@
+pub mod Limits
+pub mod Compare
+pub mod Forest
+pub mod ForestLaws
+pub mod Path

@@ -1,0 +1,4 @@
+pub mod Part
+pub mod Span
+pub mod SpanLaws
+pub mod Located
