@@ -11,8 +11,10 @@ use Rattle.tree_forest.specs.Forest.{end, node, tree, find, set, measure}
 use Rattle.tree_forest.specs.Path.{Path, path, readSteps, writeSteps}
 use Rattle.integer.specs.Wrap.{pattern, modulo}
 use Rattle.scalar.specs.Basic.{bool, int, double, long, string, void}
-use Rattle.scalar.specs.Value.{value, unsignedOf}
-use Rattle.scalar.specs.Operator.{Answer, littleEndian, ofBool, ofInt, addOf, negateOf}
+use Rattle.scalar.specs.Value.{value}
+use Rattle.wire.specs.Wire.{unsignedOf}
+use Rattle.scalar.specs.Operator.{Answer, ofBool, ofInt, addOf, negateOf}
+use Rattle.wire.specs.Wire.{littleEndian}
 use Rattle.scalar.specs.Operator as Operator
 use Rattle.network_syntax.specs.Syntax.{mark, Types, MessageType, Expression, constant, valueAt, Behaviour, whileDo, sequence, assign}
 use Rattle.check_subtyping.specs.Subtype.{areSubtypes, isSubtype}

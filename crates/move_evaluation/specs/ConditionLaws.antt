@@ -7,7 +7,8 @@ use lib.Dec.{eqb}
 use Rattle.tree_forest.specs.Forest.{Tree, tree}
 use Rattle.refusal.specs.declared.Refusal.the-variants.{Stuck}
 use Rattle.scalar.specs.Basic.{bool}
-use Rattle.scalar.specs.Value.{Value, value, unsignedOf}
+use Rattle.scalar.specs.Value.{Value, value}
+use Rattle.wire.specs.Wire.{unsignedOf}
 use Rattle.basics.specs.Choice.{pick}
 use Rattle.scalar.specs.Scalar.{valueOf, truthOf}
 use Rattle.scalar.specs.declared.Operand.{Operand}

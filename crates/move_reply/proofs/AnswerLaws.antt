@@ -28,7 +28,8 @@ use Rattle.network.specs.Layout.{pathCount, operationCount}
 use Rattle.network.specs.Rows.{replyType}
 use Rattle.network.specs.Decode.{pathOf, operationOf, behaviourOf, networkOf}
 use Rattle.state.specs.Session.{Destination, waitingRow, Progress, done, Session, State}
-use Rattle.state.specs.Bytes.{u32Bytes, messageBytes, stateBytes, readSession}
+use Rattle.state.specs.Bytes.{messageBytes, stateBytes, readSession}
+use Rattle.wire.specs.Wire.{u32Bytes}
 use Rattle.state.specs.SizeLaws.{message-size}
 use Rattle.state_destinations.specs.declared.Destination as destination
 use Rattle.state_destinations.specs.Meaning.{destinationOf}

@@ -29,7 +29,7 @@ use Rattle.network.specs.Decode.{pathOf}
 use Rattle.network_rows.specs.Readers.{pathIds}
 use Rattle.network_row_parts.specs.PathLaws.{ids-path, path-is}
 use Rattle.state.specs.Session.{Session}
-use Rattle.state.specs.Bytes.{u32Bytes}
+use Rattle.wire.specs.Wire.{u32Bytes}
 use Rattle.state.specs.SizeLaws.{session-tree-size}
 use Rattle.state_slots.specs.Slots.{treeIn}
 use Rattle.state_slots.specs.SlotLaws.{living-tree}

@@ -6,7 +6,7 @@ ghost use Prim.Native.Nat.{_+_, _≤_, _<_};
 ghost use lib.ListN.{length};
 ghost use Rattle.tree_edit.specs.Wrote.{Wrote};
 ghost use Rattle.state.specs.Places.{slotSize, treeRoom};
-ghost use Rattle.state.specs.Bytes.{u32Bytes};
+ghost use Rattle.wire.specs.Wire.{u32Bytes};
 ghost use Rattle.move_rules.specs.Moves.{replyMove};
 ghost use Rattle.move_frame.specs.Made.{MadeOut};
 ghost use Rattle.move_reply.specs.Replying.{ReplyingAt, ReadsReply, RepliesOutside, RepliesInside};

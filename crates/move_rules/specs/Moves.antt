@@ -7,7 +7,8 @@ use lib.Dec.{eqb, leb}
 use Rattle.tree_forest.specs.Forest.{end, Tree, tree, Lookup, absent, present, nodes, levels}
 use Rattle.tree_forest.specs.Path.{Path, read, replaceAt, setPayloadAt}
 use Rattle.scalar.specs.Basic.{bool}
-use Rattle.scalar.specs.Value.{voidValue, Value, value, unsignedOf}
+use Rattle.scalar.specs.Value.{voidValue, Value, value}
+use Rattle.wire.specs.Wire.{unsignedOf}
 use Rattle.basics.specs.Choice.{pick}
 use Rattle.network_syntax.specs.Syntax.{MessageType, Expression, Optional, none, some, Network, Operation, input, output, Behaviour}
 use Rattle.network_syntax.specs.Rows.{atRow, Response, Input, Output, Local, assigns, decides, repeats, twoWayInput, twoWayOutput, inputOf, outputOf, localOf}
@@ -22,7 +23,8 @@ use Rattle.network_syntax.specs.Meets.{metInput, inFile, firstOf}
 use Rattle.tree_forest.specs.Limits.{messageLevelsBelow, messageNodesBelow}
 use Rattle.tree.specs.Decode.{decodeMessage}
 use Rattle.state.specs.Queue.{QueueSplit, nothing, message, oldest}
-use Rattle.state.specs.Bytes.{messageBytes, u32Bytes}
+use Rattle.state.specs.Bytes.{messageBytes}
+use Rattle.wire.specs.Wire.{u32Bytes}
 use Rattle.move_rules.specs.Readiness.{isDone, Reached, unreached, reached, offered, reach}
 use Rattle.state.specs.Shape.{behaviourIn}
 use Rattle.move_rules.specs.Targets.{Target, noTarget, queueFull, queued, starts, target}
@@ -230,15 +232,15 @@ admit N G i n answer gone to =
     (λ m. mustFit m (i .request)  -- 19
     (deliver gone i n (target N G i n) to m)))  -- 18: the tree
 
-module _ (N : Network) (G : State) (q n : ℕ) (S : Session) (to : ℕ) where
+module _ (N : Network) (G : State) (q n : ℕ) (S : Session) (session : ℕ) where
   -- Inside: to the input it meets.
   abbrev pub sendInside : ℕ → Expression → Progress → Optional Destination → Operation → Result
-  sendInside r e after back i = admit N G i to (onTree (evaluate (S .tree) e)) (goneOn G q n S r after) back
+  sendInside r e after back i = admit N G i session (onTree (evaluate (S .tree) e)) (goneOn G q n S r after) back
 
   -- "To a location outside (target 0) the message alone goes to the start of the out buffer."
   abbrev pub sendOutside : ℕ → Operation → Expression → Progress → Result
   sendOutside r o e after =
-      require (eqb to 0) MoveNotAllowed  -- 15
+      require (eqb session 0) MoveNotAllowed  -- 15
       (onTree (evaluate (S .tree) e)  -- 18
       (λ m. mustFit m (o .request)  -- 19
       (moved (goneOn G q n S r after) (messageBytes m))))
@@ -272,7 +274,7 @@ module _ (N : Network) (G : State) (q n : ℕ) (S : Session) (to : ℕ) where
   sendReached (offered c k b) = notAllowed
 
 abbrev pub sendMove : Network → State → ℕ → ℕ → ℕ → ℕ → Result
-sendMove N G q n r to = inSession N G q n (λ B S. sendReached N G q n S to (reach (S .progress) r B))
+sendMove N G q n r session = inSession N G q n (λ B S. sendReached N G q n S session (reach (S .progress) r B))
 
 -- The output of a row that waits for its reply: its operation, and the path into which the reply goes.
 abbrev pub onReplyPath : Optional Path → (Path → Result) → Result
@@ -378,7 +380,7 @@ pub data Move : Type 0 where
 unfoldable pub move : Network → State → Move → List ℕ → Result
 move N G (local q n r) bytes = localMove N G q n r
 move N G (receive q n r) bytes = receiveMove N G q n r
-move N G (send q n r to) bytes = sendMove N G q n r to
+move N G (send q n r session) bytes = sendMove N G q n r session
 move N G (reply q n r) bytes = replyMove N G q n r
 move N G (outerMessage q id n number) bytes = outerMessageMove N G q id n number bytes
 move N G (outerReply q n r) bytes = outerReplyMove N G q n r bytes

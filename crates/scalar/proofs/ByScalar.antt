@@ -16,7 +16,8 @@ use Rattle.scalar.specs.declared.Scalar.{Scalar}
 use Rattle.scalar.specs.declared.Truth.{Truth}
 use Rattle.scalar.specs.declared.Operand.{Operand}
 use Rattle.scalar.specs.Basic.{bool, int, double, long, string, raw, void, lastBasic}
-use Rattle.scalar.specs.Value.{unsignedOf, SoundValue, BasicType, basicTypes, noType, basicType, wordOf}
+use Rattle.scalar.specs.Value.{SoundValue, BasicType, basicTypes, noType, basicType, wordOf}
+use Rattle.wire.specs.Wire.{unsignedOf}
 use Rattle.scalar.specs.ValueLaws.{string-short, raw-short, empty-void}
 use Rattle.scalar.specs.NumberLaws.{sound-bool, sound-integer, sound-floating}
 use Rattle.scalar.specs.Operator.{isNumber}

@@ -22,7 +22,8 @@ use Rattle.scalar.specs.declared.Pair.the-variants.{Bools, Ints, Doubles
 use Rattle.scalar.specs.declared.Operand.{Operand}
 use Rattle.scalar.specs.declared.Computed.the-variants.{Wrong, Gives}
 use Rattle.scalar.specs.Basic.{double, string, raw, void}
-use Rattle.scalar.specs.Value.{Value, value, basicOf, unsignedOf, integral, basicType}
+use Rattle.scalar.specs.Value.{Value, value, basicOf, integral, basicType}
+use Rattle.wire.specs.Wire.{unsignedOf}
 use Rattle.scalar.specs.Operator.{Answer, wrong, gives, ofBool, ofInt, ofLong, ofDouble, wrapped, boolOf, bit, equalBytes, alike, Numeric, numericBy, numericOf, adding, subtracting, comparing, equalBy, andBy, notOf, negateOf, andOf, addOf, subtractOf, lessOf, equalOf}
 use Rattle.scalar.specs.NumberLaws.{exact, wrapped-wrap, double-back}
 use Rattle.scalar.specs.Scalar.{valueBeside, beside, valueOf, answerOf, kindOf, AsPair}

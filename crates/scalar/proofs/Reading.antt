@@ -21,10 +21,12 @@ use Rattle.wire.specs.WireLaws.{length-part}
 use Rattle.scalar.specs.declared.Scalar.{Scalar}
 use Rattle.scalar.specs.declared.Scalar.the-variants.{Bool, Int, Double, Long, String, Raw, Void}
 use Rattle.scalar.specs.declared.Operand.{Operand}
-use Rattle.scalar.specs.Value.{Value, value, bytesOf, unsignedOf, isValue, integral, basicType}
+use Rattle.scalar.specs.Value.{Value, value, bytesOf, isValue, integral, basicType}
+use Rattle.wire.specs.Wire.{unsignedOf}
 use Rattle.scalar.specs.Basic.{bool, int, double, long, string, raw, void}
 use Rattle.scalar.specs.ValueLaws.{number-8, number-32, number-64, bool-bytes, integer-bytes, double-bytes, string-bytes, raw-bytes, void-bytes}
-use Rattle.scalar.specs.Operator.{littleEndian, bit, signed, wrapped, doubleOf}
+use Rattle.scalar.specs.Operator.{bit, signed, wrapped, doubleOf}
+use Rattle.wire.specs.Wire.{littleEndian}
 use Rattle.scalar.specs.NumberLaws.{part-bytes, wrapped-signed, double-same, length-littleEndian, put-32, put-64}
 use Rattle.scalar.specs.Scalar.{valueBeside, valueOf, beside}
 

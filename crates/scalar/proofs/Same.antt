@@ -15,7 +15,7 @@ use lib.IntN.{ℤ}
 use Rattle.basics.specs.TestLaws.{agree, and-of}
 use Rattle.integer.specs.WrapLaws.{pattern-exact}
 use Rattle.integer.specs.Wrap.{pattern}
-use Rattle.scalar.specs.Value.{unsignedOf}
+use Rattle.wire.specs.Wire.{unsignedOf}
 use Rattle.scalar.specs.Operator.{wrapped, equalBytes, bit}
 use Rattle.scalar.specs.NumberLaws.{number-wrapped}
 

@@ -21,8 +21,10 @@ use Rattle.wire.specs.WireLaws.{agree-byte, part-agrees, byte-past, length-part
 use Rattle.integer.specs.Wrap.{pattern, wrap}
 use Rattle.integer.specs.WrapLaws.{pattern-fits, pattern-exact, wrap-exact, wrap-fits, wrap-pattern}
 use Rattle.scalar.specs.Basic.{bool}
-use Rattle.scalar.specs.Value.{value, unsignedOf, isValue, isDouble, theNan, SoundValue, integral, floating, noArithmetic, basicType}
-use Rattle.scalar.specs.Operator.{littleEndian, bit, signed, wrapped, rounded, ofBool, doubleOf}
+use Rattle.scalar.specs.Value.{value, isValue, isDouble, theNan, SoundValue, integral, floating, noArithmetic, basicType}
+use Rattle.wire.specs.Wire.{unsignedOf}
+use Rattle.scalar.specs.Operator.{bit, signed, wrapped, rounded, ofBool, doubleOf}
+use Rattle.wire.specs.Wire.{littleEndian}
 use Rattle.scalar.specs.ValueLaws.{every, integer-rule}
 
 -- ---- little-endian bytes

@@ -3,7 +3,7 @@
 -- width; a double sum is rounded once." Operands of another kind are wrong; a move then refuses with 18.
 use mathlib.Core.List.{List, [], _∷_}
 use mathlib.Core.Bool.{Bool, true, false, not, _&&_}
-use Prim.Native.Nat.{ℕ, zero, suc, _%_, _/_}
+use Prim.Native.Nat.{ℕ, zero, _/_}
 use lib.Dec.{eqb}
 use lib.IntN.{ℤ, negℤ, _+ℤ_, _-ℤ_}
 use lib.Signed.{ltZ}
@@ -13,7 +13,8 @@ use mir.Syntax.{Width, w32, w64}
 use mir.Val.{bits, toZ}
 use Rattle.integer.specs.Wrap.{pattern}
 use Rattle.scalar.specs.Basic.{bool, int, double, long, void}
-use Rattle.scalar.specs.Value.{Value, value, unsignedOf, Arithmetic, integral, floating, noArithmetic, basicType}
+use Rattle.scalar.specs.Value.{Value, value, Arithmetic, integral, floating, noArithmetic, basicType}
+use Rattle.wire.specs.Wire.{unsignedOf, littleEndian}
 use Rattle.basics.specs.Choice.{pick}
 
 -- What an operator gives: a value, or that its operands are of the wrong kind.
@@ -22,11 +23,6 @@ pub data Answer : Type 0 where
   gives : Value → Answer
 
 -- ---- what the bytes of a value stand for, and the value of what they stand for
-
--- The n bytes of a number, lowest first ("Numbers are little-endian"); what passes n bytes is dropped.
-unfoldable pub littleEndian : ℕ → ℕ → List ℕ
-littleEndian zero x = []
-littleEndian (suc n) x = x % 256 ∷ littleEndian n (x / 256)
 
 -- "bool one byte 0 or 1"
 abbrev pub boolOf : List ℕ → Bool

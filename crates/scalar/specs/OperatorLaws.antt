@@ -19,10 +19,12 @@ use mir.Val.{bits}
 use Rattle.wire.specs.Wire.{byteAt}
 use Rattle.integer.specs.Wrap.{pattern, modulo}
 use Rattle.scalar.specs.Basic.{bool, int, double, long, void, lastBasic}
-use Rattle.scalar.specs.Value.{Value, value, basicOf, bytesOf, unsignedOf, SoundValue, Arithmetic, integral, floating, noArithmetic, BasicType, basicTypes, noType, basicType}
+use Rattle.scalar.specs.Value.{Value, value, basicOf, bytesOf, SoundValue, Arithmetic, integral, floating, noArithmetic, BasicType, basicTypes, noType, basicType}
+use Rattle.wire.specs.Wire.{unsignedOf}
 use Rattle.basics.specs.Choice.{pick}
 use Rattle.basics.specs.TestLaws.{and-left, and-right}
-use Rattle.scalar.specs.Operator.{Answer, wrong, gives, littleEndian, boolOf, ofBool, signed, wrapped, rounded, ofInt, doubleOf, equalBytes, isNumeric, isNumber}
+use Rattle.scalar.specs.Operator.{Answer, wrong, gives, boolOf, ofBool, signed, wrapped, rounded, ofInt, doubleOf, equalBytes, isNumeric, isNumber}
+use Rattle.wire.specs.Wire.{littleEndian}
 use Rattle.scalar.specs.Operator.{alike, negateBy, Numeric, numericBy, numericOf, adding, subtracting, comparing, andBy, equalBy}
 use Rattle.scalar.specs.Operator.{notOf, negateOf, andOf, addOf, subtractOf, lessOf, equalOf}
 use Rattle.scalar.specs.NumberLaws.{sound-bool, sound-integer, sound-floating, small-littleEndian, small-bit}

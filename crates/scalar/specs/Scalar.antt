@@ -7,7 +7,8 @@ use Prim.Native.Nat.{ℕ}
 use lib.ListN.{take}
 use lib.Dec.{eqb}
 use Rattle.scalar.specs.Basic.{bool, int, double, long, string, raw, void}
-use Rattle.scalar.specs.Value.{Value, value, unsignedOf}
+use Rattle.scalar.specs.Value.{Value, value}
+use Rattle.wire.specs.Wire.{unsignedOf}
 use Rattle.basics.specs.Choice.{pick}
 use Rattle.scalar.specs.Operator.{Answer, wrong, gives, ofBool, ofInt, ofLong, ofDouble}
 use Rattle.scalar.specs.declared.Scalar.{Scalar}

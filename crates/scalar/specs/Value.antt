@@ -3,9 +3,10 @@
 use mathlib.Core.Path.{_≡_}
 use mathlib.Core.List.{List, [], _∷_}
 use mathlib.Core.Bool.{Bool, true, false, _&&_, _||_}
-use Prim.Native.Nat.{ℕ, _+_, _*_, _%_}
+use Prim.Native.Nat.{ℕ, _%_}
 use lib.ListN.{length, getD}
 use lib.Dec.{eqb, leb}
+use Rattle.wire.specs.Wire.{unsignedOf}
 use Rattle.scalar.specs.Basic.{void}
 use mir.Syntax.{Width, w32, w64}
 
@@ -18,11 +19,6 @@ basicOf (value b v) = b
 
 abbrev pub bytesOf : Value → List ℕ
 bytesOf (value b v) = v
-
--- The number that bytes stand for: "Numbers are little-endian".
-unfoldable pub unsignedOf : List ℕ → ℕ
-unsignedOf [] = 0
-unsignedOf (a ∷ l) = a + 256 * unsignedOf l
 
 -- The one NaN's bits.
 abbrev pub theNan : ℕ

@@ -1,7 +1,7 @@
 -- Laws of values: bytes that stand in a slice as numbers, and what `isValue` says at each basic type.
 use mathlib.Core.Path.{_≡_, refl, sym, ap, _∙_}
 use mathlib.Core.List.{List, [], _∷_}
-use mathlib.Core.Bool.{Bool, true, false, _&&_}
+use mathlib.Core.Bool.{Bool, true, false}
 use mathlib.Core.Logic.{_⊎_, ⊎-elim}
 use Prim.Native.Nat.{ℕ, zero, suc, _+_, _*_, _/_, _%_, _≤_, _<_}
 use native.Mathlib.Nat.{add-zero, add-suc, eq-or-lt-of-le}
@@ -16,7 +16,8 @@ use Rattle.basics.specs.TestLaws.{and-of}
 use Rattle.wire.specs.Wire.{byteAt, u16At, u32At, u64At, part}
 use Rattle.wire.specs.WireLaws.{length-part}
 use Rattle.scalar.specs.Basic.{bool, double, long, string, raw, void, lastBasic}
-use Rattle.scalar.specs.Value.{unsignedOf, isValue, isDouble, BasicType, boolType, intType, doubleType, longType, stringType, rawType, voidType, noType, basicTypes, basicType, integral, noArithmetic}
+use Rattle.scalar.specs.Value.{isValue, isDouble, BasicType, boolType, intType, doubleType, longType, stringType, rawType, voidType, noType, basicTypes, basicType, integral, noArithmetic}
+use Rattle.wire.specs.Wire.{unsignedOf}
 
 -- ---- every basic type
 

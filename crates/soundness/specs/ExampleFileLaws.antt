@@ -10,7 +10,8 @@ use Rattle.basics.specs.TestLaws.{and-l, and-r}
 use Rattle.tree_forest.specs.Forest.{end, node, find, set, measure, mapForest}
 use Rattle.tree_forest.specs.Path.{readSteps, writeSteps}
 use Rattle.wire.specs.Wire.{u16At}
-use Rattle.scalar.specs.Value.{unsignedOf, isValue}
+use Rattle.scalar.specs.Value.{isValue}
+use Rattle.wire.specs.Wire.{unsignedOf}
 use Rattle.network_syntax.specs.Syntax.{mark, none, some}
 use Rattle.check_subtyping.specs.Subtype.{areSubtypes}
 use Rattle.check_typing.specs.Checker.{sameTypes, check}

@@ -4,8 +4,10 @@ use mathlib.Core.List.{[], _∷_, _++_}
 use Rattle.wire.specs.Wire.{u16At}
 use Rattle.tree_forest.specs.Forest.{find, set, measure, mapForest}
 use Rattle.tree_forest.specs.Path.{readSteps, writeSteps}
-use Rattle.scalar.specs.Value.{unsignedOf, isValue}
-use Rattle.scalar.specs.Operator.{littleEndian, addOf}
+use Rattle.scalar.specs.Value.{isValue}
+use Rattle.wire.specs.Wire.{unsignedOf}
+use Rattle.scalar.specs.Operator.{addOf}
+use Rattle.wire.specs.Wire.{littleEndian}
 use Rattle.network_syntax.specs.Rows.{rowOf, hasRow, atRow, entry}
 use Rattle.tree.specs.Decode.{headOk, parseSiblings, parse, decode}
 use Rattle.tree.specs.Encode.{rootCount, encode}

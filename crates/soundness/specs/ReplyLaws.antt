@@ -19,7 +19,8 @@ use Rattle.check_typing.specs.Rules.{permits}
 use Rattle.tree.specs.Encode.{Octets}
 use Rattle.tree.specs.Decode.{decodeMessage}
 use Rattle.state.specs.Session.{Destination, outsider, waitingRow, Progress, Progresses, done, waits, received, advance, Session, withTree, withProgress, live, State}
-use Rattle.state.specs.Bytes.{messageBytes, u32Bytes}
+use Rattle.state.specs.Bytes.{messageBytes}
+use Rattle.wire.specs.Wire.{u32Bytes}
 use Rattle.state.specs.Shape.{behaviourIn}
 use Rattle.move_rules.specs.Readiness.{isDone}
 use Rattle.move_rules.specs.Moves.{Result, moved, notAllowed, require, onFound, onMessage, saveWithin, mustFit}

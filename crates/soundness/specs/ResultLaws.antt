@@ -6,7 +6,8 @@ use native.Mathlib.Omega.{arith}
 use lib.Dec.{T, eqb, leb, eqb→eq, le→leb}
 use Rattle.tree_forest.specs.Forest.{Tree, tree, Lookup, absent, present, RisingTree, nodes, levels}
 use Rattle.scalar.specs.Basic.{bool}
-use Rattle.scalar.specs.Value.{Value, value, basicOf, unsignedOf}
+use Rattle.scalar.specs.Value.{Value, value, basicOf}
+use Rattle.wire.specs.Wire.{unsignedOf}
 use Rattle.basics.specs.Choice.{pick}
 use Rattle.basics.specs.TestLaws.{and-i, and-r, not-T-false, of-T}
 use Rattle.network_syntax.specs.Syntax.{MessageType, Optional, none, some, Network, Operation, Behaviour}

@@ -10,7 +10,7 @@ use Rattle.tree_forest.specs.Forest.{Forest, end, Tree, tree, Lookup, absent, p
 use Rattle.scalar.specs.Value.{Value}
 use Rattle.basics.specs.Choice.{pick}
 use Rattle.network_syntax.specs.Syntax.{Optional, none, some}
-use Rattle.wire.specs.Wire.{byteAt, u16At, u32At, part}
+use Rattle.wire.specs.Wire.{byteAt, u16At, u32At, part, u16Bytes, u32Bytes}
 use Rattle.tree.specs.Encode.{encode, rooted, empty}
 use Rattle.tree_forest.specs.Limits.{sessionLevels, sessionNodes}
 use Rattle.tree.specs.Decode.{decode, decodeMessage}
@@ -30,13 +30,6 @@ joined f k (suc n) = f k ++ joined f (suc k) n
 -- The bytes, then zeros up to n bytes in all.
 abbrev pub padded : ℕ → List ℕ → List ℕ
 padded n l = l ++ zeros (n - length l)
-
--- 01: "Numbers are little-endian; u8, u16 and u32 are unsigned."
-abbrev pub u16Bytes : ℕ → List ℕ
-u16Bytes v = v % 256 ∷ v / 256 ∷ []
-
-abbrev pub u32Bytes : ℕ → List ℕ
-u32Bytes v = v % 256 ∷ v / 256 % 256 ∷ v / 65536 % 256 ∷ v / 16777216 ∷ []
 
 -- Where a reply goes: its kind, and four bytes (the u32 reply number; or service, session and B row as a u16).
 abbrev pub destinationKind : Destination → ℕ

@@ -14,7 +14,8 @@ use Rattle.wire.specs.Wire.{part, withPart}
 use Rattle.wire.specs.WireLaws.{length-part, length-withPart}
 use Rattle.state.specs.Places.{slotSize, headSize, treeRoom, messageRoom, entrySize, queueSize, rowSize, lengthPlace, treePlace, queuePlace, rowsPlace, keptSize, slotStart, rowStart}
 use Rattle.state.specs.Session.{Progress, Progresses, advance, Queued, Session, withTree, withQueue, withProgress, Slot, live, State, setSlot}
-use Rattle.state.specs.Bytes.{zeros, padded, u16Bytes, messageBytes, entryBytes, queueBytes, progressBytes, rowsBytes, treeBytes, headBytes, slotBytes, slotAt, stateBytes, readSlot}
+use Rattle.state.specs.Bytes.{zeros, padded, messageBytes, entryBytes, queueBytes, progressBytes, rowsBytes, treeBytes, headBytes, slotBytes, slotAt, stateBytes, readSlot}
+use Rattle.wire.specs.Wire.{u16Bytes}
 use Rattle.state.specs.Shape.{AllMessages, MadeSlot}
 use Rattle.state.specs.PartLaws.{take-past, drop-past, length-zeros, length-padded, holds-part, replace-middle, replace-rest, replace-first, replace-within, replace-both, replace-joined}
 use Rattle.state.specs.SizeLaws.{message-size, entry-size, progress-size, rows-size, SessionFits, Sized, sized-length}

@@ -15,7 +15,8 @@ use Rattle.wire.specs.Wire.{byteAt, withPart}
 use Rattle.tree.specs.Encode.{Octets, encode, rootCount}
 use Rattle.state.specs.Places.{headSize, lengthPlace}
 use Rattle.state.specs.Session.{Progresses, Queued, Session, withTree, withQueue, withProgress, newSession}
-use Rattle.state.specs.Bytes.{zeros, u16Bytes, treeBytes, headBytes, treeLength}
+use Rattle.state.specs.Bytes.{zeros, treeBytes, headBytes, treeLength}
+use Rattle.wire.specs.Wire.{u16Bytes}
 use Rattle.state.specs.Form.{allZero, headForm}
 use Rattle.state.specs.PartLaws.{length-zeros, HoldsAt, holds-rest, replace-middle}
 use Rattle.state.specs.HoldLaws.{holds-head, holds-tail, holds-u16, holds-join, zero-holds, holds-zero, two-holds, u16-holds}

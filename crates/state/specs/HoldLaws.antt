@@ -13,7 +13,8 @@ use borrow.Author.Tests.{eqb-true}
 use Rattle.basics.specs.TestLaws.{and-left, and-right}
 use Rattle.wire.specs.Wire.{byteAt, u16At, u32At}
 use Rattle.tree.specs.Encode.{Octets}
-use Rattle.state.specs.Bytes.{zeros, u16Bytes, u32Bytes}
+use Rattle.state.specs.Bytes.{zeros}
+use Rattle.wire.specs.Wire.{u16Bytes, u32Bytes}
 use Rattle.state.specs.Form.{allZero}
 use Rattle.state.specs.PartLaws.{length-zeros, byte-zeros, HoldsAt, holds-rest, holds-byte}
 

@@ -21,7 +21,8 @@ use Rattle.tree_forest.specs.Limits.{messageLevelsBelow, messageNodesBelow, ses
 use Rattle.tree.specs.EncodeLaws.{count-nodes, encode-octets, octets-nil}
 use Rattle.state.specs.Places.{slotSize, treeRoom, messageRoom, entrySize, keptSize}
 use Rattle.state.specs.Session.{Destination, outsider, waitingRow, Progress, undone, done, waits, received, taken, Progresses, Queued, Session, Slot, free, live, State}
-use Rattle.state.specs.Bytes.{zeros, joined, padded, u16Bytes, destinationBytes, replyKind, replyBytes, messageBytes, entryBytes, queueBytes, progressBytes, rowsBytes, treeBytes, headBytes, slotBytes, slotAt, stateBytes}
+use Rattle.state.specs.Bytes.{zeros, joined, padded, destinationBytes, replyKind, replyBytes, messageBytes, entryBytes, queueBytes, progressBytes, rowsBytes, treeBytes, headBytes, slotBytes, slotAt, stateBytes}
+use Rattle.wire.specs.Wire.{u16Bytes}
 use Rattle.state.specs.Shape.{isDestination, suitsReply, isUndone, undoneOrDone, undoneDoneOrWaits, undoneDoneOrReceived, undoneOrTaken, undoneDoneOrBody, branches, suits, quietElsewhere, suitsOperation, suitsQueue, operationOfRow, behaviourIn, suitsBehaviour, suitsSlot, AllMessages, WellMade, MadeSlot, HasShape}
 use Rattle.state.specs.PartLaws.{byte-zeros}
 use Rattle.state.specs.SizeLaws.{message-size, session-tree-size}

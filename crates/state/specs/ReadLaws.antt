@@ -21,7 +21,8 @@ use Rattle.tree.specs.Decode.{decode, decodeMessage}
 use Rattle.tree.specs.DecodeLaws.{decode-complete}
 use Rattle.state.specs.Places.{slotSize, headSize, treeRoom, messageRoom, entrySize, queueSize, rowSize, rowsSize, treePlace, queuePlace, rowsPlace, keptPlace, keptSize, slotStart}
 use Rattle.state.specs.Session.{Destination, outsider, waitingRow, Progress, undone, done, waits, received, taken, Progresses, Queued, Session, sessionOf, Slot, free, live, State}
-use Rattle.state.specs.Bytes.{zeros, joined, padded, u16Bytes, u32Bytes, destinationKind, destinationBytes, replyKind, replyBytes, messageBytes, entryBytes, queueBytes, progressBytes, rowsBytes, treeBytes, headBytes, slotBytes, slotAt, stateBytes, readDestination, readReply, treeOr, readEntry, readQueue, readProgress, readRow, readSession, readSlot, readState}
+use Rattle.state.specs.Bytes.{zeros, joined, padded, destinationKind, destinationBytes, replyKind, replyBytes, messageBytes, entryBytes, queueBytes, progressBytes, rowsBytes, treeBytes, headBytes, slotBytes, slotAt, stateBytes, readDestination, readReply, treeOr, readEntry, readQueue, readProgress, readRow, readSession, readSlot, readState}
+use Rattle.wire.specs.Wire.{u16Bytes, u32Bytes}
 use Rattle.state.specs.Shape.{AllMessages, WellMade, MadeSlot, HasShape, Stands}
 use Rattle.state.specs.PartLaws.{length-padded, HoldsAt, holds-whole, holds-first, holds-rest, holds-part, holds-joined}
 use Rattle.state.specs.HoldLaws.{holds-head, holds-tail, holds-zeros, holds-u16, holds-u32}

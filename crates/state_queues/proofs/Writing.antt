@@ -16,7 +16,8 @@ use Rattle.wire.specs.WireLaws.{length-part, length-withPart, agree-byte, withP
 use Rattle.state.specs.Places.{slotSize, messageRoom, entrySize, entryStart}
 use Rattle.network_syntax.specs.Syntax.{Optional}
 use Rattle.state.specs.Session.{Destination}
-use Rattle.state.specs.Bytes.{zeros, padded, u16Bytes, replyKind, replyBytes, readSession}
+use Rattle.state.specs.Bytes.{zeros, padded, replyKind, replyBytes, readSession}
+use Rattle.wire.specs.Wire.{u16Bytes}
 use Rattle.state.specs.PartLaws.{length-zeros, byte-zeros, replace-more}
 use Rattle.state.specs.SizeLaws.{reply-size}
 use Rattle.state_destinations.specs.declared.ReplyTo.{ReplyTo}

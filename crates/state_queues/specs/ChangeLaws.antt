@@ -19,7 +19,8 @@ use Rattle.tree.specs.Encode.{WellFormedTree}
 use Rattle.tree_forest.specs.Limits.{messageLevelsBelow, messageNodesBelow}
 use Rattle.state.specs.Places.{slotSize, messageRoom, entrySize, queueSize, queuePlace, slotStart, entryStart}
 use Rattle.state.specs.Session.{Destination, Queued, Session, withQueue, Slot, live, State, setSlot}
-use Rattle.state.specs.Bytes.{zeros, padded, u16Bytes, replyKind, replyBytes, messageBytes, entryBytes, queueBytes, slotBytes, stateBytes}
+use Rattle.state.specs.Bytes.{zeros, padded, replyKind, replyBytes, messageBytes, entryBytes, queueBytes, slotBytes, stateBytes}
+use Rattle.wire.specs.Wire.{u16Bytes}
 use Rattle.state.specs.Bytes.{readEntry, readSession}
 use Rattle.state.specs.Shape.{AllMessages, WellMade}
 use Rattle.state.specs.PartLaws.{length-zeros, HoldsAt, holds-first, holds-rest, holds-part, replace-within}

@@ -11,7 +11,8 @@ use Rattle.wire.specs.Wire.{u16At, part, withPart}
 use Rattle.state.specs.Places.{messageRoom, entrySize, entryStart}
 use Rattle.network_syntax.specs.Syntax.{Optional}
 use Rattle.state.specs.Session.{Destination, Queued}
-use Rattle.state.specs.Bytes.{zeros, padded, u16Bytes, replyKind, replyBytes, readQueue, readSession}
+use Rattle.state.specs.Bytes.{zeros, padded, replyKind, replyBytes, readQueue, readSession}
+use Rattle.wire.specs.Wire.{u16Bytes}
 use Rattle.state.specs.Queue.{QueueSplit, nothing, message, keeping}
 use Rattle.state_queues.specs.declared.OldestEntry.{OldestEntry}
 use Rattle.state_queues.specs.declared.OldestEntry.the-variants.{Nothing, Entry}

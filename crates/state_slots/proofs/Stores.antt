@@ -8,11 +8,12 @@ use borrow.Author.Tests.{le-leb, lt-leb}
 use lib.ListN.{length, take, drop, set, replicate, length-take}
 use Rattle.wire.specs.Wire.{part, withPart, putU16}
 use Rattle.basics.specs.Choice.{pick}
-use Rattle.scalar.specs.Operator.{littleEndian}
+use Rattle.wire.specs.Wire.{littleEndian}
 use Rattle.scalar.specs.NumberLaws.{put-16}
 use Rattle.tree_edit.specs.Wrote.{stored}
 use Rattle.state.specs.Places.{slotSize, treeRoom, lengthPlace, treePlace}
-use Rattle.state.specs.Bytes.{zeros, padded, u16Bytes, slotBytes, treeLength}
+use Rattle.state.specs.Bytes.{zeros, padded, slotBytes, treeLength}
+use Rattle.wire.specs.Wire.{u16Bytes}
 use Rattle.state.specs.PartLaws.{length-padded}
 use Rattle.state.specs.FreshLaws.{replicate-zeros}
 use Rattle.state_slots.specs.Slots.{treeIn, begun, treeStored, freed}

@@ -15,7 +15,8 @@ use Rattle.wire.specs.WireLaws.{length-withPart}
 use Rattle.network_syntax.specs.Syntax.{Network}
 use Rattle.state.specs.Places.{slotSize, treeRoom, lengthPlace, treePlace, slotStart, rowStart}
 use Rattle.state.specs.Session.{Progress, advance, Session, withTree, withProgress, Slot, free, live, State, setSlot, newSession}
-use Rattle.state.specs.Bytes.{zeros, u16Bytes, padded, progressBytes, treeBytes, slotBytes, treeLength, stateBytes}
+use Rattle.state.specs.Bytes.{zeros, padded, progressBytes, treeBytes, slotBytes, treeLength, stateBytes}
+use Rattle.wire.specs.Wire.{u16Bytes}
 use Rattle.state.specs.Shape.{WellMade, MadeSlot, Stands}
 use Rattle.state.specs.ShapeLaws.{new-made}
 use Rattle.state.specs.SizeLaws.{Sized, slot-size, session-tree-size, progress-size, made-fits, shape-sized, sized-length}

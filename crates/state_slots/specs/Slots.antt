@@ -7,7 +7,8 @@ use Rattle.basics.specs.Choice.{pick}
 use Rattle.wire.specs.Wire.{part, withPart}
 use Rattle.state.specs.Places.{treeRoom, lengthPlace, treePlace}
 use Rattle.state.specs.Session.{free}
-use Rattle.state.specs.Bytes.{u16Bytes, padded, slotBytes, treeLength}
+use Rattle.state.specs.Bytes.{padded, slotBytes, treeLength}
+use Rattle.wire.specs.Wire.{u16Bytes}
 
 -- The tree's bytes, as many as its length says; none where that is past 1,024, as in no state.
 unfoldable pub treeIn : List ℕ → ℕ → List ℕ

@@ -6,6 +6,7 @@ use mathlib.Core.Bool.{Bool, true, false, _&&_}
 use Prim.Native.Nat.{ℕ, zero, suc, _+_, _-_, _*_}
 use lib.ListN.{length, getD, take, drop}
 use lib.Dec.{eqb, leb, ltb}
+use Rattle.wire.specs.Wire.{u16At}
 use Rattle.tree_forest.specs.Forest.{isPresent}
 use Rattle.tree_forest.specs.Forest.{Forest, end, node, Tree, tree, Lookup, absent, present}
 use Rattle.scalar.specs.Value.{Value, value, isValue}
@@ -19,7 +20,7 @@ use Rattle.tree.specs.declared.Scan.the-variants.{Past, Bad}
 
 -- The fields of a node that starts at `at`: "id u16 .., basic u8, child count u8, length u8, value, then its children".
 abbrev pub idAt : List ℕ → ℕ → ℕ
-idAt s at = getD s at 0 + 256 * getD s (at + 1) 0
+idAt s at = u16At s at
 
 abbrev pub basicAt : List ℕ → ℕ → ℕ
 basicAt s at = getD s (at + 2) 0

@@ -11,6 +11,7 @@ use lib.ListN.{length, getD, take, drop, length-take, length-drop, length-append
 use lib.Seq.{drop-cons, getD-drop, getD-take, drop-drop, take-append-seam, drop-append-seam}
 use lib.Dec.{leb, ltb}
 use borrow.Author.Tests.{le-leb, lt-ltb, ltb-true, leb-true}
+use Rattle.wire.specs.Wire.{u16At}
 use Rattle.tree_forest.specs.Forest.{Forest, end, node, Above, Rising, measure, nodes, levels}
 use Rattle.scalar.specs.Value.{Value, value, isValue}
 use Rattle.basics.specs.Choice.{pick}
@@ -98,7 +99,7 @@ pub record Fields (s : List ℕ) (at i b c : ℕ) (v t : List ℕ) : Type 0 wher
 
 pub node-fields : (s : List ℕ) (at i b c : ℕ) (v t : List ℕ) → drop at s ≡ i % 256 ∷ i / 256 ∷ b ∷ c ∷ length v ∷ (v ++ t) → isValue b v ≡ true →
     Fields s at i b c v t
-unfolding headOk
+unfolding headOk u16At
 node-fields s at i b c v t e ok =
     let l : List ℕ = i % 256 ∷ i / 256 ∷ b ∷ c ∷ length v ∷ (v ++ t) in
     let b0 : getD s (at + 0) 0 ≡ i % 256 = byte-at s l at 0 e in
@@ -205,6 +206,7 @@ header s at h =
 pub node-bytes : (s : List ℕ) (at m e : ℕ) (ks rest : Forest Value) → Octets s → NodeSized s at → rootCount ks ≡ countAt s at →
     drop (nextAt s at) s ≡ encode ks ++ drop m s → drop m s ≡ encode rest ++ drop e s →
     drop at s ≡ encode (node (idAt s at) (value (basicAt s at) (valueAt s at)) ks rest) ++ drop e s
+unfolding u16At
 node-bytes s at m e ks rest bs h c p q =
     let len = part-length s (at + 5) (lenAt s at) (h .value) in
     let lo = bs .small at in
@@ -277,7 +279,7 @@ none-stands s d last left at f e l h =
     rw (← p, ← q, ← r) (record { many = refl; good = tt; bytes = refl; ends = sym (add-zero at); used = omega arith })
 
 node-stands : (s : List ℕ) → Octets s → (d n : ℕ) → ((m : ℕ) → Truthful s d m) → Truthful s (suc d) n → Truthful s (suc d) (suc n)
-unfolding rootCount measure Good
+unfolding rootCount measure Good u16At
 node-stands s bs d n hk hr last left at f e l h =
     let w = came s d n last left at f e l h in
     let k = hk (countAt s at) 0 (left - 1) (nextAt s at) (w .ks) (w .mid) (w .left′) (w .below) in

@@ -12,7 +12,8 @@ use borrow.Author.Tests.{lt-ltb, le-ltb}
 use Rattle.tree_forest.specs.Compare.{Compare, lt, eq, gt, compare}
 use Rattle.tree_forest.specs.Forest.{Forest, end, node, Tree, tree, nodeOf, Lookup, absent, present, findBy, find}
 use Rattle.tree_forest.specs.Path.{Path, path, readSteps}
-use Rattle.scalar.specs.Value.{Value, value, unsignedOf, isValue}
+use Rattle.scalar.specs.Value.{Value, value, isValue}
+use Rattle.wire.specs.Wire.{u16At, unsignedOf}
 use Rattle.basics.specs.Choice.{pick}
 use Rattle.tree.specs.Encode.{rootCount, encode, Octets}
 use Rattle.tree.specs.Decode.{headOk, parseSiblings, parse, decode, decodeMessage}
@@ -149,5 +150,5 @@ abbrev pub twice : List ℕ
 twice = 0 ∷ 0 ∷ 6 ∷ 2 ∷ 0 ∷ 1 ∷ 0 ∷ 0 ∷ 1 ∷ 1 ∷ 1 ∷ 5 ∷ 0 ∷ 6 ∷ 0 ∷ 0 ∷ 2 ∷ 0 ∷ 6 ∷ 1 ∷ 0 ∷ 5 ∷ 0 ∷ 6 ∷ 0 ∷ 0 ∷ []
 
 pub span-twice : (spanOf twice (1 ∷ 5 ∷ 0 ∷ 0 ∷ []) ≡ record { start = 11; len = 5 }) × (spanOf twice (2 ∷ 5 ∷ 0 ∷ 0 ∷ []) ≡ record { start = 21; len = 5 })
-unfolding spanOf partOf isPath endsInZeros allZeros pathFromIds steps decode headOk parse parseSiblings unsignedOf isValue earlier offset encode rootCount find readSteps lastOf
+unfolding spanOf partOf isPath endsInZeros allZeros pathFromIds steps decode headOk parse parseSiblings unsignedOf isValue earlier offset encode rootCount find readSteps lastOf u16At
 span-twice = (refl, refl)

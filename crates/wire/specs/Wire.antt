@@ -1,7 +1,7 @@
 -- Numbers in bytes. 01: "Numbers are little-endian; u8, u16 and u32 are unsigned." Every file, message and state is read and
 -- written by these; their laws are in WireLaws.
-use Prim.Native.Nat.{ℕ, _+_, _*_, _/_, _%_}
-use mathlib.Core.List.{List, _++_}
+use Prim.Native.Nat.{ℕ, zero, suc, _+_, _*_, _/_, _%_}
+use mathlib.Core.List.{List, [], _∷_, _++_}
 use lib.ListN.{getD, set, take, drop, length}
 
 -- The byte at a place; 0 past the end.
@@ -35,3 +35,20 @@ part s at n = take n (drop at s)
 -- The bytes with others in place of as many from a place on: what the whole slice holds once a lent part is back.
 abbrev pub withPart : List ℕ → ℕ → List ℕ → List ℕ
 withPart s at new = take at s ++ (new ++ drop (at + length new) s)
+
+-- The number that bytes stand for: "Numbers are little-endian".
+unfoldable pub unsignedOf : List ℕ → ℕ
+unsignedOf [] = 0
+unsignedOf (a ∷ l) = a + 256 * unsignedOf l
+
+-- The n bytes of a number, lowest first ("Numbers are little-endian"); what passes n bytes is dropped.
+unfoldable pub littleEndian : ℕ → ℕ → List ℕ
+littleEndian zero x = []
+littleEndian (suc n) x = x % 256 ∷ littleEndian n (x / 256)
+
+-- Its bytes, for two and for four.
+abbrev pub u16Bytes : ℕ → List ℕ
+u16Bytes v = v % 256 ∷ v / 256 ∷ []
+
+abbrev pub u32Bytes : ℕ → List ℕ
+u32Bytes v = v % 256 ∷ v / 256 % 256 ∷ v / 65536 % 256 ∷ v / 16777216 ∷ []
