@@ -33,12 +33,14 @@ pub record SendsType (file : List ℕ) (r x t : ℕ) (e : Environment) (s : Step
 -- The operation o is an output of the service, and the expression is ≤ its request type.
 pub record SendChecks (file : List ℕ) (q r o x : ℕ) (two : Bool) (e : Environment) (s : Step) : Type 0 where
   pub tells : (Γ : Types) → EnvironmentFor e Γ → WellFormed file → o < operationCount file → x < expressionCount file →
-      StepAnswers s (withRow r (demand (permits q output two (operationOf file o)) WrongOperation (sends Γ (expressionOf file x) (operationOf file o .request))))
+      StepAnswers s (withRow r (demand (permits q output two (operationOf file o)) WrongOperation
+      (sends Γ (expressionOf file x) (operationOf file o .request))))
 
 -- The operation o is an input of the service, and its request type is placed.
 pub record Receives (file : List ℕ) (q r o p : ℕ) (two : Bool) (e : Environment) (s : Step) : Type 0 where
   pub tells : (Γ : Types) → EnvironmentFor e Γ → WellFormed file → o < operationCount file → p < pathCount file →
-      StepAnswers s (withRow r (demand (permits q input two (operationOf file o)) WrongOperation (limited (place (pathOf file p) (operationOf file o .request) Γ))))
+      StepAnswers s (withRow r (demand (permits q input two (operationOf file o)) WrongOperation
+      (limited (place (pathOf file p) (operationOf file o .request) Γ))))
 
 -- A condition of basic type b: "a bool".
 abbrev pub conditionStep : ℕ → ℕ → Environment → Step

@@ -55,7 +55,8 @@ refused-by s (refused x) h why e =
     let q : x ≡ why = cc in
     (ap refused q, h .is ∙ ap (λ (z : Refusal). record { environment = standing end; verdict = Refused z }) q)
 
-pub answers-refused : {s : Step} {c : Checked Types} → StepAnswers s c → (why : Refusal) → s .verdict ≡ Refused why → (c ≡ refused why) × (s ≡ stepOf (refused why))
+pub answers-refused : {s : Step} {c : Checked Types} → StepAnswers s c → (why : Refusal) → s .verdict ≡ Refused why
+    → (c ≡ refused why) × (s ≡ stepOf (refused why))
 answers-refused {s} {c} h why e = refused-by s c h why e
 
 pub answers-refuse : {s : Step} (why : Refusal) → s ≡ stepOf (refused why) → StepAnswers s (refused why)

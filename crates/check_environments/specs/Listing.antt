@@ -35,5 +35,5 @@ pub record Lists (e : Environment) (i : ℕ) (x : Entry) : Type 0 where
 
 -- x is the i-th node of the n siblings at `at`, whose parent's path the first `depth` ids are.
 pub record ListsFrom (s : List ℕ) (at n i : ℕ) (ids : List ℕ) (depth : ℕ) (x : Entry) : Type 0 where
-  pub tells : (Γ : Types) (above : List ℕ) → Row s at (image Γ) → rootCount (image Γ) ≡ n → ids ≡ above ++ replicate (6 - length above) 0 → depth ≡ length above →
-      depth + levels Γ ≤ 6 → x ≡ getD (preorder above Γ) i noEntry
+  pub tells : (Γ : Types) (above : List ℕ) → Row s at (image Γ) → rootCount (image Γ) ≡ n → ids ≡ above ++ replicate (6 - length above) 0
+      → depth ≡ length above → depth + levels Γ ≤ 6 → x ≡ getD (preorder above Γ) i noEntry

@@ -14,7 +14,8 @@ use Rattle.scalar.specs.Basic.{bool, void, lastBasic}
 use Rattle.scalar.specs.Value.{value, basicOf, bytesOf}
 use Rattle.scalar.specs.ValueLaws.{value-basic}
 use Rattle.scalar.specs.Operator.{isNumber}
-use Rattle.network_syntax.specs.Syntax.{Mark, mark, Types, MessageType, Unary, logicalNot, negate, Binary, add, subtract, less, equal, logicalAnd, Expression, constant, valueAt, presence, unary, binary}
+use Rattle.network_syntax.specs.Syntax.{Mark, mark, Types, MessageType, Unary, logicalNot, negate, Binary, add, subtract}
+use Rattle.network_syntax.specs.Syntax.{less, equal, logicalAnd, Expression, constant, valueAt, presence, unary, binary}
 use Rattle.check_subtyping.specs.Subtype.{rootBasic}
 use Rattle.check_typing.specs.Result.{Attempt, fails, yields, demand, andThen}
 use Rattle.check_typing.specs.Environment.{isIn, standsFirm, theType, readFirm, basicLeaf}

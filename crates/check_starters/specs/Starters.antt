@@ -56,7 +56,8 @@ pub record OneEach (file : List ℕ) (q at n left : ℕ) (x : Bool) : Type 0 whe
   pub tells : (j : ℕ) (Γs : List Types) → BranchRun file at n left j → checkEach q (branchList file j n) ≡ passed Γs → x ≡ oneTypeEach Γs
 
 pub record UnitesAll (file : List ℕ) (q row at n left : ℕ) (u : Environment) (s : Step) : Type 0 where
-  pub tells : (j : ℕ) (Γ : Types) (Γs : List Types) → EnvironmentFor u Γ → BranchRun file at n left j → checkEach q (branchList file j n) ≡ passed Γs → AllRising Γs
+  pub tells : (j : ℕ) (Γ : Types) (Γs : List Types) → EnvironmentFor u Γ → BranchRun file at n left j → checkEach q (branchList file j n) ≡ passed Γs
+      → AllRising Γs
       → oneTypeFrom true Γ Γs ≡ true → StepAnswers s (withRow row (limited (yields (unionFrom Γ Γs))))
 
 pub record Joins (file : List ℕ) (q row at n left : ℕ) (s : Step) : Type 0 where
@@ -66,7 +67,8 @@ pub record Joins (file : List ℕ) (q row at n left : ℕ) (s : Step) : Type 0 w
 -- The environments of the branches join Γ, the union of those before, one after another: the first refusal, 10, 12 or the union, where x is
 -- sure of it.
 pub record Gathers (file : List ℕ) (q row at n left : ℕ) (u : Environment) (x : Gathered) : Type 0 where
-  pub tells : x .sure ≡ true → (j : ℕ) (Γ : Types) → EnvironmentFor u Γ → BranchRun file at n left j → StepAnswers (x .step) (next (checkEach q (branchList file j n))
+  pub tells : x .sure ≡ true → (j : ℕ) (Γ : Types) → EnvironmentFor u Γ → BranchRun file at n left j
+      → StepAnswers (x .step) (next (checkEach q (branchList file j n))
       (λ Γs. withRow row (demand (oneTypeFrom true Γ Γs) EnvironmentsDiffer (limited (yields (unionFrom Γ Γs))))))
   pub rises : x .sure ≡ true → (j : ℕ) (Γs : List Types) → BranchRun file at n left j → checkEach q (branchList file j n) ≡ passed Γs → AllRising Γs
 

@@ -24,7 +24,8 @@ use Rattle.check_typing.specs.Environment.{assignAt, assignTo}
 use Rattle.check_typing.specs.EnvironmentLaws.{readFirm-yields, read-ok, read-rising, place-rising, sums, maxima}
 use Rattle.check_typing.specs.ExpressionTyping.{unaryType, binaryType, expressionType}
 use Rattle.check_typing.specs.ExpressionRulesLaws.{firm-as, as-firm, firm-above-in, in-firm-above, firm-longest, longest-firm, type-sound, type-complete}
-use Rattle.check_typing.specs.Rules.{permits, PlacedAt, Placed, AssignedAt, Assigned, Sends, Answers, Condition, Derives, DerivesBranches, WellSorted, WellSortedBranches}
+use Rattle.check_typing.specs.Rules.{permits, PlacedAt, Placed, AssignedAt, Assigned, Sends, Answers}
+use Rattle.check_typing.specs.Rules.{Condition, Derives, DerivesBranches, WellSorted, WellSortedBranches}
 use Rattle.check_typing.specs.Checker.{check}
 use Rattle.check_typing.specs.CheckerLaws.{check-typed, typed-check, check-within}
 use Rattle.check_typing.specs.Typed.{TypedReply, TypedSend, TypedCondition, Typed, TypedBranches}

@@ -183,12 +183,14 @@ module _ (Γ : Types) where
       let E = eqb (rootBasic t) (rootBasic s) in
       let u = gives (not W && E) bool n h in
       subst (HasType Γ (binary equal a b)) (u .1)
-      (ofEqual d f (λ z. not-not W (and-l (not W) E (u .0)) (basic-same (rootBasic t) void z)) (same-basic (rootBasic t) (rootBasic s) (and-r (not W) E (u .0))))
+      (ofEqual d f (λ z. not-not W (and-l (not W) E (u .0)) (basic-same (rootBasic t) void z))
+      (same-basic (rootBasic t) (rootBasic s) (and-r (not W) E (u .0))))
   binary-has logicalAnd a b t s n d f h =
       let B = eqb (rootBasic t) bool in
       let C = eqb (rootBasic s) bool in
       let u = gives (B && C) bool n h in
-      subst (HasType Γ (binary logicalAnd a b)) (u .1) (ofAnd d f (same-basic (rootBasic t) bool (and-l B C (u .0))) (same-basic (rootBasic s) bool (and-r B C (u .0))))
+      subst (HasType Γ (binary logicalAnd a b)) (u .1)
+      (ofAnd d f (same-basic (rootBasic t) bool (and-l B C (u .0))) (same-basic (rootBasic s) bool (and-r B C (u .0))))
 
   -- What the function gives, the rules derive ..
   pub type-sound : (e : Expression) (n : MessageType) → expressionType Γ e ≡ yields n → HasType Γ e n

@@ -27,7 +27,8 @@ use Rattle.check_typing.specs.Rules.{sameBool, sameDirection, Derives, R
 use Rattle.check_typing.specs.Checker.{sameTypes, limited, check}
 use Rattle.check_typing.specs.CheckerLaws.{sameBool-eq, sameBool-refl, sameTypes-eq, sameTypes-refl}
 use Rattle.check_typing.specs.DerivesLaws.{check-derives, derives-check, derives-rising}
-use Rattle.check_typing.specs.NetworkRules.{sequencesOf, ofChoice, branchesOf, DerivesEach, OneType, OneTypeWith, OneTypeEach, union, unionOf, DerivesStarter}
+use Rattle.check_typing.specs.NetworkRules.{sequencesOf, ofChoice, branchesOf, DerivesEach, OneType}
+use Rattle.check_typing.specs.NetworkRules.{OneTypeWith, OneTypeEach, union, unionOf, DerivesStarter}
 use Rattle.check_typing.specs.NetworkRules.{DerivesClient, IfThere, Environments, DerivesServices, Agrees, AgreesWith}
 use Rattle.check_typing.specs.NetworkRules.{OutputsMeet, DerivesNetwork, WellSortedIfThere, WellSortedServices, RisingOperations}
 use Rattle.check_typing.specs.NetworkRules.{WellSortedNetwork}

@@ -91,7 +91,8 @@ assign-frame P (path i p) b Γ Γ2 Δ hp wd e h =
 pub firm-frame : (P : ℕ → Bool) (x : Path) (Γ Δ : Types) → T (P (rootId x)) → AgreeOn P Γ Δ → readFirm x Δ ≡ readFirm x Γ
 firm-frame P (path i p) Γ Δ hp h = ap (λ (l : Lookup Mark). demand (firmSteps p l) PathNotFirm (theType (readSteps p l))) (sym (h .eqs i hp))
 
-pub typeOf-frame : (P : ℕ → Bool) (e : Expression) (Γ Δ : Types) → ((i : ℕ) → T (occursIn i e) → T (P i)) → AgreeOn P Γ Δ → expressionType Δ e ≡ expressionType Γ e
+pub typeOf-frame : (P : ℕ → Bool) (e : Expression) (Γ Δ : Types) → ((i : ℕ) → T (occursIn i e) → T (P i)) → AgreeOn P Γ Δ
+    → expressionType Δ e ≡ expressionType Γ e
 unfolding expressionType occursIn
 typeOf-frame P (constant v) Γ Δ w h = refl
 typeOf-frame P (valueAt x) Γ Δ w h = firm-frame P x Γ Δ (w (rootId x) (eqb-refl (rootId x))) h

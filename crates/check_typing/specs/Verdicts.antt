@@ -126,7 +126,8 @@ pub starters-and-outputs :
     × (checkNetwork (served (twoBranches (nil 11)) (operation 0 0 ∷ sending 4 1 (basicLeaf long) ∷ [])) ≡ refused (OutputMismatch 4))
     × (checkNetwork (served (twoBranches (nil 11)) (operation 0 0 ∷ sending 4 1 (basicLeaf int) ∷ sending 6 9 (basicLeaf long) ∷ []))
     ≡ passed (record { starter = some (node 1 (mark true int) end end); client = none } ∷ []))
-unfolding rowOf checkNetwork checkServices checkEach branchesOf sequencesOf union unionOf oneType oneTypeWith oneTypeEach entry someAt meets firstOf metInput checkOutputs
+unfolding rowOf checkNetwork checkServices checkEach branchesOf sequencesOf union unionOf oneType oneTypeWith oneTypeEach
+    entry someAt meets firstOf metInput checkOutputs
     check next expressionType permits sameTypes areSubtypes find set readSteps writeSteps firmSteps firmAboveSteps measure
 starters-and-outputs = (refl, refl, refl, refl)
 

@@ -92,7 +92,8 @@ pub message-is-tested : (s : List ℕ) (t : Tree Value) → Message s t → isMe
 message-is-tested = message-complete
 
 pub message-one-way : (s : List ℕ) (t u : Tree Value) → Message s t → Message s u → t ≡ u
-message-one-way s t u x y = encode-injective messageLevelsBelow messageNodesBelow messageLevelsBelow messageNodesBelow t u (x .good) (y .good) (sym (x .bytes) ∙ y .bytes)
+message-one-way s t u x y =
+    encode-injective messageLevelsBelow messageNodesBelow messageLevelsBelow messageNodesBelow t u (x .good) (y .good) (sym (x .bytes) ∙ y .bytes)
 
 -- The reader's part lies in the message, has there "the child's whole encoding", and is at 0 where it is empty.
 pub part-lies-inside : (s ids : List ℕ) → Octets s → spanOf s ids .start + spanOf s ids .len ≤ length s

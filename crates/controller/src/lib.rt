@@ -56,18 +56,18 @@ fn numbered(m: Move)
     }
 }
 
-// The move m, with the bytes `outside` where it takes some. The last promise is property 3 at this call: whatever moves led from fresh to
-// these bytes, the file being accepted, this one gives no 18, a send or reply no 19, a ready assign, if or while 0 or 1, and leaves the bytes
-// after those moves and this one, every live session in them well typed.
-pub fn step(file: &[u8], state: &mut [u8], out: &mut [u8], m: Move, outside: &[u8]) -> Outcome
-    ensures { λ o. ⌜ o ≡ stepper.step (now (file .entry)) (now (state .entry)) (now (out .entry)) (moveOf m) (now (outside .entry)) .outcome ⌝ }
-    ensures { λ _. ⌜ now (state .exit) ≡ stepper.step (now (file .entry)) (now (state .entry)) (now (out .entry)) (moveOf m) (now (outside .entry)) .state ⌝ }
-    ensures { λ _. ⌜ now (out .exit) ≡ stepper.step (now (file .entry)) (now (state .entry)) (now (out .entry)) (moveOf m) (now (outside .entry)) .out ⌝ }
-    ensures { λ o. ⌜ SoundCall (now (file .entry)) (now (state .entry)) (record { move = moveOf m; bytes = now (outside .entry); out = now (out .entry) }) (outcomeNumber o) (now (state .exit)) ⌝ }
+// The move that is asked for, with the bytes `outside` where it takes some. The last promise is property 3 at this call: whatever moves led
+// from fresh to these bytes, the file being accepted, this one gives no 18, a send or reply no 19, a ready assign, if or while 0 or 1, and
+// leaves the bytes after those moves and this one, every live session in them well typed.
+pub fn step(file: &[u8], state: &mut [u8], out: &mut [u8], asked: Move, outside: &[u8]) -> Outcome
+    ensures { λ o. ⌜ o ≡ stepper.step (now (file .entry)) (now (state .entry)) (now (out .entry)) (moveOf asked) (now (outside .entry)) .outcome ⌝ }
+    ensures { λ _. ⌜ now (state .exit) ≡ stepper.step (now (file .entry)) (now (state .entry)) (now (out .entry)) (moveOf asked) (now (outside .entry)) .state ⌝ }
+    ensures { λ _. ⌜ now (out .exit) ≡ stepper.step (now (file .entry)) (now (state .entry)) (now (out .entry)) (moveOf asked) (now (outside .entry)) .out ⌝ }
+    ensures { λ o. ⌜ SoundCall (now (file .entry)) (now (state .entry)) (record { move = moveOf asked; bytes = now (outside .entry); out = now (out .entry) }) (outcomeNumber o) (now (state .exit)) ⌝ }
 {
-    numbered(m);
+    numbered(asked);
     tree::octets(outside);
-    move_step::step(file, state, out, m, outside)
+    move_step::step(file, state, out, asked, outside)
 }
 
 // Where the message reader's part starts in the message, and how long it is; both 0 for the empty part.

@@ -385,11 +385,11 @@ pub ruleset admit-laws = (admit-not, admit-in)
 
 -- ---- storing
 
-module _ {file l o s : List ℕ} {i : ℕ} {to : Optional Destination} {y : Arrival} where
-  pub store-queued : {s′ : List ℕ} {slot : ℕ} → y ≡ Arrival.Queued slot → s′ ≡ pushed s slot i to (part l 0 (length l)) → Stores file i to l o y s s′
+module _ {l o s : List ℕ} {i : ℕ} {to : Optional Destination} {y : Arrival} where
+  pub store-queued : {s′ : List ℕ} {slot : ℕ} → y ≡ Arrival.Queued slot → s′ ≡ pushed s slot i to (part l 0 (length l)) → Stores i to l o y s s′
   unfolding operationOf
   store-queued {s′} {slot} e p = record {
-    tells = λ w li G g n t kn m k ar s₀ out.
+    tells = λ file w li G g n t kn m k ar s₀ out.
         let op = operationOf file i in
         let at = subst (ArrivesAs file op n t m o) e ar in
         let z = subst (Known G op n) (at .1) kn in
@@ -406,9 +406,9 @@ module _ {file l o s : List ℕ} {i : ℕ} {to : Optional Destination} {y : Arri
   }
 
   pub store-starts : {s′ : List ℕ} {slot c k a len : ℕ} {after : Progress} → y ≡ Arrival.Starts slot c k a len → Storable i l y → after ≡ receivedBy to
-      → StoresStart s slot o len c k a after s′ → Stores file i to l o y s s′
+      → StoresStart s slot o len c k a after s′ → Stores i to l o y s s′
   store-starts {s′} {slot} {c} {k} {a} {len} {after} e u f d = record {
-    tells = λ w li G g n t kn m _ ar s₀ out.
+    tells = λ file w li G g n t kn m _ ar s₀ out.
         let op = operationOf file i in
         let at = subst (ArrivesAs file op n t m o) e ar in
         let room = subst (Storable i l) e u in

@@ -160,7 +160,7 @@ pub record StoresStart (s : List ℕ) (slot : ℕ) (o : List ℕ) (n c k a : ℕ
       → part s slot slotSize ≡ slotBytes free → s′ ≡ withPart s slot (slotBytes (live (startedWith F c k a after)))
 
 -- What move_rules' `deliver` does in the state that the bytes hold, with a message of O row i that arrives at its target t.
-pub record Stores (file : List ℕ) (i : ℕ) (to : Optional Destination) (l o : List ℕ) (y : Arrival) (s s′ : List ℕ) : Type 0 where
-  pub tells : WellFormed file → i < operationCount file → (gone : State) → Holding s gone → (n : ℕ) (t : definition.Target)
+pub record Stores (i : ℕ) (to : Optional Destination) (l o : List ℕ) (y : Arrival) (s s′ : List ℕ) : Type 0 where
+  pub tells : (file : List ℕ) → WellFormed file → i < operationCount file → (gone : State) → Holding s gone → (n : ℕ) (t : definition.Target)
       → Known gone (operationOf file i) n t → (m : Tree Value) → trees.Message l m → ArrivesAs file (operationOf file i) n t m o y → (s₀ out : List ℕ)
       → _≡_ {A = Step} (record { outcome = doneWith 0; state = s′; out = out }) (finish s₀ out (deliver gone (operationOf file i) n t to m))

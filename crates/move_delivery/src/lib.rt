@@ -223,17 +223,9 @@ fn store_start(
 }
 
 // Stores an admitted message of O row i where it arrives; its reply goes to `to`, and `tree` is what `admit` wrote.
-pub fn store(
-    file: &[u8],
-    state: &mut [u8],
-    i: u16,
-    to: ReplyTo,
-    message: &[u8],
-    y: Arrival,
-    tree: &[u8],
-)
+pub fn store(state: &mut [u8], i: u16, to: ReplyTo, message: &[u8], y: Arrival, tree: &[u8])
     requires { ⌜ (length (now state) ≡ 65536) × Storable i (now message) y × (2304 ≤ length (now tree)) ⌝ }
-    ensures { λ _. ⌜ Stores (now (file .entry)) i (replyOf to) (now (message .entry)) (now (tree .entry)) y (now (state .entry)) (now (state .exit)) ⌝ }
+    ensures { λ _. ⌜ Stores i (replyOf to) (now (message .entry)) (now (tree .entry)) y (now (state .entry)) (now (state .exit)) ⌝ }
 {
     match y {
         Arrival::Queued(slot) => {

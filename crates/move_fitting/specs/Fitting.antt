@@ -16,7 +16,8 @@ use Rattle.network.specs.Layout.{typeCount}
 use Rattle.network.specs.Decode.{typeOf}
 use Rattle.tree.specs.Encode.{Message}
 use Rattle.tree.specs.Decode.{isMessage}
-use Rattle.move_rules.specs.Moves.{Result, refused, require}
+use Rattle.move_rules.specs.Evaluation.{Evaluation}
+use Rattle.move_rules.specs.Moves.{Result, refused, require, onTree, mustFit}
 
 -- The bytes l come to the type t: f refuses them as `other` where they are no message, and by 19 where the message doesn't fit.
 pub record Comes (l : List ℕ) (other : Refusal) (t : MessageType) (f : (Tree Value → Result) → Result) : Type 0 where
@@ -30,3 +31,7 @@ Passed (Refused why) l f = (k : Tree Value → Result) → f k ≡ refused why
 
 pub record Passes (l file : List ℕ) (r : ℕ) (other : Refusal) (v : Verdict) : Type 0 where
   pub tells : WellFormed file → r < typeCount file → (f : (Tree Value → Result) → Result) → Comes l other (typeOf file r) f → Passed v l f
+
+-- The move that goes on with a value once it is given, 18, and fits the type t, 19.
+abbrev pub fittingTree : Evaluation (Tree Value) → MessageType → (Tree Value → Result) → Result
+fittingTree y t k = onTree y (λ m. mustFit m t (k m))

@@ -15,15 +15,17 @@ use Rattle.tree.specs.Encode.{WellFormedTree, Encodes}
 use Rattle.tree_forest.specs.Limits.{messageLevelsBelow, messageNodesBelow, sessionLevels, sessionNodes}
 use Rattle.tree.specs.Decode.{decodeMessage, isMessage}
 use Rattle.tree.specs.DecodeLaws.{absent-is, message-complete, decode-complete, encode-injective}
+use Rattle.move_rules.specs.Evaluation.{Evaluation, given}
 use Rattle.move_rules.specs.Moves.{Result, require, isMessageTree, mustFit, onMessage}
-use Rattle.move_fitting.specs.Fitting.{Comes}
+use Rattle.move_fitting.specs.Fitting.{Comes, fittingTree}
 
 -- ---- messages
 
 pub message-tree : (t : Tree Value) → WellFormedTree messageLevelsBelow messageNodesBelow t → isMessageTree t ≡ true
 message-tree (tree v k) w = rw (le-leb (levels k) messageLevelsBelow (w .shallow), le-leb (nodes k) messageNodesBelow (w .few))
 
-pub tree-message : (t : Tree Value) → isMessageTree t ≡ true → WellFormedTree sessionLevels sessionNodes t → WellFormedTree messageLevelsBelow messageNodesBelow t
+pub tree-message : (t : Tree Value) → isMessageTree t ≡ true → WellFormedTree sessionLevels sessionNodes t
+    → WellFormedTree messageLevelsBelow messageNodesBelow t
 tree-message (tree v k) e w =
     let a = leb (levels k) messageLevelsBelow in
     let b = leb (nodes k) messageNodesBelow in
@@ -36,12 +38,13 @@ tree-message (tree v k) e w =
     }
 
 -- A message fits by its type alone.
-message-fit : (m : Tree Value) (t : MessageType) (r : Result) → WellFormedTree messageLevelsBelow messageNodesBelow m → mustFit m t r ≡ require (fits m t) MessageMisfit r
+message-fit : (m : Tree Value) (t : MessageType) (r : Result) → WellFormedTree messageLevelsBelow messageNodesBelow m
+    → mustFit m t r ≡ require (fits m t) MessageMisfit r
 message-fit m t r w = ap (λ (b : Bool). require (b && fits m t) MessageMisfit r) (message-tree m w)
 
 -- ---- a tree that a session can hold: where it is no message, it fits no type
 
-pub tree-comes : {l : List ℕ} (m : Tree Value) (t : MessageType) (f : (Tree Value → Result) → Result) → Encodes sessionLevels sessionNodes l m
+tree-comes : {l : List ℕ} (m : Tree Value) (t : MessageType) (f : (Tree Value → Result) → Result) → Encodes sessionLevels sessionNodes l m
     → ((k : Tree Value → Result) → f k ≡ mustFit m t (k m)) → Comes l MessageMisfit t f
 tree-comes {l} m t f h e = record {
   noMessage = λ n k. e k ∙ ap (λ (b : Bool). require (b && fits m t) MessageMisfit (k m)) (none n (isMessageTree m) refl);
@@ -54,11 +57,16 @@ tree-comes {l} m t f h e = record {
     none n true i = apart (sym n ∙ message-complete l m (record { bytes = h .bytes; good = tree-message m i (h .good) }))
     none n false i = i
 
+pub value-comes : {l : List ℕ} (m : Tree Value) (t : MessageType) (y : Evaluation (Tree Value)) → Encodes sessionLevels sessionNodes l m → y ≡ given m
+    → Comes l MessageMisfit t (fittingTree y t)
+value-comes m t y h e = tree-comes m t (fittingTree y t) h (λ k. ap (λ (z : Evaluation (Tree Value)). fittingTree z t k) e)
+
 -- ---- bytes from outside
 
 pub bytes-come : (l : List ℕ) (t : MessageType) → Comes l NoMessage t (λ k. onMessage (decodeMessage l) (λ m. mustFit m t (k m)))
 bytes-come l t = record {
   noMessage = λ n k. ap (λ (x : Lookup Value). onMessage x (λ m. mustFit m t (k m))) (absent-is (decodeMessage l) n);
   message = λ m g k.
-      ap (λ (x : Lookup Value). onMessage x (λ m. mustFit m t (k m))) (decode-complete messageLevelsBelow messageNodesBelow l m g) ∙ message-fit m t (k m) (g .good);
+      ap (λ (x : Lookup Value). onMessage x (λ m. mustFit m t (k m))) (decode-complete messageLevelsBelow messageNodesBelow l m g)
+      ∙ message-fit m t (k m) (g .good);
 }

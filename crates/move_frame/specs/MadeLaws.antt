@@ -45,7 +45,8 @@ made-out-refused file f e h = record { tells = λ w G st l. refused-step e (h w 
 -- A move within one slot.
 pub made-slot : (file : List ℕ) (f : Network → State → Result) {s s′ : List ℕ} {o : Outcome} (q n at : ℕ) (x : Slot) → o ≡ doneWith 0
     → s′ ≡ withPart s at (slotBytes x)
-    → (WellFormed file → (G : State) → StateOf file s G → (q < 4) × (n < 4) × (at ≡ slotStart q n) × MadeSlot x × (f (networkOf file) G ≡ moved (setSlot G q n x) []))
+    → (WellFormed file → (G : State) → StateOf file s G
+    → (q < 4) × (n < 4) × (at ≡ slotStart q n) × MadeSlot x × (f (networkOf file) G ≡ moved (setSlot G q n x) []))
     → Made file f s s′ o
 made-slot file f {s} {s′} {o} q n at x e b h = record {
   tells = λ w G st out.
@@ -59,7 +60,8 @@ made-slot file f {s} {s′} {o} q n at x e b h = record {
 pub in-session : {file s : List ℕ} {G : State} {q n at b : ℕ} (h : InSession file s G q n at b) (f : Behaviour → Session → Result)
     → inSession (networkOf file) G q n f ≡ f (behaviourOf file b) (h .session)
 in-session {file} {s} {G} {q} {n} {at} {b} h f =
-    ap (λ (x : Optional Behaviour). onBehaviour x (λ B. onLive (G q n) (λ S. f B S))) (h .runs) ∙ ap (λ (x : Slot). onLive x (λ S. f (behaviourOf file b) S)) (h .isLive)
+    ap (λ (x : Optional Behaviour). onBehaviour x (λ B. onLive (G q n) (λ S. f B S))) (h .runs)
+    ∙ ap (λ (x : Slot). onLive x (λ S. f (behaviourOf file b) S)) (h .isLive)
 
 -- A session that runs, and its slot.
 pub running : {file s : List ℕ} {q n slot b : ℕ} {x : Running} → RunsAt file s q n x → x ≡ Running.Session slot b → WellFormed file → (G : State)

@@ -18,6 +18,7 @@ use Rattle.tree.specs.Encode.{Octets}
 use Rattle.network.specs.Form.{formOf, WellFormed}
 use Rattle.network.specs.Layout.{behaviourCount}
 use Rattle.network.specs.Decode.{networkOf}
+use Rattle.state.specs.Places.{stateSize, outRoom}
 use Rattle.state.specs.Session.{State}
 use Rattle.state.specs.Bytes.{readState}
 use Rattle.state.specs.Shape.{decodeState, Stands}
@@ -45,17 +46,17 @@ module _ (file s out : List ℕ) (m : Move) (outside : List ℕ) where
   refused-as e = ap (λ (x : Outcome). record { outcome = x; state = s; out = out }) (sym e)
 
   -- 1
-  pub step-state-size : {o : Outcome} → (length s ≡ 65536 → ⊥) → o ≡ refusedBy BufferSize → Stepped file s out m outside o s out
-  step-state-size d e = stepped (unfit false (ap (λ (x : Bool). x && leb 512 (length out)) (ne-eqb (length s) 65536 d)) ∙ refused-as e)
+  pub step-state-size : {o : Outcome} → (length s ≡ stateSize → ⊥) → o ≡ refusedBy BufferSize → Stepped file s out m outside o s out
+  step-state-size d e = stepped (unfit false (ap (λ (x : Bool). x && leb outRoom (length out)) (ne-eqb (length s) stateSize d)) ∙ refused-as e)
 
-  module _ (l : length s ≡ 65536) where
-    pub step-out-size : {o : Outcome} → length out < 512 → o ≡ refusedBy BufferSize → Stepped file s out m outside o s out
+  module _ (l : length s ≡ stateSize) where
+    pub step-out-size : {o : Outcome} → length out < outRoom → o ≡ refusedBy BufferSize → Stepped file s out m outside o s out
     step-out-size k e =
-        stepped (unfit false (ap (λ (x : Bool). x && leb 512 (length out)) (eq-eqb (length s) 65536 l) ∙ lt-leb 512 (length out) k) ∙ refused-as e)
+        stepped (unfit false (ap (λ (x : Bool). x && leb outRoom (length out)) (eq-eqb (length s) stateSize l) ∙ lt-leb outRoom (length out) k) ∙ refused-as e)
 
-    module _ (k : 512 ≤ length out) where
+    module _ (k : outRoom ≤ length out) where
       fitting : step file s out m outside ≡ inner
-      fitting = unfit true (ap (λ (x : Bool). x && leb 512 (length out)) (eq-eqb (length s) 65536 l) ∙ le-leb 512 (length out) k)
+      fitting = unfit true (ap (λ (x : Bool). x && leb outRoom (length out)) (eq-eqb (length s) stateSize l) ∙ le-leb outRoom (length out) k)
 
       -- 2 to 5
       pub step-form : {o : Outcome} {v : Verdict} {why : Refusal} → v ≡ formOf file → v ≡ Refused why → o ≡ record { bytes = 0; verdict = v }
@@ -63,7 +64,8 @@ module _ (file s out : List ℕ) (m : Move) (outside : List ℕ) where
       unfolding inner
       step-form {o} {v} {why} f r e =
           stepped (fitting
-          ∙ (ap (λ (x : Verdict). onForm x s out (onState (decodeState (networkOf file) (behaviourCount file) s) s out (λ G. finish s out (move (networkOf file) G m outside)))) (sym f ∙ r)
+          ∙ (ap (λ (x : Verdict). onForm x s out (onState (decodeState (networkOf file) (behaviourCount file) s) s out
+          (λ G. finish s out (move (networkOf file) G m outside)))) (sym f ∙ r)
           ∙ refused-as (e ∙ ap (λ (x : Verdict). record { bytes = 0; verdict = x }) r)))
 
       module _ (w : WellFormed file) where
@@ -72,7 +74,8 @@ module _ (file s out : List ℕ) (m : Move) (outside : List ℕ) where
         unfolding inner
         decoded x e =
             fitting
-            ∙ (ap (λ (v : Verdict). onForm v s out (onState (decodeState (networkOf file) (behaviourCount file) s) s out (λ G. finish s out (move (networkOf file) G m outside)))) w
+            ∙ (ap (λ (v : Verdict). onForm v s out (onState (decodeState (networkOf file) (behaviourCount file) s) s out
+            (λ G. finish s out (move (networkOf file) G m outside)))) w
             ∙ ap (λ (y : Optional State). onState y s out (λ G. finish s out (move (networkOf file) G m outside))) e)
 
         -- 14

@@ -64,14 +64,14 @@ module _ {file l s o : List ℕ} {i n number : ℕ} {x : Admission} (h : Admits 
   }
 
   pub arrive-stored : {y : Arrival} {to : Optional Destination} {s′ : List ℕ} {a : Outcome} → x ≡ Admission.Admitted y
-      → to ≡ pick (operationOf file i .twoWay) (some (outsider number)) none → Stores file i to l o y s s′ → a ≡ doneWith 0 → Arrives file i n number l s s′ a
+      → to ≡ pick (operationOf file i .twoWay) (some (outsider number)) none → Stores i to l o y s s′ → a ≡ doneWith 0 → Arrives file i n number l s s′ a
   arrive-stored {y} {to} {s′} e j d f = record {
     tells = λ w li G st out.
         let op = operationOf file i in
         let T = definition.target (networkOf file) G op n in
         let z = subst (AdmittedAs file G i n l o (λ k. onMessage (decodeMessage l) (λ m. mustFit m (op .request) (k m)))) e (admitted h w li G st) in
         ap (λ (u : Outcome). record { outcome = u; state = s′; out = out }) f
-        ∙ (d .tells w li G (stands-holding st) n T (target-known (networkOf file) G op n) (z .0) (z .1) (z .2) s out
+        ∙ (d .tells file w li G (stands-holding st) n T (target-known (networkOf file) G op n) (z .0) (z .1) (z .2) s out
         ∙ (ap (finish s out) (sym (z .3 G to)) ∙ ap (λ (b : Optional Destination). finish s out (admit (networkOf file) G op n (onMessage (decodeMessage l)) G b)) j));
   }
 

@@ -50,7 +50,7 @@ fn arrive(file: &[u8], state: &mut [u8], i: u16, n: u16, number: u32, bytes: &[u
     match x {
         Admission::Refused(why) => refusal::refused(why),
         Admission::Admitted(y) => {
-            move_delivery::store(file, state, i, reply_to(file, i, number), bytes, y, &tree);
+            move_delivery::store(state, i, reply_to(file, i, number), bytes, y, &tree);
             refusal::done(0)
         }
     }

@@ -7,7 +7,7 @@ use native.Mathlib.Omega.{arith}
 use types.Run.{OneOf, miss}
 use denote.Enum.Declared.{tagOf}
 use lib.ListN.{length, take, drop, length-take}
-use Rattle.tree_forest.specs.Forest.{Tree, Lookup, present}
+use Rattle.tree_forest.specs.Forest.{Tree, Lookup}
 use Rattle.tree_forest.specs.Path.{Path, read}
 use Rattle.scalar.specs.Value.{Value}
 use Rattle.tree.specs.Encode.{Encodes, Message}
@@ -21,7 +21,7 @@ use Rattle.refusal.specs.declared.Verdict.{Verdict}
 use Rattle.refusal.specs.declared.Verdict.the-variants.{Done, Refused}
 use Rattle.refusal.specs.declared.Outcome.{Outcome}
 use Rattle.refusal.specs.Refusal.{doneWith, refusedBy}
-use Rattle.network_syntax.specs.Syntax.{MessageType, Network, Operation}
+use Rattle.network_syntax.specs.Syntax.{Network, Operation}
 use Rattle.network_syntax.specs.Rows.{atRow}
 use Rattle.network.specs.Form.{WellFormed}
 use Rattle.network.specs.Layout.{pathCount, operationCount}
@@ -37,7 +37,8 @@ use Rattle.state_progress.specs.declared.Progress as coded
 use Rattle.state_progress.specs.Meaning.{meaning}
 use Rattle.state_progress.proofs.Progress as progress
 use Rattle.state_progress.specs.Stored.{rowStored}
-use Rattle.move_rules.specs.Moves.{Result, moved, notAllowed, onFound, onReceived, mustFit, onWaitingRow, takeReply, goneOn, replyTo, replyAt, replyMove}
+use Rattle.move_rules.specs.Evaluation.{Evaluation, found}
+use Rattle.move_rules.specs.Moves.{Result, moved, notAllowed, onTree, onReceived, mustFit, onWaitingRow, takeReply, goneOn, replyTo, replyAt, replyMove}
 use Rattle.move_rules.specs.Step.{finish}
 use Rattle.state_slots.specs.Living.{Living}
 use Rattle.move_frame.specs.declared.Running.{Running}
@@ -48,8 +49,8 @@ use Rattle.move_waiting.specs.Waiting as waiting
 use Rattle.move_waiting.specs.declared.Sender.{Sender}
 use Rattle.move_waiting.specs.Waiting.{waitingAs, WaitsAt, TakesReply}
 use Rattle.move_waiting.specs.WaitingLaws.{waits-in, reply-passes}
-use Rattle.move_fitting.specs.Fitting.{Comes, Passed, Passes}
-use Rattle.move_fitting.specs.FittingLaws.{tree-comes}
+use Rattle.move_fitting.specs.Fitting.{fittingTree, Passed, Passes}
+use Rattle.move_fitting.specs.FittingLaws.{value-comes}
 use Rattle.move_frame.specs.HoldingLaws.{gone-holding}
 use Rattle.move_reply.specs.declared.Replying.{Replying}
 use Rattle.move_reply.specs.declared.Reply.{Reply}
@@ -66,23 +67,19 @@ replying-small {o = o} {c = c} h e = h .small o c e
 
 -- ---- what comes as a reply
 
-abbrev fitting : Lookup Value → MessageType → (Tree Value → Result) → Result
-fitting y t k = onFound y (λ m. mustFit m t (k m))
-
-reply-comes : {l : List ℕ} (m : Tree Value) (t : MessageType) (y : Lookup Value) → Encodes sessionLevels sessionNodes l m → y ≡ present m
-    → Comes l MessageMisfit t (fitting y t)
-reply-comes m t y h e = tree-comes m t (fitting y t) h (λ k. ap (λ (z : Lookup Value). fitting z t k) e)
+abbrev readValue : List ℕ → ℕ → Session → Evaluation (Tree Value)
+readValue file c S = found (read (pathOf file c) (S .tree))
 
 module _ {file s buf : List ℕ} {slot c : ℕ} {x : Reply} (k : ReadsReply file s slot c buf x) {n : ℕ} (e : x ≡ Reply.Message n) (m : List ℕ) (t : m ≡ take n buf)
     (o : ℕ) {y : ℕ} (r : y ≡ replyType file o) {v : Verdict} (p : Passes m file y MessageMisfit v) where
   reply-passed : {u : Verdict} → v ≡ u → WellFormed file → c < pathCount file → o < operationCount file → operationOf file o .twoWay ≡ true → (S : Session)
-      → Living s slot S → Passed u m (fitting (read (pathOf file c) (S .tree)) (operationOf file o .reply))
+      → Living s slot S → Passed u m (fittingTree (readValue file c S) (operationOf file o .reply))
   reply-passed g w l lo two S h =
-      let y = read (pathOf file c) (S .tree) in
-      let z = subst (λ (d : Reply). ReadAs buf d y) e (k .tells w l S h) in
+      let y = readValue file c S in
+      let z = subst (λ (d : Reply). ReadAs buf d (read (pathOf file c) (S .tree))) e (k .tells w l S h) in
       let enc : Encodes sessionLevels sessionNodes m (z .0) = subst (λ (d : List ℕ). Encodes sessionLevels sessionNodes d (z .0)) (sym t) (z .2) in
-      subst (λ (d : Verdict). Passed d m (fitting y (operationOf file o .reply))) g
-      (reply-passes o p r w lo two (fitting y (operationOf file o .reply)) (reply-comes (z .0) (operationOf file o .reply) y enc (z .1)))
+      subst (λ (d : Verdict). Passed d m (fittingTree y (operationOf file o .reply))) g
+      (reply-passes o p r w lo two (fittingTree y (operationOf file o .reply)) (value-comes (z .0) (operationOf file o .reply) y enc (ap found (z .1))))
 
 -- ---- `reply_outside`
 
@@ -97,7 +94,7 @@ module _ (file s : List ℕ) (slot r o c number : ℕ) (out : List ℕ) where
     pub outside-missing : {a : Outcome} → x ≡ Reply.Missing → a ≡ refusedBy Stuck → RepliesOutside file s slot r o c number s out out a
     outside-missing e f = record {
       tells = λ w i G st q n b h j.
-          refused-step f (ap (λ (l : Lookup Value). onFound l (sends G q n (h .session)))
+          refused-step f (ap (λ (l : Lookup Value). onTree (found l) (sends G q n (h .session)))
           (subst (λ (y : Reply). ReadAs buf y (read (pathOf file c) (h .session .tree))) e (k .tells w (i .1) (h .session) (h .living))));
     }
 
@@ -107,7 +104,7 @@ module _ (file s : List ℕ) (slot r o c number : ℕ) (out : List ℕ) where
       written G q j S m = moved (goneOn G q j S r done) (u32Bytes number ++ messageBytes m)
 
       passed : {u : Verdict} → v ≡ u → WellFormed file → ReplyRowsExist file (Replying.Row o c) → (S : Session) → Living s slot S
-          → Passed u m (fitting (read (pathOf file c) (S .tree)) (operationOf file o .reply))
+          → Passed u m (fittingTree (readValue file c S) (operationOf file o .reply))
       passed g w j S h = reply-passed k e m t o i p g w (j .1) (j .0) (j .2) S h
 
       pub outside-not : {why : Refusal} {a : Outcome} → v ≡ Refused why → a ≡ record { bytes = 0; verdict = v }
@@ -154,7 +151,7 @@ module _ (file s : List ℕ) (slot r c q2 n2 r2 : ℕ) {x : Running} (h2 : RunsA
   fitted G q n S o p m = mustFit m (o .reply) (takeReply (goneOn G q n S r done) q2 n2 r2 p m)
 
   abbrev replies : State → ℕ → ℕ → Session → Operation → Path → Result
-  replies G q n S o p = onFound (read (pathOf file c) (S .tree)) (fitted G q n S o p)
+  replies G q n S o p = onTree (readValue file c S) (fitted G q n S o p)
 
   pub inside-nothing : {a : Outcome} → x ≡ Running.Nothing → a ≡ refusedBy MoveNotAllowed → RepliesInside file s slot r c q2 n2 r2 s a
   inside-nothing e f = record {
@@ -186,7 +183,7 @@ module _ (file s : List ℕ) (slot r c q2 n2 r2 : ℕ) {x : Running} (h2 : RunsA
       inside-missing d f = record {
         tells = λ w l G st q n b h o out.
             refused-step f (inside-row w G st q n (h .session) o
-            ∙ ap (λ (i : Lookup Value). onFound i (fitted G q n (h .session) (operationOf file o2) (pathOf file p)))
+            ∙ ap (λ (i : Lookup Value). onTree (found i) (fitted G q n (h .session) (operationOf file o2) (pathOf file p)))
             (subst (λ (i : Reply). ReadAs buf i (read (pathOf file c) (h .session .tree))) d (v .tells w l (h .session) (h .living))));
       }
 
@@ -199,7 +196,7 @@ module _ (file s : List ℕ) (slot r c q2 n2 r2 : ℕ) {x : Running} (h2 : RunsA
         takes G q n S = takeReply (goneOn G q n S r done) q2 n2 r2 (pathOf file p)
 
         passed-in : {a : Verdict} → vd ≡ a → WellFormed file → c < pathCount file → (G : State) → StateOf file s G → (S : Session) → Living s slot S
-            → Passed a m (fitting (read (pathOf file c) (S .tree)) (operationOf file o2 .reply))
+            → Passed a m (fittingTree (readValue file c S) (operationOf file o2 .reply))
         passed-in i w l G st S h =
             let ex = rows-exist w G st in
             reply-passed v d m t o2 ty ps i w l (ex .0) (ex .2) S h

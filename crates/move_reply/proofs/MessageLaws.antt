@@ -1,8 +1,8 @@
 -- The message of a reply, at each of the ways out of the code.
-use mathlib.Core.Path.{_≡_, ap, subst, _∙_}
+use mathlib.Core.Path.{_≡_, refl, ap, subst, _∙_}
 use mathlib.Core.Bool.{Bool, true, not}
-use mathlib.Core.List.{List, [], _∷_, _++_}
-use Prim.Native.Nat.{ℕ, _+_, _/_, _%_, _<_}
+use mathlib.Core.List.{List, _++_}
+use Prim.Native.Nat.{ℕ, _+_, _≤_, _<_}
 use native.Mathlib.Omega.{arith}
 use lib.ListN.{length, take, drop}
 use lib.Seq.{take-all}
@@ -21,7 +21,7 @@ use Rattle.tree.specs.Standing.{Spot, Followed}
 use Rattle.tree.specs.StandingLaws.{encodes-root, root-good}
 use Rattle.tree.specs.declared.Found.{Found}
 use Rattle.tree_edit.specs.Wrote.{Wrote}
-use Rattle.tree_edit.specs.WroteLaws.{wrote-more, wrote-all-of}
+use Rattle.tree_edit.specs.WroteLaws.{wrote-more, wrote-all-of, wrote-of}
 use Rattle.tree_edit.specs.Change.{alone, subtreeOf}
 use Rattle.network.specs.Form as network
 use Rattle.network.specs.Layout.{pathCount}
@@ -29,7 +29,8 @@ use Rattle.network.specs.Decode.{pathOf}
 use Rattle.network_rows.specs.Readers.{pathIds}
 use Rattle.network_row_parts.specs.PathLaws.{ids-path, path-is}
 use Rattle.state.specs.Session.{Session}
-use Rattle.wire.specs.Wire.{u32Bytes}
+use Rattle.wire.specs.Wire.{putU32, u32Bytes}
+use Rattle.wire.specs.WireLaws.{put-32}
 use Rattle.state.specs.SizeLaws.{session-tree-size}
 use Rattle.state_slots.specs.Slots.{treeIn}
 use Rattle.state_slots.specs.SlotLaws.{living-tree}
@@ -94,11 +95,8 @@ pub ruleset read-laws = (read-long, read-no-path, read-no-tree, read-nothing, re
 
 -- ---- `put_answer`
 
-pub answer-put : (v : ℕ) (m : List ℕ) {o₀ o₁ o₂ o₃ o₄ o₅ : List ℕ} {a b c d e n : ℕ} → Wrote o₀ o₁ 0 a 1 (v % 256 ∷ [])
-    → Wrote o₁ o₂ a b 1 (v / 256 % 256 ∷ []) → Wrote o₂ o₃ b c 1 (v / 65536 % 256 ∷ []) → Wrote o₃ o₄ c d 1 (v / 16777216 ∷ [])
-    → n ≡ length m → Wrote o₄ o₅ d e n (take n (drop 0 m)) → Wrote o₀ o₅ 0 e e (u32Bytes v ++ m)
-answer-put v m {n = n} x y z u g w =
+pub answer-put : (v : ℕ) (m : List ℕ) {o o₁ o₂ : List ℕ} {e n : ℕ} → 4 + length m ≤ length o → o₁ ≡ putU32 o 0 v → n ≡ length m
+    → Wrote o₁ o₂ 4 e n (take n (drop 0 m)) → Wrote o o₂ 0 e e (u32Bytes v ++ m)
+answer-put v m {o} {n = n} h x g w =
     wrote-all-of (ap (λ (l : List ℕ). u32Bytes v ++ l) (take-all n m (omega (arith, g))))
-    (wrote-more (wrote-more (wrote-more (wrote-more x y) z) u) w)
-
-pub ruleset answer-laws = (answer-put)
+    (wrote-more (wrote-of 0 4 (u32Bytes v) refl (omega (arith, h)) (x ∙ put-32 o 0 v (omega (arith, h)))) w)

@@ -80,11 +80,8 @@ fn put_answer(out: &mut [u8], number: u32, m: &[u8]) -> usize
     requires { ⌜ 4 + length (now m) ≤ length (now out) ⌝ }
     ensures { λ e. ⌜ Wrote (now (out .entry)) (now (out .exit)) 0 e e (u32Bytes number ++ now (m .entry)) ⌝ }
 {
-    let a = tree_edit::push(out, 0, (number % 256) as u8);
-    let b = tree_edit::push(out, a, (number / 256 % 256) as u8);
-    let c = tree_edit::push(out, b, (number / 65536 % 256) as u8);
-    let d = tree_edit::push(out, c, (number / 16777216) as u8);
-    tree_edit::append(out, d, m, 0, m.len())
+    wire::put_u32(out, 0, number);
+    tree_edit::append(out, 4, m, 0, m.len())
 }
 
 // Row r of the session in the slot replies to an outsider with what stands at the path of P row c.

@@ -7,7 +7,8 @@ use Rattle.tree_forest.specs.Path.{read}
 use Rattle.scalar.specs.Value.{Value}
 use Rattle.scalar.specs.Operator.{Answer, wrong, gives, ofBool, notOf, negateOf, addOf, subtractOf, lessOf, equalOf, andOf}
 use Rattle.tree.specs.Encode.{payload}
-use Rattle.network_syntax.specs.Syntax.{Unary, logicalNot, negate, Binary, add, subtract, less, equal, logicalAnd, Expression, constant, valueAt, presence, unary, binary}
+use Rattle.network_syntax.specs.Syntax.{Unary, logicalNot, negate, Binary, add, subtract, less, equal}
+use Rattle.network_syntax.specs.Syntax.{logicalAnd, Expression, constant, valueAt, presence, unary, binary}
 
 -- What evaluation answers. 18: "A value read is missing, an operand .. is of the wrong kind".
 pub data Evaluation (A : Type 0) : Type 0 where

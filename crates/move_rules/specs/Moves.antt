@@ -13,7 +13,8 @@ use Rattle.basics.specs.Choice.{pick}
 use Rattle.network_syntax.specs.Syntax.{MessageType, Expression, Optional, none, some, Network, Operation, input, output, Behaviour}
 use Rattle.network_syntax.specs.Rows.{atRow, Response, Input, Output, Local, assigns, decides, repeats, twoWayInput, twoWayOutput, inputOf, outputOf, localOf}
 use Rattle.network_syntax.specs.Rows.{isInputOperation}
-use Rattle.state.specs.Session.{receivedBy, Destination, outsider, waitingRow, Progress, undone, done, waits, received, taken, Progresses, advance, reopen, Session, withTree, withQueue, withProgress, Slot, free, live, State, setSlot, newSession}
+use Rattle.state.specs.Session.{receivedBy, Destination, outsider, waitingRow, Progress, undone, done, waits, received, taken, Progresses}
+use Rattle.state.specs.Session.{advance, reopen, Session, withTree, withQueue, withProgress, Slot, free, live, State, setSlot, newSession}
 use Rattle.refusal.specs.declared.Refusal.{Refusal}
 use Rattle.refusal.specs.declared.Refusal.the-variants.{MoveNotAllowed, QueueFull, NoMessage, Stuck, MessageMisfit}
 use Rattle.check_subtyping.specs.Own.{fits}
@@ -28,7 +29,7 @@ use Rattle.wire.specs.Wire.{u32Bytes}
 use Rattle.move_rules.specs.Readiness.{isDone, Reached, unreached, reached, offered, reach}
 use Rattle.state.specs.Shape.{behaviourIn}
 use Rattle.move_rules.specs.Targets.{Target, noTarget, queueFull, queued, starts, target}
-use Rattle.move_rules.specs.Evaluation.{Evaluation, missing, wrongKind, given, evaluate}
+use Rattle.move_rules.specs.Evaluation.{Evaluation, missing, wrongKind, given, found, evaluate}
 
 pub data Result : Type 0 where
   refused : Refusal → Result
@@ -48,10 +49,6 @@ abbrev pub onTree : Evaluation (Tree Value) → (Tree Value → Result) → Resu
 onTree missing f = refused Stuck
 onTree wrongKind f = refused Stuck
 onTree (given t) f = f t
-
-abbrev pub onFound : Lookup Value → (Tree Value → Result) → Result
-onFound absent f = refused Stuck
-onFound (present t) f = f t
 
 abbrev pub rootValue : Tree Value → Value
 rootValue (tree v k) = v
@@ -303,13 +300,13 @@ module _ (N : Network) (G : State) (q n : ℕ) (S : Session) where
   -- message go to the start of the out buffer."
   abbrev pub replyTo : ℕ → Operation → Path → Destination → Result
   replyTo r o c (outsider k) =
-      onFound (read c (S .tree))  -- 18
+      onTree (found (read c (S .tree)))  -- 18
       (λ m. mustFit m (o .reply)  -- 19
       (moved (goneOn G q n S r done) (u32Bytes k ++ messageBytes m)))
   replyTo r o c (waitingRow q2 n2 r2) =
       inSession N G q2 n2  -- 15
       (λ B2 S2. onWaitingRow q2 S2 (atRow r2 B2)  -- 15
-      (λ o2 x2. onFound (read c (S .tree))  -- 18
+      (λ o2 x2. onTree (found (read c (S .tree)))  -- 18
       (λ m. mustFit m (o2 .reply)  -- 19
       (takeReply (goneOn G q n S r done) q2 n2 r2 x2 m))))  -- 18: the tree
 

@@ -4,7 +4,8 @@
 use mathlib.Core.Bool.{Bool, true, false, _&&_}
 use Prim.Native.Nat.{ℕ, zero, suc}
 use lib.Dec.{eqb}
-use Rattle.network_syntax.specs.Syntax.{Behaviour, nil, oneWay, requestResponse, notification, solicitResponse, ifThenElse, whileDo, sequence, parallel, assign, choice, waiting, answering, Branches, lastBranch, branch}
+use Rattle.network_syntax.specs.Syntax.{Behaviour, nil, oneWay, requestResponse, notification, solicitResponse, ifThenElse, whileDo}
+use Rattle.network_syntax.specs.Syntax.{sequence, parallel, assign, choice, waiting, answering, Branches, lastBranch, branch}
 use Rattle.network_syntax.specs.Rows.{rowOf}
 use Rattle.state.specs.Session.{Progress, Progresses, undone, done, waits, received, taken}
 

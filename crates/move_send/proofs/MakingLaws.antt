@@ -38,7 +38,7 @@ use Rattle.state.specs.Bytes.{messageBytes, stateBytes, readSession}
 use Rattle.state.specs.Shape.{behaviourIn}
 use Rattle.state.specs.SizeLaws.{message-size}
 use Rattle.state.specs.ChangeLaws.{slot-same, set-other}
-use Rattle.move_rules.specs.Evaluation.{Evaluation, given, evaluate}
+use Rattle.move_rules.specs.Evaluation.{Evaluation, evaluate}
 use Rattle.move_rules.specs.Targets as definition
 use Rattle.move_rules.specs.Readiness.{reach}
 use Rattle.move_rules.specs.Moves.{Result, refused, moved, notAllowed, require, onTree, onOperation}
@@ -62,8 +62,8 @@ use Rattle.check_operations.specs.MeetingLaws.{met-exists}
 use Rattle.move_frame.specs.declared.Running.{Running}
 use Rattle.move_frame.specs.Made.{StateOf, MadeOut, Runs, RunsAt}
 use Rattle.move_frame.specs.MadeLaws.{in-session, running, refused-step, made-out-refused}
-use Rattle.move_fitting.specs.Fitting.{Comes, Passed, Passes}
-use Rattle.move_fitting.specs.FittingLaws.{tree-comes}
+use Rattle.move_fitting.specs.Fitting.{Comes, fittingTree, Passed, Passes}
+use Rattle.move_fitting.specs.FittingLaws.{value-comes}
 use Rattle.move_delivery.specs.declared.Arrival.{Arrival}
 use Rattle.move_delivery.specs.declared.Admission.{Admission}
 use Rattle.move_delivery.specs.Delivery.{MessageOffered, Known, AdmittedAs, Admits, Stores}
@@ -109,19 +109,11 @@ verdict-missing e = ap writtenVerdict (sym e)
 pub verdict-wrong : {w : Written} → w ≡ Written.Wrong → Refused Stuck ≡ writtenVerdict w
 verdict-wrong e = ap writtenVerdict (sym e)
 
--- A value goes on to its type, once it is given.
-abbrev fitting : Evaluation (Tree Value) → MessageType → (Tree Value → Result) → Result
-fitting y t k = onTree y (λ m. mustFit m t (k m))
-
-value-comes : {l : List ℕ} (m : Tree Value) (t : MessageType) (y : Evaluation (Tree Value)) → Encodes sessionLevels sessionNodes l m → y ≡ given m
-    → Comes l MessageMisfit t (fitting y t)
-value-comes m t y h e = tree-comes m t (fitting y t) h (λ k. ap (λ (z : Evaluation (Tree Value)). fitting z t k) e)
-
 written-offers : (buf : List ℕ) (w : Written) (t : MessageType) (y : Evaluation (Tree Value)) → WrittenAs buf w y
-    → MessageOffered (writtenVerdict w) (take (bytesWritten w) buf) MessageMisfit t (fitting y t)
+    → MessageOffered (writtenVerdict w) (take (bytesWritten w) buf) MessageMisfit t (fittingTree y t)
 written-offers buf (Written.Tree n) t y h = value-comes (h .0) t y (h .2) (h .1)
-written-offers buf Written.Missing t y h = λ k. ap (λ (z : Evaluation (Tree Value)). fitting z t k) h
-written-offers buf Written.Wrong t y h = λ k. ap (λ (z : Evaluation (Tree Value)). fitting z t k) h
+written-offers buf Written.Missing t y h = λ k. ap (λ (z : Evaluation (Tree Value)). fittingTree z t k) h
+written-offers buf Written.Wrong t y h = λ k. ap (λ (z : Evaluation (Tree Value)). fittingTree z t k) h
 
 request-is : (file : List ℕ) (o : ℕ) {r : ℕ} → r ≡ requestType file o → typeOf file r ≡ operationOf file o .request
 unfolding operationOf
@@ -191,14 +183,14 @@ module _ (file s : List ℕ) (slot i o e to : ℕ) (after : Progress) (out : Lis
       gone G q j S m = moved (goneOn G q j S i after) (messageBytes m)
 
       passed : (u : Verdict) → v ≡ u → WellFormed file → o < operationCount file → e < expressionCount file → (S : Session) → Living s slot S
-          → Passed u m (fitting (evaluate (S .tree) (expressionOf file e)) (operationOf file o .request))
+          → Passed u m (fittingTree (evaluate (S .tree) (expressionOf file e)) (operationOf file o .request))
       passed u g w lo le S h =
           let y = evaluate (S .tree) (expressionOf file e) in
           let z = subst (λ (d : Written). WrittenAs buf d y) f (k .tells w le S h) in
           let enc : Encodes sessionLevels sessionNodes m (z .0) = subst (λ (d : List ℕ). Encodes sessionLevels sessionNodes d (z .0)) (sym t) (z .2) in
-          subst (λ (d : Verdict). Passed d m (fitting y (operationOf file o .request))) g
-          (p .tells w (subst (λ (d : ℕ). d < typeCount file) (sym r) (operation-kept file w o lo .request .exists)) (fitting y (operationOf file o .request))
-          (subst (λ (d : MessageType). Comes m MessageMisfit d (fitting y (operationOf file o .request))) (sym (request-is file o r))
+          subst (λ (d : Verdict). Passed d m (fittingTree y (operationOf file o .request))) g
+          (p .tells w (subst (λ (d : ℕ). d < typeCount file) (sym r) (operation-kept file w o lo .request .exists)) (fittingTree y (operationOf file o .request))
+          (subst (λ (d : MessageType). Comes m MessageMisfit d (fittingTree y (operationOf file o .request))) (sym (request-is file o r))
           (value-comes (z .0) (operationOf file o .request) y enc (z .1))))
 
       pub outside-not : {why : Refusal} {a : Outcome} → v ≡ Refused why → a ≡ record { bytes = 0; verdict = v }
@@ -257,17 +249,17 @@ module _ (file s : List ℕ) (slot i k e to : ℕ) (after : Progress) (back : Op
   value S = evaluate (S .tree) (expressionOf file e)
 
   offered : WellFormed file → e < expressionCount file → (S : Session) → Living s slot S
-      → MessageOffered own m MessageMisfit (operationOf file k .request) (fitting (value S) (operationOf file k .request))
+      → MessageOffered own m MessageMisfit (operationOf file k .request) (fittingTree (value S) (operationOf file k .request))
   offered wf le S h =
-      subst (λ (v : Verdict). MessageOffered v m MessageMisfit (operationOf file k .request) (fitting (value S) (operationOf file k .request))) (sym ow)
-      (subst (λ (l : List ℕ). MessageOffered (writtenVerdict w) l MessageMisfit (operationOf file k .request) (fitting (value S) (operationOf file k .request)))
+      subst (λ (v : Verdict). MessageOffered v m MessageMisfit (operationOf file k .request) (fittingTree (value S) (operationOf file k .request))) (sym ow)
+      (subst (λ (l : List ℕ). MessageOffered (writtenVerdict w) l MessageMisfit (operationOf file k .request) (fittingTree (value S) (operationOf file k .request)))
       (sym (lm ∙ ap (λ (j : ℕ). take j buf) ln)) (written-offers buf w (operationOf file k .request) (value S) (wm .tells wf le S h)))
 
   admitted : {y : Admission} → x ≡ y → WellFormed file → k < operationCount file → e < expressionCount file → (G : State) → StateOf file s G → (S : Session)
-      → Living s slot S → AdmittedAs file G k to m o (fitting (value S) (operationOf file k .request)) y
+      → Living s slot S → AdmittedAs file G k to m o (fittingTree (value S) (operationOf file k .request)) y
   admitted f wf lo le G st S h =
-      subst (AdmittedAs file G k to m o (fitting (value S) (operationOf file k .request))) f
-      (ad .tells wf lo G st (fitting (value S) (operationOf file k .request)) (offered wf le S h))
+      subst (AdmittedAs file G k to m o (fittingTree (value S) (operationOf file k .request))) f
+      (ad .tells wf lo G st (fittingTree (value S) (operationOf file k .request)) (offered wf le S h))
 
   pub inside-not : {why : Refusal} {a : Outcome} → x ≡ Admission.Refused why → a ≡ refusedBy why → SendsInside file s slot i k e to after back s a
   inside-not f g = record {
@@ -276,7 +268,7 @@ module _ (file s : List ℕ) (slot i k e to : ℕ) (after : Progress) (back : Op
   }
 
   pub inside-sent : {y : Arrival} {s₁ s′ : List ℕ} {a : Outcome} → x ≡ Admission.Admitted y → i < 256 → s₁ ≡ rowStored s slot i after
-      → Stores file k back m o y s₁ s′ → a ≡ doneWith 0 → SendsInside file s slot i k e to after back s′ a
+      → Stores k back m o y s₁ s′ → a ≡ doneWith 0 → SendsInside file s slot i k e to after back s′ a
   inside-sent {y} {s₁} {s′} f l eb d g = record {
     tells = λ wf lo le G st q j b h out.
         let N = networkOf file in
@@ -286,7 +278,7 @@ module _ (file s : List ℕ) (slot i k e to : ℕ) (after : Progress) (back : Op
         let z = admitted f wf lo le G st (h .session) (h .living) in
         let kn : Known G₁ op to T = subst (Known G₁ op to) (gone-target N G q j (h .session) to i after op (h .isLive)) (target-known N G₁ op to) in
         ap (λ (u : Outcome). record { outcome = u; state = s′; out = out }) g
-        ∙ (d .tells wf lo G₁ (gone-holding h i after st l eb) to T kn (z .0) (z .1) (z .2) s out ∙ ap (finish s out) (sym (z .3 G₁ back)));
+        ∙ (d .tells file wf lo G₁ (gone-holding h i after st l eb) to T kn (z .0) (z .1) (z .2) s out ∙ ap (finish s out) (sym (z .3 G₁ back)));
   }
 
 pub ruleset inside-laws = (inside-not, inside-sent)

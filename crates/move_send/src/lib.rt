@@ -115,12 +115,8 @@ fn send_outside(
     let Written::Tree(n) = write_message(&mut m, file, state, slot, e) else {
         return refusal::refused(Refusal::Stuck);
     };
-    let v = move_fitting::passes(
-        &m[..n],
-        file,
-        network_rows::request_type(file, o),
-        Refusal::MessageMisfit,
-    );
+    let t = network_rows::request_type(file, o);
+    let v = move_fitting::passes(&m[..n], file, t, Refusal::MessageMisfit);
     let Verdict::Done = v else {
         return Outcome {
             bytes: 0,
@@ -131,8 +127,7 @@ fn send_outside(
         return refusal::refused(Refusal::MessageMisfit);
     }
     state_progress::put_row(state, slot, i, after);
-    let w = tree_edit::append(out, 0, &m[..n], 0, n);
-    refusal::done(w)
+    refusal::done(tree_edit::append(out, 0, &m[..n], 0, n))
 }
 
 // The length of the message, 0 where there is none; and what it answers itself, 18 where there is none.
@@ -189,7 +184,7 @@ fn send_inside(
         Admission::Refused(why) => refusal::refused(why),
         Admission::Admitted(y) => {
             state_progress::put_row(state, slot, i, after);
-            move_delivery::store(file, state, k, back, &m[..n], y, &tree);
+            move_delivery::store(state, k, back, &m[..n], y, &tree);
             refusal::done(0)
         }
     }

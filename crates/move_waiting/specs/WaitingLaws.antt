@@ -29,7 +29,8 @@ waits-in {file} {s} {G} {q} {n} {slot} {b} {r} h k w f =
 
 -- 17 and 19 at the reply type of O row o.
 pub reply-passes : {m file : List ℕ} {y : ℕ} {other : Refusal} {v : Verdict} (o : ℕ) → Passes m file y other v → y ≡ replyType file o → WellFormed file
-    → o < operationCount file → operationOf file o .twoWay ≡ true → (f : (Tree Value → Result) → Result) → Comes m other (operationOf file o .reply) f → Passed v m f
+    → o < operationCount file → operationOf file o .twoWay ≡ true → (f : (Tree Value → Result) → Result) → Comes m other (operationOf file o .reply) f
+    → Passed v m f
 reply-passes {m} {file} {y} {other} o p e w l two f c =
     let r = reply-row file w o l two in
     p .tells w (subst (λ (z : ℕ). z < typeCount file) (sym e) (r .1)) f

@@ -253,7 +253,8 @@ module _ (s : List ℕ) where
   broken-below p (inType r l (typeCardinality h)) = in-type r p l (here _ _ _ h)
   broken-below p (inType r l (typeBasicType h)) = in-type r p l (past _ _ _ p (here _ _ _ h))
   broken-below p (inType r l (typeChildren h)) = in-type r p l (past _ _ _ p (past _ _ _ p (here _ _ _ h)))
-  broken-below p (inType r l (childId j k h)) = in-type r p l (past _ _ _ p (past _ _ _ p (past _ _ _ p (over-below (childRule s (firstChild s r) (childCount s r)) (typeCount s) j p k (here _ _ _ h)))))
+  broken-below p (inType r l (childId j k h)) =
+      in-type r p l (past _ _ _ p (past _ _ _ p (past _ _ _ p (over-below (childRule s (firstChild s r) (childCount s r)) (typeCount s) j p k (here _ _ _ h)))))
   broken-below p (inExpression r l (expressionKindByte h)) = in-expression r p l (here _ _ _ h)
   broken-below p (inExpression r l (expressionBasic h)) = in-expression r p l (past _ _ _ p (here _ _ _ h))
   broken-below p (inExpression r l (expressionA h)) = in-expression r p l (past _ _ _ p (past _ _ _ p (here _ _ _ h)))
@@ -266,7 +267,8 @@ module _ (s : List ℕ) where
   broken-below p (inBehaviour r l (behaviourC h)) = in-behaviour r p l (past _ _ _ p (past _ _ _ p (past _ _ _ p (past _ _ _ p (here _ _ _ h)))))
   broken-below p (inBehaviour r l (behaviourD h)) = in-behaviour r p l (past _ _ _ p (past _ _ _ p (past _ _ _ p (past _ _ _ p (past _ _ _ p (here _ _ _ h))))))
   broken-below p (inBehaviour r l (choiceBranches j k c h)) =
-      in-behaviour r p l (past _ _ _ p (past _ _ _ p (past _ _ _ p (past _ _ _ p (past _ _ _ p (past _ _ _ p (branch-low r p c (over-below (branchRule s (behaviourAt s r)) (behaviourCount s) j p k (here _ _ _ h)))))))))
+      in-behaviour r p l (past _ _ _ p (past _ _ _ p (past _ _ _ p (past _ _ _ p (past _ _ _ p (past _ _ _ p
+      (branch-low r p c (over-below (branchRule s (behaviourAt s r)) (behaviourCount s) j p k (here _ _ _ h)))))))))
   broken-below p (inUse r l (neverUsed h)) = in-use r p l (here _ _ _ h)
   broken-below p (inUse r l (usedAgainByRow j k h)) =
       in-use r p l (past _ _ _ p (least-below (leastOver (behaviourCount s) (rowUseRule s r)) (leastOver (serviceCount s) (serviceUseRule s r)) p
@@ -279,15 +281,21 @@ module _ (s : List ℕ) where
   broken-below p (inOperation r l (operationTwoWayByte h)) = in-operation r p l (past _ _ _ p (past _ _ _ p (here _ _ _ h)))
   broken-below p (inOperation r l (operationUnused h)) = in-operation r p l (past _ _ _ p (past _ _ _ p (past _ _ _ p (here _ _ _ h))))
   broken-below p (inOperation r l (operationIdZero h)) = in-operation r p l (past _ _ _ p (past _ _ _ p (past _ _ _ p (past _ _ _ p (here _ _ _ h)))))
-  broken-below p (inOperation r l (operationPlace h)) = in-operation r p l (past _ _ _ p (past _ _ _ p (past _ _ _ p (past _ _ _ p (past _ _ _ p (here _ _ _ h))))))
-  broken-below p (inOperation r l (operationRequest h)) = in-operation r p l (past _ _ _ p (past _ _ _ p (past _ _ _ p (past _ _ _ p (past _ _ _ p (past _ _ _ p (here _ _ _ h)))))))
-  broken-below p (inOperation r l (operationReply h)) = in-operation r p l (past _ _ _ p (past _ _ _ p (past _ _ _ p (past _ _ _ p (past _ _ _ p (past _ _ _ p (past _ _ _ p (here _ _ _ h))))))))
-  broken-below p (inOperation r l (operationRepeated j k h)) = in-operation r p l (past _ _ _ p (past _ _ _ p (past _ _ _ p (past _ _ _ p (past _ _ _ p (past _ _ _ p (past _ _ _ p (past _ _ _ p (over-below (repeatRule s r) (r) j p k (here _ _ _ h))))))))))
+  broken-below p (inOperation r l (operationPlace h)) =
+      in-operation r p l (past _ _ _ p (past _ _ _ p (past _ _ _ p (past _ _ _ p (past _ _ _ p (here _ _ _ h))))))
+  broken-below p (inOperation r l (operationRequest h)) =
+      in-operation r p l (past _ _ _ p (past _ _ _ p (past _ _ _ p (past _ _ _ p (past _ _ _ p (past _ _ _ p (here _ _ _ h)))))))
+  broken-below p (inOperation r l (operationReply h)) =
+      in-operation r p l (past _ _ _ p (past _ _ _ p (past _ _ _ p (past _ _ _ p (past _ _ _ p (past _ _ _ p (past _ _ _ p (here _ _ _ h))))))))
+  broken-below p (inOperation r l (operationRepeated j k h)) =
+      in-operation r p l (past _ _ _ p (past _ _ _ p (past _ _ _ p (past _ _ _ p (past _ _ _ p (past _ _ _ p (past _ _ _ p (past _ _ _ p
+      (over-below (repeatRule s r) (r) j p k (here _ _ _ h))))))))))
   broken-below p (inService r l (serviceLocationZero h)) = in-service r p l (here _ _ _ h)
   broken-below p (inService r l (serviceStarter h)) = in-service r p l (past _ _ _ p (here _ _ _ h))
   broken-below p (inService r l (serviceClient h)) = in-service r p l (past _ _ _ p (past _ _ _ p (here _ _ _ h)))
   broken-below p (inService r l (serviceUnused h)) = in-service r p l (past _ _ _ p (past _ _ _ p (past _ _ _ p (here _ _ _ h))))
-  broken-below p (inService r l (serviceRepeated j k h)) = in-service r p l (past _ _ _ p (past _ _ _ p (past _ _ _ p (past _ _ _ p (over-below (locationRule s r) (r) j p k (here _ _ _ h))))))
+  broken-below p (inService r l (serviceRepeated j k h)) =
+      in-service r p l (past _ _ _ p (past _ _ _ p (past _ _ _ p (past _ _ _ p (over-below (locationRule s r) (r) j p k (here _ _ _ h))))))
 
   -- ---- too large
 

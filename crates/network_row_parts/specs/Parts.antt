@@ -1,5 +1,6 @@
--- E rows by their parts, and the sub-behaviours of B rows. 01, E: "0 constant (basic; a start in D, b length), 1 path a, 2 is path a present, 3 not, 4 negate, 5 add,
--- 6 subtract, 7 less, 8 equal, 9 and. Operands a, b are earlier rows." A row with an operand that is no earlier row is broken.
+-- E rows by their parts, and the sub-behaviours of B rows. 01, E: "0 constant (basic; a start in D, b length), 1 path a, 2 is path a present,
+-- 3 not, 4 negate, 5 add, 6 subtract, 7 less, 8 equal, 9 and. Operands a, b are earlier rows." A row with an operand that is no earlier row is
+-- broken.
 use mathlib.Core.List.{List}
 use mathlib.Core.Bool.{_&&_}
 use Prim.Native.Nat.{ℕ}

@@ -5,7 +5,9 @@ use mathlib.Core.List.{List, [], _∷_}
 use Rattle.scalar.specs.Basic.{void}
 use Rattle.scalar.specs.Value.{value}
 use Rattle.tree_forest.specs.Path.{Path, path}
-use Rattle.network_syntax.specs.Syntax.{logicalNot, negate, add, subtract, less, equal, logicalAnd, Expression, constant, valueAt, presence, unary, binary, Behaviour, nil, oneWay, requestResponse, notification, solicitResponse, ifThenElse, whileDo, sequence, parallel, assign, choice, Optional, none, some}
+use Rattle.network_syntax.specs.Syntax.{logicalNot, negate, add, subtract, less, equal, logicalAnd, Expression, constant, valueAt}
+use Rattle.network_syntax.specs.Syntax.{presence, unary, binary, Behaviour, nil, oneWay, requestResponse, notification, solicitResponse}
+use Rattle.network_syntax.specs.Syntax.{ifThenElse, whileDo, sequence, parallel, assign, choice, Optional, none, some}
 use Rattle.network_syntax.specs.Rows.{Input, Output}
 use Rattle.network.specs.Layout.{dataPart}
 use Rattle.network.specs.Decode.{untilZero, pathOf, expressionOf, operationOf, branchesFrom}

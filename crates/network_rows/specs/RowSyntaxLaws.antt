@@ -63,7 +63,8 @@ unfolding behaviourTo behaviourRowOf
 behaviour-row-is s d r = behaviour-kind-is s (behaviourTo s d) r (behaviourAt s r) (kindAt s r)
 
 pub views-with-are : (s : List ℕ) (sub : ℕ → Behaviour) (r : ℕ) (y : BehaviourRow)
-    → (inputOf (behaviourWith s sub r y) ≡ inputWith s sub r (inputRowIn (viewIn y))) × (outputOf (behaviourWith s sub r y) ≡ outputWith s r (outputRowIn (viewIn y)))
+    → (inputOf (behaviourWith s sub r y) ≡ inputWith s sub r (inputRowIn (viewIn y)))
+    × (outputOf (behaviourWith s sub r y) ≡ outputWith s r (outputRowIn (viewIn y)))
 unfolding viewIn
 views-with-are s sub r BehaviourRow.Nil = (refl, refl)
 views-with-are s sub r (BehaviourRow.OneWay o p) = (refl, refl)

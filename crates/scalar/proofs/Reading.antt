@@ -5,19 +5,17 @@ use mathlib.Core.Path.{_≡_, refl, sym, ap, _∙_, subst}
 use mathlib.Core.Bool.{true, false}
 use mathlib.Core.Bool as B
 use mathlib.Core.List.{List, [], _∷_, _++_}
-use lib.ListN.{length, take, drop, set, take-append-drop}
+use lib.ListN.{length, take, drop, take-append-drop}
 use native.Mathlib.Nat.{add-zero}
 use borrow.Author.Tests.{eqb-true, eqb-false}
-use lib.Seq.{set-split}
 use lib.Dec.{eqb}
 use lib.IntN.{ℤ}
 use lib.Ieee.{Float, binary64, ofBits, toBits}
-use native.Mathlib.Numerals.{add-one}
 use mir.Syntax.{Width, w32, w64}
 use mir.Val.{bits, SFits, toZ, ofZ}
 use Rattle.integer.specs.WrapLaws.{pattern-exact}
 use Rattle.wire.specs.Wire.{byteAt, u32At, u64At, putU32, putU64, part, withPart}
-use Rattle.wire.specs.WireLaws.{length-part}
+use Rattle.wire.specs.WireLaws.{length-part, put-32, put-64}
 use Rattle.scalar.specs.declared.Scalar.{Scalar}
 use Rattle.scalar.specs.declared.Scalar.the-variants.{Bool, Int, Double, Long, String, Raw, Void}
 use Rattle.scalar.specs.declared.Operand.{Operand}
@@ -27,7 +25,7 @@ use Rattle.scalar.specs.Basic.{bool, int, double, long, string, raw, voi
 use Rattle.scalar.specs.ValueLaws.{number-8, number-32, number-64, bool-bytes, integer-bytes, double-bytes, string-bytes, raw-bytes, void-bytes}
 use Rattle.scalar.specs.Operator.{bit, signed, wrapped, doubleOf}
 use Rattle.wire.specs.Wire.{littleEndian}
-use Rattle.scalar.specs.NumberLaws.{part-bytes, wrapped-signed, double-same, length-littleEndian, put-32, put-64}
+use Rattle.scalar.specs.NumberLaws.{part-bytes, wrapped-signed, double-same, length-littleEndian, little-32, little-64}
 use Rattle.scalar.specs.Scalar.{valueBeside, valueOf, beside}
 
 -- ---- read
@@ -132,20 +130,18 @@ written-as : (s t : List ℕ) (at n : ℕ) {v u : List ℕ} → v ≡ u → Writ
 written-as s t at n e w = subst (Written s t at n) (sym e) w
 
 module _ (s t : List ℕ) (at : ℕ) (v : List ℕ) where
-  pub wrote-byte : {a r : ℕ} → v ≡ a ∷ [] → at + length v ≤ length s → r ≡ a → t ≡ set s at r → Written s t at 1 v
-  wrote-byte {a} {r} e h k w =
-      let l : at + 1 ≤ length s = rw e at h in
-      written-as s t at 1 e (refl, w ∙ rw k (set-split s at a (omega arith)) ∙ ap (λ (i : ℕ). take at s ++ (a ∷ drop i s)) (sym (add-one at)))
+  pub wrote-byte : {a r : ℕ} → v ≡ a ∷ [] → r ≡ a → t ≡ withPart s at (r ∷ []) → Written s t at 1 v
+  wrote-byte e k w = written-as s t at 1 e (refl, w ∙ ap (λ (i : ℕ). withPart s at (i ∷ [])) k)
 
   pub wrote-32 : {a r : ℕ} → v ≡ littleEndian 4 a → at + length v ≤ length s → r < 0x100000000 → r ≡ a → t ≡ putU32 s at r → Written s t at 4 v
   wrote-32 {a} {r} e h f k w =
       let l : at + 4 ≤ length s = rw (e, length-littleEndian 4 a) at h in
-      written-as s t at 4 e (sym (length-littleEndian 4 a), w ∙ put-32 s at r f l ∙ ap (λ (i : ℕ). withPart s at (littleEndian 4 i)) k)
+      written-as s t at 4 e (sym (length-littleEndian 4 a), w ∙ put-32 s at r l ∙ ap (withPart s at) (little-32 r f ∙ ap (littleEndian 4) k))
 
   pub wrote-64 : {a r : ℕ} → v ≡ littleEndian 8 a → at + length v ≤ length s → r < 0x10000000000000000 → r ≡ a → t ≡ putU64 s at r → Written s t at 8 v
   wrote-64 {a} {r} e h f k w =
       let l : at + 8 ≤ length s = rw (e, length-littleEndian 8 a) at h in
-      written-as s t at 8 e (sym (length-littleEndian 8 a), w ∙ put-64 s at r f l ∙ ap (λ (i : ℕ). withPart s at (littleEndian 8 i)) k)
+      written-as s t at 8 e (sym (length-littleEndian 8 a), w ∙ put-64 s at r l ∙ ap (withPart s at) (little-64 r f ∙ ap (littleEndian 8) k))
 
   pub wrote-all : {u : List ℕ} (n : ℕ) → v ≡ u → Written s t at n u → Written s t at n v
   wrote-all n e w = written-as s t at n e w

@@ -1,13 +1,11 @@
 -- Laws of numbers as the bytes of a value: what is written is read back, and what an operator writes is a value.
 use mathlib.Core.Path.{_≡_, refl, ap, sym, _∙_}
-use mathlib.Core.List.{List, [], _∷_, _++_, append-assoc}
+use mathlib.Core.List.{List, [], _∷_, _++_}
 use mathlib.Core.Bool.{Bool, true, false, not, _||_}
 use Prim.Native.Nat.{ℕ, zero, suc, _+_, _*_, _/_, _%_, _^_, _≤_, _<_}
-use native.Mathlib.Nat.{pow-suc, pow-succ', mul-assoc, add-zero, add-suc, suc-add}
-use native.Mathlib.Numerals.{add-one}
+use native.Mathlib.Nat.{pow-suc}
 use native.Mathlib.Omega.{arith}
-use lib.ListN.{length, take, drop, set, length-append}
-use lib.Seq.{sets, sets-eq}
+use lib.ListN.{length}
 use lib.Dec.{T, eqb, leb}
 use lib.IntN.{ℤ}
 use lib.Ieee.{Float, nan, inf, fin, binary64, isNan, nanBits, fits, ofBits, toBits, ofFields}
@@ -16,7 +14,7 @@ use borrow.Author.Tests.{le-leb, le-ltb, ltb-false, leb-true, leb-false, eqb-tru
 use mir.Syntax.{Width, w8, w16, w32, w64, w128}
 use mir.Val.{bits, toZ, SFits, Fits}
 use mir.ValLaws.{ofZ-toZ, toZ-fits}
-use Rattle.wire.specs.Wire.{byteAt, putU16, putU32, putU64, part, withPart}
+use Rattle.wire.specs.Wire.{byteAt, part, u32Bytes}
 use Rattle.wire.specs.WireLaws.{agree-byte, part-agrees, byte-past, length-part}
 use Rattle.integer.specs.Wrap.{pattern, wrap}
 use Rattle.integer.specs.WrapLaws.{pattern-fits, pattern-exact, wrap-exact, wrap-fits, wrap-pattern}
@@ -194,84 +192,27 @@ small-bit true zero = omega arith
 small-bit false zero = omega arith
 small-bit t (suc k) = omega arith
 
--- ---- numbers stored in a slice, as the bytes of a value
+-- ---- the bytes of a number that is stored are those of a value
 
-sets-append : (s : List ℕ) (i : ℕ) (v u : List ℕ) → sets s i (v ++ u) ≡ sets (sets s i v) (i + length v) u
-sets-append s i [] u = ap (λ (k : ℕ). sets s k u) (sym (add-zero i))
-sets-append s i (a ∷ v) u =
-    sets-append (set s i a) (suc i) v u
-    ∙ ap (λ (k : ℕ). sets (sets (set s i a) (suc i) v) k u) (suc-add i (length v) ∙ sym (add-suc i (length v)))
-
-put-sets-16 : (s : List ℕ) (at v : ℕ) → v < 0x10000 → putU16 s at v ≡ sets s at (littleEndian 2 v)
-unfolding putU16 littleEndian
-put-sets-16 s at v h =
-    let e : v / 256 % 256 ≡ v / 256 = omega arith in
-    rw (e, add-one at) refl
-
--- The bytes of a number are those of its low part, then those of its high part.
-bytes-littleEndian : (n x : ℕ) → Bytes (littleEndian n x)
+pub little-32 : (v : ℕ) → v < 0x100000000 → u32Bytes v ≡ littleEndian 4 v
 unfolding littleEndian
-bytes-littleEndian zero x = none
-bytes-littleEndian (suc n) x = more {b = x % 256} (omega arith) (bytes-littleEndian n (x / 256))
+little-32 v h =
+    let b : v / 65536 ≡ v / 256 / 256 = omega arith in
+    let c : v / 16777216 ≡ v / 256 / 256 / 256 % 256 = omega arith in
+    rw (b, c)
 
-bytes-append : {v u : List ℕ} → Bytes v → Bytes u → Bytes (v ++ u)
-bytes-append none k = k
-bytes-append (more h r) k = more h (bytes-append r k)
-
-number-append : (v u : List ℕ) → unsignedOf (v ++ u) ≡ unsignedOf v + 256 ^ length v * unsignedOf u
-unfolding unsignedOf
-number-append [] u = omega arith
-number-append (a ∷ v) u =
-    let p : 256 ^ suc (length v) * unsignedOf u ≡ 256 * (256 ^ length v * unsignedOf u) =
-    ap (λ (k : ℕ). k * unsignedOf u) (pow-succ' 256 (length v)) ∙ mul-assoc 256 (256 ^ length v) (unsignedOf u) in
-    omega (arith, number-append v u)
-
-join : (m n lo hi : ℕ) → lo < 256 ^ m → hi < 256 ^ n → littleEndian m lo ++ littleEndian n hi ≡ littleEndian (m + n) (lo + 256 ^ m * hi)
-join m n lo hi h k =
-    let v = littleEndian m lo in
-    let u = littleEndian n hi in
-    let l : length (v ++ u) ≡ m + n = length-append v u ∙ rw (length-littleEndian m lo, length-littleEndian n hi) refl in
-    let e : unsignedOf (v ++ u) ≡ lo + 256 ^ m * hi =
-    number-append v u ∙ rw (length-littleEndian m lo, number-littleEndian m lo h, number-littleEndian n hi k) refl in
-    sym (littleEndian-number (bytes-append (bytes-littleEndian m lo) (bytes-littleEndian n hi))) ∙ rw (l, e) refl
-
-halves-32 : (v : ℕ) → v < 0x100000000 → littleEndian 2 (v % 0x10000) ++ littleEndian 2 (v / 0x10000) ≡ littleEndian 4 v
-halves-32 v h =
-    let e : v % 0x10000 + 0x10000 * (v / 0x10000) ≡ v = omega arith in
-    join 2 2 (v % 0x10000) (v / 0x10000) (omega arith) (omega arith) ∙ ap (littleEndian 4) e
-
-halves-64 : (v : ℕ) → v < 0x10000000000000000 → littleEndian 4 (v % 0x100000000) ++ littleEndian 4 (v / 0x100000000) ≡ littleEndian 8 v
-halves-64 v h =
-    let e : v % 0x100000000 + 0x100000000 * (v / 0x100000000) ≡ v = omega arith in
-    join 4 4 (v % 0x100000000) (v / 0x100000000) (omega arith) (omega arith) ∙ ap (littleEndian 8) e
-
-put-sets-32 : (s : List ℕ) (at v : ℕ) → v < 0x100000000 → putU32 s at v ≡ sets s at (littleEndian 4 v)
-unfolding putU32
-put-sets-32 s at v h =
-    put-sets-16 (putU16 s at (v % 0x10000)) (at + 2) (v / 0x10000) (omega arith)
-    ∙ ap (λ (x : List ℕ). sets x (at + 2) (littleEndian 2 (v / 0x10000))) (put-sets-16 s at (v % 0x10000) (omega arith))
-    ∙ ap (λ (k : ℕ). sets (sets s at (littleEndian 2 (v % 0x10000))) (at + k) (littleEndian 2 (v / 0x10000))) (sym (length-littleEndian 2 (v % 0x10000)))
-    ∙ sym (sets-append s at (littleEndian 2 (v % 0x10000)) (littleEndian 2 (v / 0x10000)))
-    ∙ ap (sets s at) (halves-32 v h)
-
-put-sets-64 : (s : List ℕ) (at v : ℕ) → v < 0x10000000000000000 → putU64 s at v ≡ sets s at (littleEndian 8 v)
-unfolding putU64
-put-sets-64 s at v h =
-    put-sets-32 (putU32 s at (v % 0x100000000)) (at + 4) (v / 0x100000000) (omega arith)
-    ∙ ap (λ (x : List ℕ). sets x (at + 4) (littleEndian 4 (v / 0x100000000))) (put-sets-32 s at (v % 0x100000000) (omega arith))
-    ∙ ap (λ (k : ℕ). sets (sets s at (littleEndian 4 (v % 0x100000000))) (at + k) (littleEndian 4 (v / 0x100000000)))
-    (sym (length-littleEndian 4 (v % 0x100000000)))
-    ∙ sym (sets-append s at (littleEndian 4 (v % 0x100000000)) (littleEndian 4 (v / 0x100000000)))
-    ∙ ap (sets s at) (halves-64 v h)
-
-sets-part : (s : List ℕ) (at : ℕ) (v : List ℕ) → at + length v ≤ length s → sets s at v ≡ withPart s at v
-sets-part s at v h = sets-eq v s at h ∙ append-assoc (take at s) v (drop (at + length v) s)
-
-pub put-16 : (s : List ℕ) (at v : ℕ) → v < 0x10000 → at + 2 ≤ length s → putU16 s at v ≡ withPart s at (littleEndian 2 v)
-put-16 s at v h l = put-sets-16 s at v h ∙ sets-part s at (littleEndian 2 v) (rw (length-littleEndian 2 v) l)
-
-pub put-32 : (s : List ℕ) (at v : ℕ) → v < 0x100000000 → at + 4 ≤ length s → putU32 s at v ≡ withPart s at (littleEndian 4 v)
-put-32 s at v h l = put-sets-32 s at v h ∙ sets-part s at (littleEndian 4 v) (rw (length-littleEndian 4 v) l)
-
-pub put-64 : (s : List ℕ) (at v : ℕ) → v < 0x10000000000000000 → at + 8 ≤ length s → putU64 s at v ≡ withPart s at (littleEndian 8 v)
-put-64 s at v h l = put-sets-64 s at v h ∙ sets-part s at (littleEndian 8 v) (rw (length-littleEndian 8 v) l)
+pub little-64 : (v : ℕ) → v < 0x10000000000000000 → u32Bytes (v % 0x100000000) ++ u32Bytes (v / 0x100000000) ≡ littleEndian 8 v
+unfolding littleEndian
+little-64 v h =
+    let small : v / 256 / 256 / 256 / 256 < 0x100000000 = omega arith in
+    let a : v % 0x100000000 % 256 ≡ v % 256 = omega arith in
+    let e : v / 256 % 0x1000000 % 256 ≡ v / 256 % 256 = omega arith in
+    let f : v / 256 / 256 % 0x10000 % 256 ≡ v / 256 / 256 % 256 = omega arith in
+    let w : v / 256 / 0x1000000 ≡ v / 0x100000000 = omega arith in
+    let x : v / 256 / 256 / 0x10000 ≡ v / 0x100000000 = omega arith in
+    let y : v / 256 / 256 / 256 / 256 ≡ v / 0x100000000 = omega arith in
+    let b : v % 0x100000000 / 256 ≡ v / 256 % 0x1000000 = omega (arith, w) in
+    let c : v % 0x100000000 / 65536 ≡ v / 256 / 256 % 0x10000 = omega (arith, x) in
+    let d : v % 0x100000000 / 16777216 ≡ v / 256 / 256 / 256 % 256 = omega (arith, y) in
+    rw (a, b, c, d, e, f, ← y)
+    (ap (λ (l : List ℕ). v % 256 ∷ v / 256 % 256 ∷ v / 256 / 256 % 256 ∷ v / 256 / 256 / 256 % 256 ∷ l) (little-32 (v / 256 / 256 / 256 / 256) small))

@@ -19,7 +19,8 @@ use mir.Val.{bits}
 use Rattle.wire.specs.Wire.{byteAt}
 use Rattle.integer.specs.Wrap.{pattern, modulo}
 use Rattle.scalar.specs.Basic.{bool, int, double, long, void, lastBasic}
-use Rattle.scalar.specs.Value.{Value, value, basicOf, bytesOf, SoundValue, Arithmetic, integral, floating, noArithmetic, BasicType, basicTypes, noType, basicType}
+use Rattle.scalar.specs.Value.{Value, value, basicOf, bytesOf, SoundValue, Arithmetic, integral}
+use Rattle.scalar.specs.Value.{floating, noArithmetic, BasicType, basicTypes, noType, basicType}
 use Rattle.wire.specs.Wire.{unsignedOf}
 use Rattle.basics.specs.Choice.{pick}
 use Rattle.basics.specs.TestLaws.{and-left, and-right}

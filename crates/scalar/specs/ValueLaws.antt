@@ -16,7 +16,8 @@ use Rattle.basics.specs.TestLaws.{and-of}
 use Rattle.wire.specs.Wire.{byteAt, u16At, u32At, u64At, part}
 use Rattle.wire.specs.WireLaws.{length-part}
 use Rattle.scalar.specs.Basic.{bool, double, long, string, raw, void, lastBasic}
-use Rattle.scalar.specs.Value.{isValue, isDouble, BasicType, boolType, intType, doubleType, longType, stringType, rawType, voidType, noType, basicTypes, basicType, integral, noArithmetic}
+use Rattle.scalar.specs.Value.{isValue, isDouble, BasicType, boolType, intType, doubleType, longType, stringType}
+use Rattle.scalar.specs.Value.{rawType, voidType, noType, basicTypes, basicType, integral, noArithmetic}
 use Rattle.wire.specs.Wire.{unsignedOf}
 
 -- ---- every basic type

@@ -393,7 +393,7 @@ pub fn write(out: &mut [u8], at: usize, x: Operand) -> usize
     let k = x.scalar;
     match k {
         Scalar::Bool(p) => {
-            out[at] = flag(p);
+            wire::put_u8(out, at, flag(p));
             1
         }
         Scalar::Int(p) => {

@@ -8,6 +8,7 @@ use lib.ListN.{length}
 use Rattle.basics.specs.Choice.{pick}
 use Rattle.network.specs.Layout.{behaviourCount}
 use Rattle.network.specs.Decode.{networkOf}
+use Rattle.state.specs.Places.{outRoom}
 use Rattle.state.specs.Session.{State}
 use Rattle.state.specs.Shape.{Stands}
 use Rattle.move_rules.specs.Moves.{local}
@@ -27,7 +28,7 @@ pub record KeepsPromise (file s : List ℕ) (l : List Turn) (t : Turn) (n : ℕ)
   pub never19 : T (sendsOrReplies (t .move)) → n ≡ 19 → ⊥
   pub readyMoves : (G : State) → Stands (networkOf file) (behaviourCount file) s G → (service session row : ℕ)
       → t .move ≡ local service session row
-      → Ready (networkOf file) G service session row → n ≡ pick (leb 512 (length (t .out))) 0 1
+      → Ready (networkOf file) G service session row → n ≡ pick (leb outRoom (length (t .out))) 0 1
   pub leaves : left ≡ after file (freshBytes file) (l ++ (t ∷ []))
   pub state : State
   pub stands : Stands (networkOf file) (behaviourCount file) left state

@@ -11,9 +11,11 @@ use Rattle.network_syntax.specs.Rows.{hasRow, hasRowIn}
 use Rattle.network.specs.Shapes.{Outside, EachRowOnce, EachBranchRowOnce}
 use Rattle.state.specs.Session.{Progress, Progresses, Destination, undone, received, taken}
 use Rattle.state.specs.Shape.{isUndone, undoneOrDone, undoneDoneOrWaits, undoneDoneOrReceived, undoneOrTaken, undoneDoneOrBody, branches, suits, suitsBranches}
-use Rattle.soundness.specs.Parts.{branchAt, Fresh, FreshBranches, notTaken, Clean, CleanBranches, Reaches, atSelf, atFirst, atSecond, atLeft, atRight, atThen, atElse}
+use Rattle.soundness.specs.Parts.{branchAt, Fresh, FreshBranches, notTaken, Clean, CleanBranches}
+use Rattle.soundness.specs.Parts.{Reaches, atSelf, atFirst, atSecond, atLeft, atRight, atThen, atElse}
 use Rattle.soundness.specs.Parts.{atLoop, atServed, atBranch}
-use Rattle.soundness.specs.RowLaws.{in-own, in-first, in-second, in-only, in-branches, in-input, in-then, in-others, branch-rows, branch-once, branch-clean}
+use Rattle.soundness.specs.RowLaws.{in-own, in-first, in-second, in-only, in-branches, in-input}
+use Rattle.soundness.specs.RowLaws.{in-then, in-others, branch-rows, branch-once, branch-clean}
 use Rattle.soundness.specs.RowLaws.{reaches-rows, Off}
 
 mutual

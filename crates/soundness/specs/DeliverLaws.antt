@@ -21,7 +21,8 @@ use Rattle.check_typing.specs.EnvironmentLaws.{sums, maxima}
 use Rattle.check_typing.specs.Rules.{Derives}
 use Rattle.tree.specs.Encode.{WellFormedTree}
 use Rattle.tree_forest.specs.Limits.{messageLevelsBelow, messageNodesBelow}
-use Rattle.state.specs.Session.{Destination, Progresses, undone, received, taken, advance, Queued, Session, withQueue, withProgress, newSession, Slot, free, live, State, setSlot}
+use Rattle.state.specs.Session.{Destination, Progresses, undone, received, taken, advance, Queued, Session}
+use Rattle.state.specs.Session.{withQueue, withProgress, newSession, Slot, free, live, State, setSlot}
 use Rattle.state.specs.Shape.{serviceOfRow, clientOf, starterOf, behaviourIn, operationOfRow, suitsOperation, branches}
 use Rattle.move_rules.specs.Targets.{Target, noTarget, queueFull, queued, starts, startFrom, startOf, targetOf, targetIn, target}
 use Rattle.move_rules.specs.Moves.{Result, moved, saveWithin, permitsInput, allowed, startedBy, started, deliver}
@@ -39,14 +40,16 @@ use Rattle.soundness.specs.ResultLaws.{Keeps, goes-keeps, keeps-15, allo
 use Rattle.soundness.specs.LocalLaws.{permits-one, permits-two, save-goes, suits-destination, suits-none}
 
 -- What fits a type of the file is a message.
-pub message-formed : (m : Tree Value) (t : MessageType) → GoodTree m → RisingTree t → SmallType t → Fits m t → WellFormedTree messageLevelsBelow messageNodesBelow m
+pub message-formed : (m : Tree Value) (t : MessageType) → GoodTree m → RisingTree t → SmallType t → Fits m t
+    → WellFormedTree messageLevelsBelow messageNodesBelow m
 message-formed (tree v k) (tree a l) g rt st f =
     let few = tree-within (_+_) sums k l (g .1 .0) rt (f .children) in
     let low = tree-within max maxima k l (g .1 .0) rt (f .children) in
     record { root = g .0; sound = g .1 .1; rising = g .1 .0; shallow = let z = st .0 in omega arith; few = let z = st .1 in omega arith }
 
 -- The operation found is one of the list, and passes the test.
-pub first-there : (test : Operation → Bool) (l : List Operation) (i : Operation) → firstOf test l ≡ some i → (w : ℕ) × (operationOfRow l w ≡ some i) × T (test i)
+pub first-there : (test : Operation → Bool) (l : List Operation) (i : Operation) → firstOf test l ≡ some i
+    → (w : ℕ) × (operationOfRow l w ≡ some i) × T (test i)
 unfolding firstOf entry
 first-there test [] i e = absurd (none-some e)
   where
@@ -260,10 +263,12 @@ module _ (N : Network) (rows : ℕ) (acc : Accepted N rows) where
       let f = s .found in
       let ahead : f .ahead ≡ k = sym-zero (f .ahead) (f .number) in
       let small : T (ltb k (branches m)) = subst (λ (z : ℕ). T (ltb z (branches m))) ahead (f .inside) in
-      let br : branchAt k m ≡ sequence (f .label) (fromInput a) (f .after) = subst (λ (z : ℕ). branchAt z m ≡ sequence (f .label) (fromInput a) (f .after)) ahead (f .isBranch) in
+      let br : branchAt k m ≡ sequence (f .label) (fromInput a) (f .after) =
+      subst (λ (z : ℕ). branchAt z m ≡ sequence (f .label) (fromInput a) (f .after)) ahead (f .isBranch) in
       let runs : behaviourIn N q (suc (s .before)) ≡ some (choice c m) = subst (λ (z : ℕ). behaviourIn N q z ≡ some (choice c m)) (s .number) (s .runs) in
       subst (λ (z : ℕ). SessionSound N rows q z (started c k a back x)) (sym (s .number))
-      (start-input q (s .before) c k m runs (begins q (s .before) c k m runs small (s .derived)) (f .label) (f .after) i x back arr (a .row) (a .operation) (a .into) (a .response) br (f .named) u)
+      (start-input q (s .before) c k m runs (begins q (s .before) c k m runs small (s .derived)) (f .label) (f .after) i x back arr
+      (a .row) (a .operation) (a .into) (a .response) br (f .named) u)
     where
       sym-zero : (j : ℕ) → k ≡ 0 + j → j ≡ k
       sym-zero j e = omega arith

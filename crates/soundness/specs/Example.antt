@@ -3,6 +3,7 @@
 -- and whose reply is 5; then a one-way of a void with a mandatory int child 1, into 9.
 use mathlib.Core.List.{List, [], _∷_, _++_}
 use Prim.Native.Nat.{ℕ}
+use Rattle.state.specs.Places.{outRoom}
 use Rattle.state.specs.Bytes.{zeros}
 use Rattle.soundness.specs.Property3.{Turn}
 use Rattle.move_rules.specs.Moves.{Move, local, receive, send, reply, outerMessage, close, move}
@@ -77,9 +78,9 @@ withChild = 0 ∷ 0 ∷ 6 ∷ 1 ∷ 0 ∷ 1 ∷ 0 ∷ 1 ∷ 0 ∷ 4 ∷ 42 ∷ 0
 abbrev pub withoutChild : List ℕ
 withoutChild = 0 ∷ 0 ∷ 6 ∷ 0 ∷ 0 ∷ []
 
--- An out buffer of 512 bytes.
+-- An out buffer that just has its room.
 abbrev pub room : List ℕ
-room = zeros 512
+room = zeros outRoom
 
 -- A move without outside bytes.
 abbrev pub inside : Move → Turn

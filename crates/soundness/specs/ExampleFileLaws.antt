@@ -74,7 +74,8 @@ environments =
     record { starter = some (node 5 (mark true 1) end (node 9 (mark true 6) (node 1 (mark true 1) end end) end)); client = none } ∷ []
 
 pub file-passes : checkFile file ≡ passed environments
-unfolding find set measure mapForest readSteps writeSteps u16At unsignedOf isValue areSubtypes sameTypes check firmSteps firmAboveSteps noMandatory expressionType
+unfolding find set measure mapForest readSteps writeSteps u16At unsignedOf isValue areSubtypes sameTypes check firmSteps firmAboveSteps
+    noMandatory expressionType
     checkEach oneType oneTypeWith oneTypeEach checkServices checkOutputs checkNetwork sequencesOf branchesOf union unionOf occursIn occurs
     allRootsIn allRoots next permits untilZero pathOf markOf siblings writtenOut expressionFrom expressionTo operationOf branchesFrom behaviourFrom
     behaviourTo behaviourOf serviceOf rowsFrom networkOf formOf expressionKind behaviourKind expressionFields behaviourFields trailer start count

@@ -70,7 +70,8 @@ write-steps-good (j ∷ p) f h l a g = (
       (write-steps-good p f h (find j (childrenOf l)) (a .1) (good-find j (childrenOf l) (good-children l g))) (good-children l g),
 )
 
-pub write-good : (x : Path) (f : Lookup Value → Tree Value) → ((l : Lookup Value) → GoodLookup l → GoodTree (f l)) → (F : Forest Value) → GoodPath x → GoodForest F
+pub write-good : (x : Path) (f : Lookup Value → Tree Value) → ((l : Lookup Value) → GoodLookup l → GoodTree (f l)) → (F : Forest Value) → GoodPath x
+    → GoodForest F
     → GoodForest (write (value void []) x f F)
 write-good (path i p) f h F a g =
     good-set i (writeSteps (value void []) p f (find i F)) F (a .0) (write-steps-good p f h (find i F) (a .1) (good-find i F g)) g

@@ -138,7 +138,8 @@ module _ (q : ℕ) where
       (u .what, u .there, basic-of (u .what) (c .0) (u .typed) ∙ eqb→eq (rootBasic (c .0)) bool (c .2), u .good)
 
   -- What is sent is there, and fits.
-  pub send-gives : (F : Forest Value) (Γ : Types) (e : Expression) (t : MessageType) → GoodForest F → GoodExpression e → Subtypes (ownTypes F) Γ → TypedSend Γ e t
+  pub send-gives : (F : Forest Value) (Γ : Types) (e : Expression) (t : MessageType) → GoodForest F → GoodExpression e → Subtypes (ownTypes F) Γ
+      → TypedSend Γ e t
       → (y : Tree Value) × (evaluate F e ≡ given y) × Fits y t × GoodTree y
   send-gives F Γ e t g ge s c =
       let u = progress F Γ g s e ge (c .0) (c .1) in (u .what, u .there, subtype-trans (u .typed) (subtype-sound (c .0) t (c .2)), u .good)

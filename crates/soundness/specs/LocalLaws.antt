@@ -22,7 +22,8 @@ use Rattle.check_typing.specs.Environment.{within}
 use Rattle.check_typing.specs.Rules.{permits, sameBool, sameDirection}
 use Rattle.tree.specs.Encode.{WellFormedTree}
 use Rattle.tree_forest.specs.Limits.{messageLevelsBelow, messageNodesBelow}
-use Rattle.state.specs.Session.{Destination, Progress, Progresses, undone, done, waits, received, taken, advance, reopen, Queued, Session, withTree, withQueue, withProgress, free, live}
+use Rattle.state.specs.Session.{Destination, Progress, Progresses, undone, done, waits, received, taken}
+use Rattle.state.specs.Session.{advance, reopen, Queued, Session, withTree, withQueue, withProgress, free, live}
 use Rattle.state.specs.Session.{State, setSlot}
 use Rattle.state.specs.Shape.{operationOfRow, isDestination, suitsReply, suitsOperation, undoneOrTaken, branches, suits, suitsBranches}
 use Rattle.move_rules.specs.Readiness.{isDone, Reached, unreached, reached, offered, reach}
@@ -125,7 +126,8 @@ suits-destination N rows q to o t e = go to (suits-reply N rows q to o t true e)
     go none u = absurd u
     go (some d) u = (d, refl, u)
 
-pub suits-none : (N : Network) (rows q : ℕ) (to : Optional Destination) (o : Operation) → T (suitsOperation N rows q to (some o)) → o .twoWay ≡ false → to ≡ none
+pub suits-none : (N : Network) (rows q : ℕ) (to : Optional Destination) (o : Operation) → T (suitsOperation N rows q to (some o)) → o .twoWay ≡ false
+    → to ≡ none
 suits-none N rows q to o t e = go to (suits-reply N rows q to o t false e)
   where
     go : (to : Optional Destination) → T (suitsReply N rows false to) → to ≡ none
@@ -273,7 +275,8 @@ module _ (N : Network) (rows : ℕ) (acc : Accepted N rows) where
           let R = receiveMessage G q n S x settled r (oldest (o .row) (S .queue)) in
           by-undone N rows strict (p r) (require (permits q input false o) MoveNotAllowed R)
           (λ t. by-require N rows strict (permits q input false o) R
-          (λ w. one-takes r o x a (sym e ∙ t) (permits-one q input o w) strict (oldest (o .row) (S .queue)) (oldest-sound N rows q (o .row) (S .queue) (h .queued))))
+          (λ w. one-takes r o x a (sym e ∙ t) (permits-one q input o w) strict (oldest (o .row) (S .queue))
+          (oldest-sound N rows q (o .row) (S .queue) (h .queued))))
       receive-by strict r o x (some k) a e =
           let R = receiveMessage G q n S x settled r (oldest (o .row) (S .queue)) in
           by-undone N rows strict (p r) (require (permits q input true o) MoveNotAllowed R)

@@ -19,7 +19,8 @@ use Rattle.state.specs.Session.{Progress, Progresses, undone, done, waits, rece
 use Rattle.move_rules.specs.Readiness.{unlessDone, unlessWaits, unlessReceived, unlessTaken, thenOrElse, rest, branchRest}
 use Rattle.soundness.specs.Parts.{branchAt, Reaches, atSelf, atFirst, atSecond, atLeft, atRight, atThen, atElse}
 use Rattle.soundness.specs.Parts.{atLoop, atServed, atBranch}
-use Rattle.soundness.specs.RowLaws.{in-own, in-first, in-second, in-only, in-branches, in-input, in-then, in-others, branch-rows, branch-once, reaches-rows}
+use Rattle.soundness.specs.RowLaws.{in-own, in-first, in-second, in-only, in-branches, in-input}
+use Rattle.soundness.specs.RowLaws.{in-then, in-others, branch-rows, branch-once, reaches-rows}
 use Rattle.soundness.specs.Accepted.{OfFile, MadeOf, MadeOfBranches, Accepted}
 
 -- A row found wherever it stands -------------------------------------------------------------------------------------------------------
@@ -209,7 +210,8 @@ reaches-atRow p X B n s (atServed {r} {o} {x} {c} {d} to g h) =
     itself-other (rowOf X) r (requestResponse r o x c d) (atRow (rowOf X) d) (at-eq (rowOf X) r d (s .0) (reaches-rows h (rowOf X) (own-row X)))
     ∙ reaches-atRow p X d n (s .1) h
 reaches-atRow p X B n s (atBranch {r} {m} k g h) =
-    itself-other (rowOf X) r (choice r m) (atRowIn (rowOf X) m) (at-eq-in (rowOf X) r m (s .0) (branch-rows m k (rowOf X) (reaches-rows h (rowOf X) (own-row X))))
+    itself-other (rowOf X) r (choice r m) (atRowIn (rowOf X) m)
+    (at-eq-in (rowOf X) r m (s .0) (branch-rows m k (rowOf X) (reaches-rows h (rowOf X) (own-row X))))
     ∙ branch-atRow m k (rowOf X) X (s .1) n (reaches-atRow p X (branchAt k m) n (branch-once m k (s .1)) h)
 
 -- Made of the file's parts ---------------------------------------------------------------------------------------------------------------
@@ -260,7 +262,8 @@ module _ (N : Network) (rows : ℕ) where
 
     branch-row-below : (m : Branches) (i : ℕ) → MadeOfBranches N rows m → T (hasRowIn i m) → i < rows
     branch-row-below (lastBranch r a b) i h t =
-        or-case (eqb i r) (hasRow i a || hasRow i b) (eqb-below i r (h .0)) (or-case (hasRow i a) (hasRow i b) (λ u. row-below a i (h .1) u) (λ u. row-below b i (h .2) u)) t
+        or-case (eqb i r) (hasRow i a || hasRow i b) (eqb-below i r (h .0))
+        (or-case (hasRow i a) (hasRow i b) (λ u. row-below a i (h .1) u) (λ u. row-below b i (h .2) u)) t
     branch-row-below (branch r a b m) i h t =
         or-case (eqb i r) ((hasRow i a || hasRow i b) || hasRowIn i m) (eqb-below i r (h .0))
         (or-case (hasRow i a || hasRow i b) (hasRowIn i m) (or-case (hasRow i a) (hasRow i b) (λ u. row-below a i (h .1) u) (λ u. row-below b i (h .2) u))

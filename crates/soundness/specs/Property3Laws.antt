@@ -19,6 +19,7 @@ use Rattle.refusal.specs.declared.Verdict.the-variants.{Done}
 use Rattle.network.specs.Form.{formOf}
 use Rattle.network.specs.Layout.{behaviourCount}
 use Rattle.network.specs.Decode.{networkOf}
+use Rattle.state.specs.Places.{outRoom}
 use Rattle.state.specs.Session.{Progress, Progresses, undone, done, waits, received, taken, Queued, Session, Slot, State}
 use Rattle.state.specs.Bytes.{stateBytes}
 use Rattle.state.specs.Shape.{isUndone, Stands, freshState}
@@ -26,7 +27,8 @@ use Rattle.state.specs.ShapeLaws.{decode-state-complete, stands-length}
 use Rattle.move_rules.specs.Readiness.{isDone, Reached, reached, reach, rest}
 use Rattle.move_rules.specs.Evaluation.{evaluate}
 use Rattle.move_rules.specs.Moves.{Result, refused, moved, require, onTree, onBool, rootValue, ifUndone, ifReadyWhile, assigned, decided, repeated}
-use Rattle.move_rules.specs.Moves.{localBy, localAt, localReached, onBehaviour, onLive, localMove, Move, local, receive, send, reply, outerMessage, outerReply, close}
+use Rattle.move_rules.specs.Moves.{localBy, localAt, localReached, onBehaviour, onLive, localMove}
+use Rattle.move_rules.specs.Moves.{Move, local, receive, send, reply, outerMessage, outerReply, close}
 use Rattle.move_rules.specs.Moves.{move}
 use Rattle.move_rules.specs.Step.{Step, refuse, finish, buffersFit, step}
 use Rattle.soundness.specs.Parts.{Reaches}
@@ -175,14 +177,14 @@ module _ (file : List ℕ) (acc : AcceptedFile file) where
     pub sound-stands : Stands N rows (stateBytes G) G
     sound-stands = record { shape = sound-shape N rows network G h; bytes = refl }
 
-    buffers : (out : List ℕ) → buffersFit (stateBytes G) out ≡ leb 512 (length out)
-    buffers out = ap (λ (b : Bool). b && leb 512 (length out))
+    buffers : (out : List ℕ) → buffersFit (stateBytes G) out ≡ leb outRoom (length out)
+    buffers out = ap (λ (b : Bool). b && leb outRoom (length out))
         (of-T (eqb (length (stateBytes G)) 65536) (subst (λ (k : ℕ). T (eqb k 65536)) (sym (stands-length sound-stands)) tt))
 
     -- A move on bytes is a move on the state, if the out buffer fits.
     pub step-is : (t : Turn)
         → step file (stateBytes G) (t .out) (t .move) (t .bytes)
-        ≡ pick (leb 512 (length (t .out))) (finish (stateBytes G) (t .out) (move N G (t .move) (t .bytes))) (refuse BufferSize (stateBytes G) (t .out))
+        ≡ pick (leb outRoom (length (t .out))) (finish (stateBytes G) (t .out) (move N G (t .move) (t .bytes))) (refuse BufferSize (stateBytes G) (t .out))
     unfolding step
     step-is t = rw (buffers (t .out), whole, decode-state-complete sound-stands)
 
@@ -190,7 +192,7 @@ module _ (file : List ℕ) (acc : AcceptedFile file) where
     step-by : (P : Step → Type 0) (t : Turn) → P (refuse BufferSize (stateBytes G) (t .out))
         → ((R : Result) → Keeps N rows (sendsOrReplies (t .move)) R → P (finish (stateBytes G) (t .out) R)) → Given t
         → P (step file (stateBytes G) (t .out) (t .move) (t .bytes))
-    step-by P t f k g = subst P (sym (step-is t)) (go (leb 512 (length (t .out))))
+    step-by P t f k g = subst P (sym (step-is t)) (go (leb outRoom (length (t .out))))
       where
         R : Result
         R = move N G (t .move) (t .bytes)
@@ -220,7 +222,7 @@ module _ (file : List ℕ) (acc : AcceptedFile file) where
     unfolding move
     sound-ready q n r bytes out k =
         ap (λ (x : Step). outcomeNumber (x .outcome)) (step-is (record { move = local q n r; bytes = bytes; out = out }))
-        ∙ go (leb 512 (length out)) (move N G (local q n r) bytes) (ready-goes N rows network G h q n r k)
+        ∙ go (leb outRoom (length out)) (move N G (local q n r) bytes) (ready-goes N rows network G h q n r k)
       where
         go : (b : Bool) (R : Result) → Goes N rows R
             → outcomeNumber (pick b (finish (stateBytes G) out R) (refuse BufferSize (stateBytes G) out) .outcome) ≡ pick b 0 1

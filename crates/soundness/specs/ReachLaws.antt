@@ -13,9 +13,11 @@ use Rattle.network.specs.Shapes.{EachRowOnce, EachBranchRowOnce}
 use Rattle.check_typing.specs.TypedLaws.{by-bool}
 use Rattle.state.specs.Session.{Progress, Progresses, Destination, undone, done, waits, received, taken}
 use Rattle.state.specs.Shape.{branches, isUndone, undoneDoneOrReceived, undoneOrTaken, undoneDoneOrBody, suits}
-use Rattle.move_rules.specs.Readiness.{unlessDone, unlessReceived, unlessTaken, thenOrElse, isDone, branchDone, Reached, unreached, reached, offered, here, orElse, onlyIf}
+use Rattle.move_rules.specs.Readiness.{unlessDone, unlessReceived, unlessTaken, thenOrElse, isDone}
+use Rattle.move_rules.specs.Readiness.{branchDone, Reached, unreached, reached, offered, here, orElse, onlyIf}
 use Rattle.move_rules.specs.Readiness.{offeredIf, offer, reach, reachBranch, served}
-use Rattle.soundness.specs.Parts.{branchAt, FreshBranches, notTaken, Clean, CleanBranches, Reaches, atSelf, atFirst, atSecond, atLeft, atRight, atThen, atElse, atLoop, atServed}
+use Rattle.soundness.specs.Parts.{branchAt, FreshBranches, notTaken, Clean, CleanBranches, Reaches, atSelf}
+use Rattle.soundness.specs.Parts.{atFirst, atSecond, atLeft, atRight, atThen, atElse, atLoop, atServed}
 use Rattle.soundness.specs.Parts.{atBranch, isOpen, Opens, asking, serving, AllOpen}
 use Rattle.soundness.specs.RowLaws.{in-own, in-first, in-second, in-only, in-branches, in-input, in-others, taken-at, branch-done, branch-rows}
 use Rattle.soundness.specs.RowLaws.{branch-once, reaches-rows, done-same, Off}

@@ -10,7 +10,8 @@ use Rattle.network_syntax.specs.Rows.{rowOf, hasRow, hasRowIn, Local, assigns, 
 use Rattle.network_syntax.specs.ViewLaws.{own-row}
 use Rattle.network.specs.Shapes.{Outside, EachRowOnce, EachBranchRowOnce}
 use Rattle.state.specs.Session.{Progress, Progresses, received, taken}
-use Rattle.move_rules.specs.Readiness.{unlessReceived, unlessTaken, thenOrElse, isDone, Reached, unreached, reached, offered, here, orElse, onlyIf, offer, reach}
+use Rattle.move_rules.specs.Readiness.{unlessReceived, unlessTaken, thenOrElse, isDone, Reached}
+use Rattle.move_rules.specs.Readiness.{unreached, reached, offered, here, orElse, onlyIf, offer, reach}
 use Rattle.move_rules.specs.Readiness.{reachBranch, served}
 use Rattle.soundness.specs.Parts.{branchAt, Clean, CleanBranches, Reaches, atSelf, atFirst, atSecond, atLeft, atRight, atThen, atElse, atLoop}
 use Rattle.soundness.specs.Parts.{atServed, atBranch}

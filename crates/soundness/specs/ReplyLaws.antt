@@ -18,12 +18,14 @@ use Rattle.check_subtyping.specs.Own.{ownType, Fits}
 use Rattle.check_typing.specs.Rules.{permits}
 use Rattle.tree.specs.Encode.{Octets}
 use Rattle.tree.specs.Decode.{decodeMessage}
-use Rattle.state.specs.Session.{Destination, outsider, waitingRow, Progress, Progresses, done, waits, received, advance, Session, withTree, withProgress, live, State}
+use Rattle.state.specs.Session.{Destination, outsider, waitingRow, Progress, Progresses, done, waits}
+use Rattle.state.specs.Session.{received, advance, Session, withTree, withProgress, live, State}
 use Rattle.state.specs.Bytes.{messageBytes}
 use Rattle.wire.specs.Wire.{u32Bytes}
 use Rattle.state.specs.Shape.{behaviourIn}
 use Rattle.move_rules.specs.Readiness.{isDone}
-use Rattle.move_rules.specs.Moves.{Result, moved, notAllowed, require, onFound, onMessage, saveWithin, mustFit}
+use Rattle.move_rules.specs.Evaluation.{found}
+use Rattle.move_rules.specs.Moves.{Result, moved, notAllowed, require, onTree, onMessage, saveWithin, mustFit}
 use Rattle.scalar.specs.Value.{voidValue}
 use Rattle.move_rules.specs.Moves.{onWaitingOutput, onWaitingRow, takeReply, goneOn, replyTo, replyBy, replyAt, replyMove, outerReplyMove}
 use Rattle.soundness.specs.GoodTrees.{GoodTree}
@@ -35,7 +37,7 @@ use Rattle.network_syntax.specs.ViewLaws.{some-inj, input-is, output-is}
 use Rattle.soundness.specs.Invariant.{SessionSound, Sound}
 use Rattle.soundness.specs.SessionLaws.{once-of, made-of, advance-apart, answer-sound, waiting-sound, waits-received}
 use Rattle.soundness.specs.ResultLaws.{Keeps, goes-keeps, keeps-15, by-require, by-received, by-waiting, by-session, by-live, by-message}
-use Rattle.soundness.specs.ResultLaws.{live-inj, set-elim, by-pick, keeps-found, keeps-fit, outside-fit, sound-set}
+use Rattle.soundness.specs.ResultLaws.{live-inj, set-elim, by-pick, keeps-tree, keeps-fit, outside-fit, sound-set}
 use Rattle.soundness.specs.LocalLaws.{save-goes}
 use Rattle.soundness.specs.SendLaws.{decoded-good}
 
@@ -124,22 +126,23 @@ module _ (N : Network) (rows : ℕ) (acc : Accepted N rows) where
         go (outsider k) t u fo =
             let K : Tree Value → Result = λ m. mustFit m (o .reply) (moved G2 (u32Bytes k ++ messageBytes m)) in
             let f = acc .operations (o .row) o fo in
-            keeps-found N rows true (read c (S .tree)) (u .0) K (u .1)
+            keeps-tree N rows true (found (read c (S .tree))) (u .0) K (ap found (u .1))
             (keeps-fit N rows true (u .0) (o .reply) (moved G2 (u32Bytes k ++ messageBytes (u .0))) (u .3) (f .rising .1) (f .smallReply) (u .2)
             (sound-set N rows G q n (live (withProgress S (advance p r done))) hG (u .4)))
         go (waitingRow q2 n2 r2) t u fo =
             let h2 = sound-set N rows G q n (live (withProgress S (advance p r done))) hG (u .4) in
             let K : Behaviour → Session → Result = λ B2 S2. onWaitingRow q2 S2 (atRow r2 B2)
-            (λ o2 x2. onFound (read c (S .tree)) (λ m. mustFit m (o2 .reply) (takeReply G2 q2 n2 r2 x2 m))) in
+            (λ o2 x2. onTree (found (read c (S .tree))) (λ m. mustFit m (o2 .reply) (takeReply G2 q2 n2 r2 x2 m))) in
             by-session N rows true G q2 n2 K
-            (λ B2 S2 eB eS2. by-waiting-row true q2 S2 r2 B2 (λ o2 x2. onFound (read c (S .tree)) (λ m. mustFit m (o2 .reply) (takeReply G2 q2 n2 r2 x2 m)))
+            (λ B2 S2 eB eS2. by-waiting-row true q2 S2 r2 B2
+            (λ o2 x2. onTree (found (read c (S .tree))) (λ m. mustFit m (o2 .reply) (takeReply G2 q2 n2 r2 x2 m)))
             (λ o2 e2 x2 at2 ew pm.
             let h3 = hG .sessions q2 n2 S2 eS2 in
             let at3 : atRow r2 (h3 .what) ≡ some (solicitResponse r2 o2 e2 x2) = ap (atRow r2) (some-inj (sym (h3 .runs) ∙ eB)) ∙ at2 in
             let way2 = open-reached q2 n2 S2 h3 r2 (solicitResponse r2 o2 e2 x2) at3 (subst (λ (s : Progress). T (isOpen s)) (sym ew) tt) in
             let f2 = acc .operations (o2 .row) o2 (made-at N rows way2 (made-of N rows acc q2 n2 (h3 .what) (h3 .runs)) .1) in
             let fit2 : Fits (u .0) (o2 .reply) = subtype-trans (u .2) (h .replies r (waitingRow q2 n2 r2) t r o x c d at B2 eB r2 o2 e2 x2 at2) in
-            keeps-found N rows true (read c (S .tree)) (u .0) (λ m. mustFit m (o2 .reply) (takeReply G2 q2 n2 r2 x2 m)) (u .1)
+            keeps-tree N rows true (found (read c (S .tree))) (u .0) (λ m. mustFit m (o2 .reply) (takeReply G2 q2 n2 r2 x2 m)) (ap found (u .1))
             (keeps-fit N rows true (u .0) (o2 .reply) (takeReply G2 q2 n2 r2 x2 (u .0)) (u .3) (f2 .rising .1) (f2 .smallReply) fit2
             (take-keeps true G2 h2 q2 n2 r2 B2 eB o2 e2 x2 at2 (u .0) (u .3) fit2
             (λ S3 e3. set-elim G q n (live (withProgress S (advance p r done))) q2 n2 (live S3)

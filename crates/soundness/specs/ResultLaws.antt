@@ -23,7 +23,7 @@ use Rattle.tree_forest.specs.Limits.{messageLevelsBelow, messageNodesBelow}
 use Rattle.state.specs.Session.{Destination, Progress, undone, done, waits, received, taken, Session, Slot, free, live, State, setSlot}
 use Rattle.state.specs.Shape.{behaviourIn}
 use Rattle.move_rules.specs.Evaluation.{Evaluation, given}
-use Rattle.move_rules.specs.Moves.{Result, refused, moved, notAllowed, require, onTree, onFound, onBool, onLive, onBehaviour, onOperation, inSession}
+use Rattle.move_rules.specs.Moves.{Result, refused, moved, notAllowed, require, onTree, onBool, onLive, onBehaviour, onOperation, inSession}
 use Rattle.move_rules.specs.Moves.{ifUndone, ifWaiting, onReceived, onMessage, isMessageTree, mustFit}
 use Rattle.soundness.specs.GoodTrees.{GoodTree}
 use Rattle.soundness.specs.Accepted.{SmallType}
@@ -137,9 +137,6 @@ module _ (N : Network) (rows : ℕ) where
   pub at-tree : (r : Evaluation (Tree Value)) (y : Tree Value) (k : Tree Value → Result) → r ≡ given y → Goes (k y) → Goes (onTree r k)
   at-tree r y k e g = subst (λ (z : Evaluation (Tree Value)). Goes (onTree z k)) (sym e) g
 
-  pub at-found : (l : Lookup Value) (y : Tree Value) (k : Tree Value → Result) → l ≡ present y → Goes (k y) → Goes (onFound l k)
-  at-found l y k e g = subst (λ (z : Lookup Value). Goes (onFound z k)) (sym e) g
-
   pub at-require : (b : Bool) (why : Refusal) (r : Result) → T b → Goes r → Goes (require b why r)
   at-require b why r t g = subst (λ (z : Bool). Goes (require z why r)) (sym (of-T b t)) g
 
@@ -164,10 +161,6 @@ module _ (N : Network) (rows : ℕ) where
   pub keeps-tree : (strict : Bool) (r : Evaluation (Tree Value)) (y : Tree Value) (k : Tree Value → Result) → r ≡ given y → Keeps strict (k y)
       → Keeps strict (onTree r k)
   keeps-tree strict r y k e g = subst (λ (z : Evaluation (Tree Value)). Keeps strict (onTree z k)) (sym e) g
-
-  pub keeps-found : (strict : Bool) (l : Lookup Value) (y : Tree Value) (k : Tree Value → Result) → l ≡ present y → Keeps strict (k y)
-      → Keeps strict (onFound l k)
-  keeps-found strict l y k e g = subst (λ (z : Lookup Value). Keeps strict (onFound z k)) (sym e) g
 
   pub keeps-fit : (strict : Bool) (m : Tree Value) (t : MessageType) (r : Result) → GoodTree m → RisingTree t → SmallType t → Fits m t
       → Keeps strict r → Keeps strict (mustFit m t r)

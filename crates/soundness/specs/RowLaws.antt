@@ -120,7 +120,8 @@ mutual
   done-rest (oneWay r o x) p = done-leaf (p r) r (oneWay r o x) refl
   done-rest (requestResponse r o x c d) p = go (p r)
     where
-      go : (s : Progress) → unlessDone s false true ≡ finished (unlessDone s (unlessReceived s (requestResponse r o x c d) (answering r o c (rest p d))) (nil r))
+      go : (s : Progress)
+          → unlessDone s false true ≡ finished (unlessDone s (unlessReceived s (requestResponse r o x c d) (answering r o c (rest p d))) (nil r))
       go undone = refl
       go done = refl
       go waits = refl

@@ -5,6 +5,7 @@ use lib.Dec.{T, leb}
 use lib.ListN.{length}
 use Rattle.network_syntax.specs.Syntax.{Network}
 use Rattle.refusal.specs.Refusal.{numberOf}
+use Rattle.state.specs.Places.{outRoom}
 use Rattle.state.specs.Session.{State}
 use Rattle.move_rules.specs.Moves.{Result, refused, moved, move}
 use Rattle.move_rules.specs.Step.{step}
@@ -33,7 +34,7 @@ unfoldable pub numbersOnBytes : List ℕ → List ℕ → List Turn → List ℕ
 numbersOnBytes file s [] = []
 numbersOnBytes file s (t ∷ l) = numberOfNext file s t ∷ numbersOnBytes file (step file s (t .out) (t .move) (t .bytes) .state) l
 
--- Every out buffer has its 512 bytes.
+-- Every out buffer has its room.
 unfoldable pub AllRoomy : List Turn → Type 0
 AllRoomy [] = Unit {0}
-AllRoomy (t ∷ l) = T (leb 512 (length (t .out))) × AllRoomy l
+AllRoomy (t ∷ l) = T (leb outRoom (length (t .out))) × AllRoomy l

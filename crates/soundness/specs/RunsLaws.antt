@@ -12,6 +12,7 @@ use Rattle.refusal.specs.Refusal.{outcomeNumber}
 use Rattle.network.specs.Layout.{behaviourCount}
 use Rattle.network.specs.Decode.{networkOf}
 use Rattle.network_syntax.specs.Syntax.{Network}
+use Rattle.state.specs.Places.{outRoom}
 use Rattle.state.specs.Session.{State}
 use Rattle.state.specs.Bytes.{stateBytes}
 use Rattle.state.specs.Shape.{freshState}
@@ -29,12 +30,12 @@ module _ (file : List ℕ) (acc : AcceptedFile file) where
   abbrev N : Network
   N = networkOf file
 
-  roomy : (G : State) → Sound N (behaviourCount file) G → (t : Turn) → T (leb 512 (length (t .out)))
+  roomy : (G : State) → Sound N (behaviourCount file) G → (t : Turn) → T (leb outRoom (length (t .out)))
       → step file (stateBytes G) (t .out) (t .move) (t .bytes) ≡ finish (stateBytes G) (t .out) (move N G (t .move) (t .bytes))
   roomy G h t r =
       let R = move N G (t .move) (t .bytes) in
       step-is file acc G h t
-      ∙ ap (λ (b : Bool). pick b (finish (stateBytes G) (t .out) R) (refuse BufferSize (stateBytes G) (t .out))) (of-T (leb 512 (length (t .out))) r)
+      ∙ ap (λ (b : Bool). pick b (finish (stateBytes G) (t .out) R) (refuse BufferSize (stateBytes G) (t .out))) (of-T (leb outRoom (length (t .out))) r)
 
   finish-number : (s out : List ℕ) (R : Result) → outcomeNumber (finish s out R .outcome) ≡ given R
   finish-number s out (refused why) = refl

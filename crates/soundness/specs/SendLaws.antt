@@ -198,7 +198,8 @@ module _ (N : Network) (rows : ℕ) (acc : Accepted N rows) where
       by-operation N rows false (inputNamed N q id) K
       (λ i ei.
       let u = first-there (isInputNamed q id) (N .operations) i ei in
-      let isIn = and-l (isInputOperation (i .direction)) (eqb (i .id) id) (and-r (eqb (i .service) q) (isInputOperation (i .direction) && eqb (i .id) id) (u .2)) in
+      let isIn =
+      and-l (isInputOperation (i .direction)) (eqb (i .id) id) (and-r (eqb (i .service) q) (isInputOperation (i .direction) && eqb (i .id) id) (u .2)) in
       let t = target N G i n in
       let back = pick (i .twoWay) (some (outsider number)) none in
       let D : Tree Value → Result = λ m. mustFit m (i .request) (deliver G i n t back m) in

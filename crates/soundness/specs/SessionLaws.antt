@@ -24,7 +24,8 @@ use Rattle.check_typing.specs.EnvironmentLaws.{sums, maxima, within-smaller}
 use Rattle.check_typing.specs.Rules.{WellSorted}
 use Rattle.check_typing.specs.Typed.{Typed}
 use Rattle.check_typing.specs.TypedLaws.{by-bool, within-before}
-use Rattle.state.specs.Session.{Destination, Progress, Progresses, undone, done, waits, received, taken, advance, reopen, Queued, Session, withTree, withQueue, withProgress}
+use Rattle.state.specs.Session.{Destination, Progress, Progresses, undone, done, waits, received, taken}
+use Rattle.state.specs.Session.{advance, reopen, Queued, Session, withTree, withQueue, withProgress}
 use Rattle.state.specs.Shape.{behaviourIn, isDestination, undoneOrDone, undoneDoneOrWaits, undoneDoneOrReceived, undoneOrTaken, undoneDoneOrBody}
 use Rattle.state.specs.Shape.{branches, suits, suitsBranches}
 use Rattle.move_rules.specs.Readiness.{unlessDone, unlessWaits, unlessReceived, unlessTaken, thenOrElse, isDone, branchDone, rest, branchRest}
@@ -38,7 +39,8 @@ use Rattle.soundness.specs.Parts.{branchAt, Fresh, FreshBranches, Clean,
 use Rattle.soundness.specs.ContextLaws.{finished-same, Active, hole}
 use Rattle.soundness.specs.RowLaws.{in-own, branch-rows, rest-fresh, rest-then, rest-else, rest-loop, rest-served, rest-branch}
 use Rattle.soundness.specs.RowLaws.{done-finished, reaches-rows, row-active, Off}
-use Rattle.soundness.specs.CleanLaws.{clean-same, clean-fresh, clean-at, clean-move, once-at, clean-fresh-branches, undone-taken, undone-untaken, suits-same, suits-fresh, suits-fresh-branches, suits-at}
+use Rattle.soundness.specs.CleanLaws.{clean-same, clean-fresh, clean-at, clean-move, once-at, clean-fresh-branches}
+use Rattle.soundness.specs.CleanLaws.{undone-taken, undone-untaken, suits-same, suits-fresh, suits-fresh-branches, suits-at}
 use Rattle.soundness.specs.CleanLaws.{suits-move, of-two, three}
 use Rattle.soundness.specs.ReachLaws.{open-below, open-change, open-undone, reaches-done}
 use Rattle.soundness.specs.Parts.{isOpen, Opens, asking, serving}
@@ -202,7 +204,8 @@ module _ (N : Network) (rows : ℕ) (acc : Accepted N rows) where
     sorted-at : (X : Behaviour) → Reaches p X B → WellSorted (rest p X)
     sorted-at X a = rest-sorted X p (made-sorted N rows acc X (made-at N rows a madeB))
 
-    pub changed-sound : (X : Behaviour) → Reaches p X B → (F2 : Forest Value) (p2 : Progresses) → Change B (S .tree) p X F2 p2 → (l : List Queued) → length l ≤ 4
+    pub changed-sound : (X : Behaviour) → Reaches p X B → (F2 : Forest Value) (p2 : Progresses) → Change B (S .tree) p X F2 p2 → (l : List Queued)
+        → length l ≤ 4
         → AllQueued N rows q l → SessionSound N rows q n (withQueue (withProgress (withTree S F2) p2) l)
     changed-sound X a F2 p2 c l few ql =
         let act = row-active p p2 X B a onceB (c .off) in

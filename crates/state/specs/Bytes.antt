@@ -15,7 +15,8 @@ use Rattle.tree.specs.Encode.{encode, rooted, empty}
 use Rattle.tree_forest.specs.Limits.{sessionLevels, sessionNodes}
 use Rattle.tree.specs.Decode.{decode, decodeMessage}
 use Rattle.state.specs.Places.{slotSize, treeRoom, messageRoom, entrySize, lengthPlace, treePlace, queuePlace, keptSize, slotStart, rowStart}
-use Rattle.state.specs.Session.{Destination, outsider, waitingRow, Progress, undone, done, waits, received, taken, Progresses, Queued, Session, sessionOf, Slot, free, live, State}
+use Rattle.state.specs.Session.{Destination, outsider, waitingRow, Progress, undone, done, waits, received}
+use Rattle.state.specs.Session.{taken, Progresses, Queued, Session, sessionOf, Slot, free, live, State}
 
 -- n zeros.
 unfoldable pub zeros : ℕ → List ℕ

@@ -12,12 +12,15 @@ use Rattle.tree_forest.specs.Forest.{Forest}
 use Rattle.scalar.specs.Value.{Value}
 use Rattle.wire.specs.Wire.{part, withPart}
 use Rattle.wire.specs.WireLaws.{length-part, length-withPart}
-use Rattle.state.specs.Places.{slotSize, headSize, treeRoom, messageRoom, entrySize, queueSize, rowSize, lengthPlace, treePlace, queuePlace, rowsPlace, keptSize, slotStart, rowStart}
+use Rattle.state.specs.Places.{slotSize, headSize, treeRoom, messageRoom, entrySize, queueSize, rowSize}
+use Rattle.state.specs.Places.{lengthPlace, treePlace, queuePlace, rowsPlace, keptSize, slotStart, rowStart}
 use Rattle.state.specs.Session.{Progress, Progresses, advance, Queued, Session, withTree, withQueue, withProgress, Slot, live, State, setSlot}
-use Rattle.state.specs.Bytes.{zeros, padded, messageBytes, entryBytes, queueBytes, progressBytes, rowsBytes, treeBytes, headBytes, slotBytes, slotAt, stateBytes, readSlot}
+use Rattle.state.specs.Bytes.{zeros, padded, messageBytes, entryBytes, queueBytes, progressBytes}
+use Rattle.state.specs.Bytes.{rowsBytes, treeBytes, headBytes, slotBytes, slotAt, stateBytes, readSlot}
 use Rattle.wire.specs.Wire.{u16Bytes}
 use Rattle.state.specs.Shape.{AllMessages, MadeSlot}
-use Rattle.state.specs.PartLaws.{take-past, drop-past, length-zeros, length-padded, holds-part, replace-middle, replace-rest, replace-first, replace-within, replace-both, replace-joined}
+use Rattle.state.specs.PartLaws.{take-past, drop-past, length-zeros, length-padded, holds-part, replace-middle}
+use Rattle.state.specs.PartLaws.{replace-rest, replace-first, replace-within, replace-both, replace-joined}
 use Rattle.state.specs.SizeLaws.{message-size, entry-size, progress-size, rows-size, SessionFits, Sized, sized-length}
 use Rattle.state.specs.HeadLaws.{head-size, head-tree, head-queue, head-progress}
 use Rattle.state.specs.ReadLaws.{read-slot, state-slot}
@@ -202,7 +205,8 @@ module _ (m : Queued) (h : length (messageBytes (m .message)) ≤ messageRoom) w
       → queueBytes n (l ++ (m ∷ [])) ≡ withPart (queueBytes n l) (entrySize * length l) (entryBytes m)
   unfolding queueBytes AllMessages
   append-bytes zero l i w = absurd (omega arith)
-  append-bytes (suc n) [] i w = sym (replace-middle [] (zeros entrySize) (queueBytes n []) (entryBytes m) 0 refl (entry-size m h ∙ sym (length-zeros entrySize)))
+  append-bytes (suc n) [] i w =
+      sym (replace-middle [] (zeros entrySize) (queueBytes n []) (entryBytes m) 0 refl (entry-size m h ∙ sym (length-zeros entrySize)))
   append-bytes (suc n) (a ∷ l) i w =
       let s = entry-size a (message-size (a .message) (w .0)) in
       let e : entrySize * suc (length l) ≡ entrySize + entrySize * length l = omega arith in
@@ -214,7 +218,8 @@ queue-last : (n : ℕ) (l : List Queued) → length l ≤ n → queueBytes (suc 
 unfolding queueBytes
 queue-last zero [] i = append-nil (zeros entrySize)
 queue-last zero (m ∷ l) i = absurd (omega arith)
-queue-last (suc n) [] i = ap (λ (x : List ℕ). zeros entrySize ++ x) (queue-last n [] (omega arith)) ∙ sym (append-assoc (zeros entrySize) (queueBytes n []) (zeros entrySize))
+queue-last (suc n) [] i =
+    ap (λ (x : List ℕ). zeros entrySize ++ x) (queue-last n [] (omega arith)) ∙ sym (append-assoc (zeros entrySize) (queueBytes n []) (zeros entrySize))
 queue-last (suc n) (m ∷ l) i =
     ap (λ (x : List ℕ). entryBytes m ++ x) (queue-last n l (omega arith)) ∙ sym (append-assoc (entryBytes m) (queueBytes n l) (zeros entrySize))
 

@@ -28,7 +28,8 @@ unfolding encode rootCount
 assigned-bytes = refl
 
 pub moved-bytes : slotBytes (live movedSession)
-    ≡ (1 ∷ 0 ∷ 19 ∷ 0 ∷ []) ++ (zeros 12 ++ ((treeBytes assignedTree ++ zeros 1005) ++ (zeros queueSize ++ (withPart (zeros rowsSize) 0 (1 ∷ zeros 5) ++ zeros keptSize))))
+    ≡ (1 ∷ 0 ∷ 19 ∷ 0 ∷ []) ++ (zeros 12 ++ ((treeBytes assignedTree ++ zeros 1005)
+    ++ (zeros queueSize ++ (withPart (zeros rowsSize) 0 (1 ∷ zeros 5) ++ zeros keptSize))))
 unfolding slotBytes headBytes encode rootCount progressBytes
 moved-bytes =
     let r : rowsBytes (advance (λ i. undone) 0 done) ≡ withPart (zeros rowsSize) 0 (progressBytes done) =

@@ -21,15 +21,21 @@ use Rattle.tree_forest.specs.Limits.{messageLevelsBelow, messageNodesBelow, ses
 use Rattle.tree.specs.Decode.{decode, decodeMessage, isMessage, isSessionTree}
 use Rattle.tree.specs.DecodeLaws.{decode-complete, message-sound, message-complete, session-sound, session-complete}
 use Rattle.tree.specs.EncodeLaws.{octets-part}
-use Rattle.state.specs.Places.{slotSize, headSize, treeRoom, messageRoom, entrySize, queueSize, rowSize, rowsSize, treePlace, queuePlace, rowsPlace, keptPlace, keptSize, slotStart}
-use Rattle.state.specs.Session.{Destination, outsider, waitingRow, Progress, undone, done, waits, received, taken, Progresses, Queued, Session, Slot, free, live}
-use Rattle.state.specs.Bytes.{zeros, joined, padded, replyKind, replyBytes, messageBytes, entryBytes, queueBytes, progressBytes, rowsBytes, treeBytes, headBytes, slotBytes, slotAt, stateBytes, readDestination, readReply, treeOr, readEntry, readQueue, readProgress, treeLength, readSession, readSlot, readState}
+use Rattle.state.specs.Places.{slotSize, headSize, treeRoom, messageRoom, entrySize, queueSize, rowSize}
+use Rattle.state.specs.Places.{rowsSize, treePlace, queuePlace, rowsPlace, keptPlace, keptSize, slotStart}
+use Rattle.state.specs.Session.{Destination, outsider, waitingRow, Progress, undone, done, waits}
+use Rattle.state.specs.Session.{received, taken, Progresses, Queued, Session, Slot, free, live}
+use Rattle.state.specs.Bytes.{zeros, joined, padded, replyKind, replyBytes, messageBytes, entryBytes, queueBytes, progressBytes}
+use Rattle.state.specs.Bytes.{rowsBytes, treeBytes, headBytes, slotBytes, slotAt, stateBytes, readDestination, readReply}
+use Rattle.state.specs.Bytes.{treeOr, readEntry, readQueue, readProgress, treeLength, readSession, readSlot, readState}
 use Rattle.wire.specs.Wire.{u16Bytes, u32Bytes}
 use Rattle.state.specs.Shape.{AllMessages, MadeSlot, suitsSlot, suitsServices, sameBytes, decodeState}
 use Rattle.state.specs.Form.{allZero, progressForm, rowsForm, entryForm, queueForm, headForm, treeForm, liveForm, slotForm, slotsStand, slotsForm}
 use Rattle.state.specs.PartLaws.{length-padded, HoldsAt, holds-first, holds-rest, holds-part}
-use Rattle.state.specs.SizeLaws.{message-size, session-tree-size, entry-size, reply-size, progress-size, rows-size, SessionFits, made-fits, slot-size, Sized, sized-length}
-use Rattle.state.specs.HoldLaws.{holds-head, holds-tail, holds-zeros, holds-u16, holds-nil, holds-join, holds-cons, zero-holds, holds-zero, two-holds, u16-holds, u32-holds}
+use Rattle.state.specs.SizeLaws.{message-size, session-tree-size, entry-size, reply-size, progress-size}
+use Rattle.state.specs.SizeLaws.{rows-size, SessionFits, made-fits, slot-size, Sized, sized-length}
+use Rattle.state.specs.HoldLaws.{holds-head, holds-tail, holds-zeros, holds-u16, holds-nil, holds-join}
+use Rattle.state.specs.HoldLaws.{holds-cons, zero-holds, holds-zero, two-holds, u16-holds, u32-holds}
 use Rattle.state.specs.HeadLaws.{head-size, head-live, head-length, head-tested, tested-head}
 use Rattle.state.specs.ReadLaws.{entry-used, Parts, slot-parts, state-slot}
 use Rattle.state.specs.FreshLaws.{no-queue}
@@ -111,7 +117,8 @@ holds-rows p k (suc n) h =
     let b = holds-rest (progressBytes (p k)) rest rowSize (progress-size (p k)) h in
     rw (holds-progress (p k) a, holds-rows p (suc k) n b)
 
-rows-hold : (s : List ℕ) → Octets s → (p : Progresses) (at k n : ℕ) → at + rowSize * n ≤ length s → ((i : ℕ) → i < n → p (k + i) ≡ readProgress s (at + rowSize * i))
+rows-hold : (s : List ℕ) → Octets s → (p : Progresses) (at k n : ℕ) → at + rowSize * n ≤ length s
+    → ((i : ℕ) → i < n → p (k + i) ≡ readProgress s (at + rowSize * i))
     → rowsForm s at n ≡ true → HoldsAt s at (joined (λ r. progressBytes (p r)) k n)
 unfolding rowsForm joined
 rows-hold s o p at k zero i e h = holds-nil s at
@@ -141,7 +148,8 @@ holds-reply none h = holds-zero 4 h
 holds-reply (some (outsider k)) h = refl
 holds-reply (some (waitingRow q n r)) h = refl
 
-holds-entry-form : {s : List ℕ} {at : ℕ} (m : Queued) → WellFormedTree messageLevelsBelow messageNodesBelow (m .message) → HoldsAt s at (entryBytes m) → entryForm s at ≡ true
+holds-entry-form : {s : List ℕ} {at : ℕ} (m : Queued) → WellFormedTree messageLevelsBelow messageNodesBelow (m .message) → HoldsAt s at (entryBytes m)
+    → entryForm s at ≡ true
 unfolding entryForm entryBytes
 holds-entry-form {s} {at} m w h =
     let to = m .replyTo in
@@ -174,7 +182,8 @@ module _ (s : List ℕ) (o : Octets s) where
   kind-back (suc (suc (suc c))) at k = absurd (omega (arith, leb-true (suc (suc (suc c))) 2 k))
 
   -- Bytes of a length, then zeros.
-  padded-holds : (at n len : ℕ) (l : List ℕ) → at + n ≤ length s → len ≤ n → part s at len ≡ l → allZero s (at + len) (n - len) ≡ true → HoldsAt s at (padded n l)
+  padded-holds : (at n len : ℕ) (l : List ℕ) → at + n ≤ length s → len ≤ n → part s at len ≡ l → allZero s (at + len) (n - len) ≡ true
+      → HoldsAt s at (padded n l)
   padded-holds at n len l i k e h =
       let z : length l ≡ len = ap length (sym e) ∙ length-part s at len (omega arith) in
       let d : n - length l ≡ n - len = omega arith in
@@ -205,7 +214,8 @@ module _ (s : List ℕ) (o : Octets s) where
       let a = two-holds s o at (omega arith) op (sym (kind-back c (at + 4) kc)) in
       let b : HoldsAt s (at + 2) (u16Bytes (length l)) = rw len (u16-holds s o (at + 2) (omega arith)) in
       let d = reply-holds c (at + 4) (omega arith) kc (and-right (leb c 2) r h1) in
-      let f : HoldsAt s (at + 4 + 4) (padded messageRoom l) = rw e (padded-holds (at + 8) messageRoom n l (omega arith) small refl (and-right (isMessage l) z h3)) in
+      let f : HoldsAt s (at + 4 + 4) (padded messageRoom l) =
+      rw e (padded-holds (at + 8) messageRoom n l (omega arith) small refl (and-right (isMessage l) z h3)) in
       let front : List ℕ = (byteAt s at - 1 + 1) ∷ replyKind to ∷ [] in
       rw back (holds-join (front ++ u16Bytes (length l)) (replyBytes to ++ padded messageRoom l) 4 refl (holds-join front (u16Bytes (length l)) 2 refl a b)
       (holds-join (replyBytes to) (padded messageRoom l) 4 (reply-size to) d f))
@@ -241,7 +251,8 @@ queue-holds s o at (suc n) i h = by (eqb (byteAt s at) 0) refl h (queue-holds s 
         let b = and-right (entryForm s at) (queueForm s (at + entrySize) n) h in
         let c = entry-holds s o at (omega arith) (eqb-false (byteAt s at) 0 e) a in
         let w = entry-made s o at in
-        holds-join (entryBytes (readEntry s at)) (queueBytes n (readQueue s n (at + entrySize))) entrySize (entry-size (readEntry s at) (message-size _ w)) c (k b)
+        holds-join (entryBytes (readEntry s at)) (queueBytes n (readQueue s n (at + entrySize))) entrySize
+        (entry-size (readEntry s at) (message-size _ w)) c (k b)
 
 -- ---- a live slot's tree
 
@@ -286,7 +297,8 @@ module _ (s : List ℕ) (o : Octets s) where
       let r = rowsBytes (S .progress) in
       let b : HoldsAt s (at + rowsPlace) (r ++ zeros keptSize) =
       holds-join r (zeros keptSize) rowsSize (rows-size (S .progress)) (p .rows) (rw (further at rowsPlace rowsSize) (p .kept)) in
-      let c : HoldsAt s (at + queuePlace) (q ++ (r ++ zeros keptSize)) = holds-join q (r ++ zeros keptSize) queueSize (f .queueFits) (p .queue) (rw (further at queuePlace queueSize) b) in
+      let c : HoldsAt s (at + queuePlace) (q ++ (r ++ zeros keptSize)) =
+      holds-join q (r ++ zeros keptSize) queueSize (f .queueFits) (p .queue) (rw (further at queuePlace queueSize) b) in
       let d : HoldsAt s (at + treePlace) (padded treeRoom t ++ (q ++ (r ++ zeros keptSize))) =
       holds-join (padded treeRoom t) _ treeRoom (length-padded treeRoom t (f .treeFits)) (p .tree) (rw (further at treePlace treeRoom) c) in
       holds-join (headBytes S) _ headSize (head-size S) (p .head) d

@@ -16,8 +16,10 @@ use Rattle.network_syntax.specs.Syntax.{Optional, none, some, Network, Behaviou
 use Rattle.network_syntax.specs.Rows.{rowOf, hasRow}
 use Rattle.tree.specs.Encode.{WellFormedTree, empty}
 use Rattle.tree_forest.specs.Limits.{messageLevelsBelow, messageNodesBelow, sessionLevels, sessionNodes}
-use Rattle.state.specs.Session.{Progress, undone, Progresses, advance, reopen, Queued, Session, withTree, withQueue, withProgress, Slot, free, live, State, setSlot}
-use Rattle.state.specs.Shape.{isUndone, suits, quietElsewhere, suitsOperation, suitsQueue, operationOfRow, behaviourIn, suitsBehaviour, suitsSlot, AllMessages, WellMade, MadeSlot, HasShape}
+use Rattle.state.specs.Session.{Progress, undone, Progresses, advance, reopen, Queued, Session}
+use Rattle.state.specs.Session.{withTree, withQueue, withProgress, Slot, free, live, State, setSlot}
+use Rattle.state.specs.Shape.{isUndone, suits, quietElsewhere, suitsOperation, suitsQueue, operationOfRow}
+use Rattle.state.specs.Shape.{behaviourIn, suitsBehaviour, suitsSlot, AllMessages, WellMade, MadeSlot, HasShape}
 use Rattle.state.specs.RowShape.{suitsRow, PartOf, BranchRowOf, PartSuits}
 use Rattle.state.specs.RowLaws.{undone-row, suits-row, rows-suit}
 use Rattle.state.specs.ChangeLaws.{slot-same, set-other, advance-other}
@@ -109,7 +111,8 @@ module _ (N : Network) (rows q : ℕ) (m : Queued) where
       let r = suitsQueue N rows q (a ++ (m ∷ b)) in
       rw (and-left (fits c) r h, remove-suits a b (and-right (fits c) r h))
 
-pub append-messages : (m : Queued) (l : List Queued) → WellFormedTree messageLevelsBelow messageNodesBelow (m .message) → AllMessages l → AllMessages (l ++ (m ∷ []))
+pub append-messages : (m : Queued) (l : List Queued) → WellFormedTree messageLevelsBelow messageNodesBelow (m .message) → AllMessages l
+    → AllMessages (l ++ (m ∷ []))
 unfolding AllMessages
 append-messages m [] w h = (w, tt)
 append-messages m (a ∷ l) w h = (h .0, append-messages m l w (h .1))

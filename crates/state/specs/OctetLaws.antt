@@ -14,16 +14,22 @@ use Rattle.basics.specs.TestLaws.{and-left, and-right}
 use Rattle.tree_forest.specs.Forest.{Forest, Tree, tree, nodes}
 use Rattle.scalar.specs.Value.{Value, value}
 use Rattle.scalar.specs.ValueLaws.{value-basic, value-size}
-use Rattle.network_syntax.specs.Syntax.{Optional, none, some, Network, Operation, Behaviour, nil, oneWay, requestResponse, notification, solicitResponse, ifThenElse, whileDo, sequence, parallel, assign, choice, waiting, answering, Branches}
+use Rattle.network_syntax.specs.Syntax.{Optional, none, some, Network, Operation, Behaviour, nil, oneWay}
+use Rattle.network_syntax.specs.Syntax.{requestResponse, notification, solicitResponse, ifThenElse, whileDo}
+use Rattle.network_syntax.specs.Syntax.{sequence, parallel, assign, choice, waiting, answering, Branches}
 use Rattle.network_syntax.specs.Rows.{rowOf, hasRow, atRow, entry, isInputOperation}
 use Rattle.tree.specs.Encode.{rootCount, encode, rooted, empty, Octets, Proper, WellFormedTree}
 use Rattle.tree_forest.specs.Limits.{messageLevelsBelow, messageNodesBelow, sessionLevels, sessionNodes}
 use Rattle.tree.specs.EncodeLaws.{count-nodes, encode-octets, octets-nil}
 use Rattle.state.specs.Places.{slotSize, treeRoom, messageRoom, entrySize, keptSize}
-use Rattle.state.specs.Session.{Destination, outsider, waitingRow, Progress, undone, done, waits, received, taken, Progresses, Queued, Session, Slot, free, live, State}
-use Rattle.state.specs.Bytes.{zeros, joined, padded, destinationBytes, replyKind, replyBytes, messageBytes, entryBytes, queueBytes, progressBytes, rowsBytes, treeBytes, headBytes, slotBytes, slotAt, stateBytes}
+use Rattle.state.specs.Session.{Destination, outsider, waitingRow, Progress, undone, done, waits}
+use Rattle.state.specs.Session.{received, taken, Progresses, Queued, Session, Slot, free, live, State}
+use Rattle.state.specs.Bytes.{zeros, joined, padded, destinationBytes, replyKind, replyBytes, messageBytes, entryBytes}
+use Rattle.state.specs.Bytes.{queueBytes, progressBytes, rowsBytes, treeBytes, headBytes, slotBytes, slotAt, stateBytes}
 use Rattle.wire.specs.Wire.{u16Bytes}
-use Rattle.state.specs.Shape.{isDestination, suitsReply, isUndone, undoneOrDone, undoneDoneOrWaits, undoneDoneOrReceived, undoneOrTaken, undoneDoneOrBody, branches, suits, quietElsewhere, suitsOperation, suitsQueue, operationOfRow, behaviourIn, suitsBehaviour, suitsSlot, AllMessages, WellMade, MadeSlot, HasShape}
+use Rattle.state.specs.Shape.{isDestination, suitsReply, isUndone, undoneOrDone, undoneDoneOrWaits, undoneDoneOrReceived}
+use Rattle.state.specs.Shape.{undoneOrTaken, undoneDoneOrBody, branches, suits, quietElsewhere, suitsOperation, suitsQueue}
+use Rattle.state.specs.Shape.{operationOfRow, behaviourIn, suitsBehaviour, suitsSlot, AllMessages, WellMade, MadeSlot, HasShape}
 use Rattle.state.specs.PartLaws.{byte-zeros}
 use Rattle.state.specs.SizeLaws.{message-size, session-tree-size}
 use Rattle.state.specs.RowShape.{suitsRow, PartOf, InBranch, PartSuits}
@@ -126,7 +132,8 @@ module _ {N : Network} {rows : ℕ} (w : WithinLimits N rows) where
           octets-cons (omega (arith, w .operations)) (octets-cons (kind-octet (m .replyTo))
           (octets-append (u16Bytes (length l)) _ (octets-u16 (length l) (omega (arith, message-size (m .message) f)))
           (octets-append (replyBytes (m .replyTo)) (padded messageRoom l) (reply-octets (o .twoWay) (m .replyTo) r)
-          (octets-append l (zeros (messageRoom - length l)) (tree-octets messageLevelsBelow messageNodesBelow (m .message) (omega arith) f) (octets-zeros (messageRoom - length l))))))
+          (octets-append l (zeros (messageRoom - length l))
+          (tree-octets messageLevelsBelow messageNodesBelow (m .message) (omega arith) f) (octets-zeros (messageRoom - length l))))))
 
   queue-octets : (q n : ℕ) (l : List Queued) → AllMessages l → suitsQueue N rows q l ≡ true → Octets (queueBytes n l)
   unfolding queueBytes AllMessages suitsQueue

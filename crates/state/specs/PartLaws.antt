@@ -3,7 +3,7 @@
 use mathlib.Core.Path.{_≡_, refl, sym, ap, subst, _∙_}
 use mathlib.Core.List.{List, [], _++_, append-assoc, append-nil}
 use Prim.Native.Nat.{ℕ, zero, suc, _+_, _-_, _*_, _≤_, _<_}
-use native.Mathlib.Nat.{add-zero, zero-add, mul-zero, mul-suc}
+use native.Mathlib.Nat.{add-zero, mul-zero, mul-suc}
 use native.Mathlib.Omega.{arith}
 use lib.ListN.{getD, length, take, drop, length-append, take-append-drop, List·getD-append}
 use lib.Seq.{getD-drop, drop-drop, take-at, drop-at, take-append-add, drop-append-add, take-append-le, drop-append-le, length-take-le}
@@ -109,22 +109,6 @@ pub replace-again : (s : List ℕ) (at : ℕ) (y z : List ℕ) → at ≤ length
 replace-again s at y z h e =
     replace-middle (take at s) y (drop (at + length y) s) z at (length-take-le at s h) e
     ∙ ap (λ (i : ℕ). take at s ++ (z ++ drop (at + i) s)) (sym e)
-
--- One part, and the next right after it.
-pub replace-more : (s : List ℕ) (at : ℕ) (x y : List ℕ) (n : ℕ) → at ≤ length s → length x ≡ n → withPart (withPart s at x) (at + n) y ≡ withPart s at (x ++ y)
-replace-more s at x y n h e =
-    let rest = drop (at + length x) s in
-    let b : withPart (x ++ rest) n y ≡ x ++ (y ++ drop (length y) rest) =
-    ap (λ (i : ℕ). withPart (x ++ rest) i y) (sym (add-zero n))
-    ∙ (replace-rest x rest n 0 y e ∙ ap (λ (i : ℕ). x ++ (y ++ drop i rest)) (zero-add (length y))) in
-    let d : drop (length y) rest ≡ drop (at + length (x ++ y)) s =
-    drop-drop (length y) (at + length x) s ∙ ap (λ (i : ℕ). drop i s) (sums x y) in
-    replace-rest (take at s) (x ++ rest) at n y (length-take-le at s h)
-    ∙ ap (λ (z : List ℕ). take at s ++ z)
-    (b ∙ (ap (λ (z : List ℕ). x ++ (y ++ z)) d ∙ sym (append-assoc x y (drop (at + length (x ++ y)) s))))
-  where
-    sums : (x y : List ℕ) → at + length x + length y ≡ at + length (x ++ y)
-    sums x y = simp length-append (omega arith)
 
 -- Two parts of a part.
 pub replace-both : (s : List ℕ) (at n k l : ℕ) (a b : List ℕ) → at + n ≤ length s → k + length a ≤ n → l + length b ≤ n

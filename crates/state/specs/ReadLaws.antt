@@ -19,9 +19,14 @@ use Rattle.tree.specs.Encode.{empty, WellFormedTree}
 use Rattle.tree_forest.specs.Limits.{messageLevelsBelow, messageNodesBelow, sessionLevels, sessionNodes}
 use Rattle.tree.specs.Decode.{decode, decodeMessage}
 use Rattle.tree.specs.DecodeLaws.{decode-complete}
-use Rattle.state.specs.Places.{slotSize, headSize, treeRoom, messageRoom, entrySize, queueSize, rowSize, rowsSize, treePlace, queuePlace, rowsPlace, keptPlace, keptSize, slotStart}
-use Rattle.state.specs.Session.{Destination, outsider, waitingRow, Progress, undone, done, waits, received, taken, Progresses, Queued, Session, sessionOf, Slot, free, live, State}
-use Rattle.state.specs.Bytes.{zeros, joined, padded, destinationKind, destinationBytes, replyKind, replyBytes, messageBytes, entryBytes, queueBytes, progressBytes, rowsBytes, treeBytes, headBytes, slotBytes, slotAt, stateBytes, readDestination, readReply, treeOr, readEntry, readQueue, readProgress, readRow, readSession, readSlot, readState}
+use Rattle.state.specs.Places.{slotSize, headSize, treeRoom, messageRoom, entrySize, queueSize, rowSize}
+use Rattle.state.specs.Places.{rowsSize, treePlace, queuePlace, rowsPlace, keptPlace, keptSize, slotStart}
+use Rattle.state.specs.Session.{Destination, outsider, waitingRow, Progress, undone, done, waits, received}
+use Rattle.state.specs.Session.{taken, Progresses, Queued, Session, sessionOf, Slot, free, live, State}
+use Rattle.state.specs.Bytes.{zeros, joined, padded, destinationKind, destinationBytes, replyKind, replyBytes}
+use Rattle.state.specs.Bytes.{messageBytes, entryBytes, queueBytes, progressBytes, rowsBytes, treeBytes}
+use Rattle.state.specs.Bytes.{headBytes, slotBytes, slotAt, stateBytes, readDestination, readReply, treeOr}
+use Rattle.state.specs.Bytes.{readEntry, readQueue, readProgress, readRow, readSession, readSlot, readState}
 use Rattle.wire.specs.Wire.{u16Bytes, u32Bytes}
 use Rattle.state.specs.Shape.{AllMessages, WellMade, MadeSlot, HasShape, Stands}
 use Rattle.state.specs.PartLaws.{length-padded, HoldsAt, holds-whole, holds-first, holds-rest, holds-part, holds-joined}
@@ -66,7 +71,8 @@ same-queued m e f g = λ i. record { operation = e i; message = f i; replyTo = g
 pub read-message : (m : Tree Value) → WellFormedTree messageLevelsBelow messageNodesBelow m → treeOr (decodeMessage (messageBytes m)) ≡ m
 read-message m w = ap treeOr (decode-complete messageLevelsBelow messageNodesBelow (messageBytes m) m (record { bytes = refl; good = w }))
 
-pub read-entry : {s : List ℕ} {at : ℕ} (m : Queued) → WellFormedTree messageLevelsBelow messageNodesBelow (m .message) → HoldsAt s at (entryBytes m) → readEntry s at ≡ m
+pub read-entry : {s : List ℕ} {at : ℕ} (m : Queued) → WellFormedTree messageLevelsBelow messageNodesBelow (m .message) → HoldsAt s at (entryBytes m)
+    → readEntry s at ≡ m
 unfolding readEntry entryBytes
 read-entry {s} {at} m w h =
     let l = messageBytes (m .message) in

@@ -8,7 +8,9 @@ use native.Mathlib.Omega.{arith}
 use lib.Dec.{eqb}
 use borrow.Author.Tests.{eq-eqb, eqb-true}
 use Rattle.basics.specs.TestLaws.{agree, and-left, and-right, or-left, or-right}
-use Rattle.network_syntax.specs.Syntax.{Optional, none, some, Network, Behaviour, nil, oneWay, requestResponse, notification, solicitResponse, ifThenElse, whileDo, sequence, parallel, assign, choice, waiting, answering, Branches, lastBranch, branch}
+use Rattle.network_syntax.specs.Syntax.{Optional, none, some, Network, Behaviour, nil, oneWay, requestResponse}
+use Rattle.network_syntax.specs.Syntax.{notification, solicitResponse, ifThenElse, whileDo, sequence, parallel}
+use Rattle.network_syntax.specs.Syntax.{assign, choice, waiting, answering, Branches, lastBranch, branch}
 use Rattle.network_syntax.specs.Rows.{rowOf, hasRow, hasRowIn, atRow, atRowIn, itself, orElseSome, choiceOf}
 use Rattle.state.specs.Session.{undone, Progresses}
 use Rattle.state.specs.Shape.{isUndone, undoneDoneOrReceived, undoneOrTaken, undoneDoneOrBody, branches, suits, suitsBranches, quietElsewhere}

@@ -3,7 +3,9 @@ use mathlib.Core.Path.{_≡_}
 use mathlib.Core.Bool.{Bool, true, _&&_}
 use mathlib.Core.Logic.{_⊎_}
 use Prim.Native.Nat.{ℕ, zero, suc, _<_}
-use Rattle.network_syntax.specs.Syntax.{Optional, none, some, Network, Behaviour, nil, oneWay, requestResponse, notification, solicitResponse, ifThenElse, whileDo, sequence, parallel, assign, choice, waiting, answering, Branches, lastBranch, branch}
+use Rattle.network_syntax.specs.Syntax.{Optional, none, some, Network, Behaviour, nil, oneWay, requestResponse}
+use Rattle.network_syntax.specs.Syntax.{notification, solicitResponse, ifThenElse, whileDo, sequence, parallel}
+use Rattle.network_syntax.specs.Syntax.{assign, choice, waiting, answering, Branches, lastBranch, branch}
 use Rattle.network_syntax.specs.Rows.{rowOf, atRow, Choice, choiceOf}
 use Rattle.state.specs.Session.{Progress, Progresses}
 use Rattle.state.specs.Shape.{isUndone, undoneOrDone, undoneDoneOrWaits, undoneDoneOrReceived, undoneOrTaken, undoneDoneOrBody, branches}

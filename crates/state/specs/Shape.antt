@@ -10,7 +10,8 @@ use lib.Dec.{eqb, leb, ltb}
 use lib.ListN.{length}
 use Rattle.tree_forest.specs.Forest.{tree}
 use Rattle.basics.specs.Choice.{pick}
-use Rattle.network_syntax.specs.Syntax.{Optional, none, some, Service, Network, Operation, Behaviour, nil, oneWay, requestResponse, notification, solicitResponse}
+use Rattle.network_syntax.specs.Syntax.{Optional, none, some, Service, Network, Operation, Behaviour}
+use Rattle.network_syntax.specs.Syntax.{nil, oneWay, requestResponse, notification, solicitResponse}
 use Rattle.network_syntax.specs.Syntax.{ifThenElse, whileDo, sequence, parallel, assign, choice, waiting, answering, Branches, lastBranch, branch}
 use Rattle.network_syntax.specs.Rows.{hasRow, entry, isInputOperation}
 use Rattle.tree.specs.Encode.{WellFormedTree, empty}

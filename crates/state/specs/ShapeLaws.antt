@@ -16,7 +16,9 @@ use Rattle.scalar.specs.Value.{Value}
 use Rattle.basics.specs.Choice.{pick}
 use Rattle.basics.specs.TestLaws.{and-left, and-right}
 use Rattle.network_syntax.specs.Rows.{entry}
-use Rattle.network_syntax.specs.Syntax.{Optional, none, some, Network, Service, Behaviour, nil, oneWay, requestResponse, notification, solicitResponse, ifThenElse, whileDo, sequence, parallel, assign, choice, waiting, answering, Branches, lastBranch, branch}
+use Rattle.network_syntax.specs.Syntax.{Optional, none, some, Network, Service, Behaviour, nil, oneWay, requestResponse}
+use Rattle.network_syntax.specs.Syntax.{notification, solicitResponse, ifThenElse, whileDo, sequence, parallel}
+use Rattle.network_syntax.specs.Syntax.{assign, choice, waiting, answering, Branches, lastBranch, branch}
 use Rattle.wire.specs.Wire.{byteAt, u16At, part}
 use Rattle.tree.specs.Encode.{empty, Octets, SoundValues, WellFormedTree}
 use Rattle.tree_forest.specs.Limits.{messageLevelsBelow, messageNodesBelow, sessionLevels, sessionNodes}
@@ -26,7 +28,9 @@ use Rattle.tree.specs.DecodeLaws.{decode-sound}
 use Rattle.state.specs.Places.{entrySize, treePlace, queuePlace, slotStart}
 use Rattle.state.specs.Session.{undone, free, live, State, newSession}
 use Rattle.state.specs.Bytes.{stateBytes, treeOr, readEntry, readQueue, treeLength, readSession, readSlot, readState}
-use Rattle.state.specs.Shape.{suitsSlot, suitsSlots, suitsServices, AllMessages, WellMade, MadeSlot, HasShape, Stands, sameBytes, decodeState, serviceOfRow, clientOf, suitsBehaviour, suitsQueue, suits, suitsBranches, quietElsewhere, freshSlot, freshState}
+use Rattle.state.specs.Shape.{suitsSlot, suitsSlots, suitsServices, AllMessages, WellMade, MadeSlot}
+use Rattle.state.specs.Shape.{HasShape, Stands, sameBytes, decodeState, serviceOfRow, clientOf, suitsBehaviour}
+use Rattle.state.specs.Shape.{suitsQueue, suits, suitsBranches, quietElsewhere, freshSlot, freshState}
 use Rattle.state.specs.SizeLaws.{state-length}
 use Rattle.state.specs.ReadLaws.{read-state}
 
@@ -40,7 +44,8 @@ message-made : (s : List ℕ) → Octets s → (x : Lookup Value) → decodeMess
 message-made s o absent e = end-well-formed messageLevelsBelow messageNodesBelow
 message-made s o (present t) e = decode-sound messageLevelsBelow messageNodesBelow s t o e .good
 
-tree-made : (s : List ℕ) → Octets s → (x : Lookup Value) → decode sessionLevels sessionNodes s ≡ x → WellFormedTree sessionLevels sessionNodes (tree empty (childrenOf x))
+tree-made : (s : List ℕ) → Octets s → (x : Lookup Value) → decode sessionLevels sessionNodes s ≡ x
+    → WellFormedTree sessionLevels sessionNodes (tree empty (childrenOf x))
 tree-made s o absent e = end-well-formed sessionLevels sessionNodes
 tree-made s o (present (tree a ks)) e =
     let w = decode-sound sessionLevels sessionNodes s (tree a ks) o e .good in

@@ -15,8 +15,10 @@ use Rattle.tree.specs.Encode.{encode, rooted, empty, SoundValues, WellFormedTre
 use Rattle.tree_forest.specs.Limits.{messageLevelsBelow, messageNodesBelow, sessionLevels, sessionNodes}
 use Rattle.tree.specs.EncodeLaws.{length-node}
 use Rattle.state.specs.Places.{slotSize, treeRoom, messageRoom, entrySize, queueSize, rowsSize, rowSize}
-use Rattle.state.specs.Session.{Destination, outsider, waitingRow, Progress, undone, done, waits, received, taken, Progresses, Queued, Session, Slot, free, live, State}
-use Rattle.state.specs.Bytes.{zeros, padded, destinationBytes, replyBytes, messageBytes, entryBytes, queueBytes, progressBytes, rowsBytes, treeBytes, slotBytes, slotAt, stateBytes}
+use Rattle.state.specs.Session.{Destination, outsider, waitingRow, Progress, undone, done, waits}
+use Rattle.state.specs.Session.{received, taken, Progresses, Queued, Session, Slot, free, live, State}
+use Rattle.state.specs.Bytes.{zeros, padded, destinationBytes, replyBytes, messageBytes, entryBytes}
+use Rattle.state.specs.Bytes.{queueBytes, progressBytes, rowsBytes, treeBytes, slotBytes, slotAt, stateBytes}
 use Rattle.state.specs.Shape.{AllMessages, WellMade, MadeSlot, HasShape}
 use Rattle.state.specs.PartLaws.{length-zeros, length-padded, length-joined}
 use Rattle.state.specs.HeadLaws.{head-size}

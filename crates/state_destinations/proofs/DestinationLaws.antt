@@ -1,12 +1,12 @@
 -- Laws of where a reply goes: one for each way out of the functions.
-use Prim.Native.Nat.{ℕ, suc, _+_, _/_, _%_, _≤_}
-use mathlib.Core.Path.{_≡_, _∙_}
-use mathlib.Core.List.{List, [], _∷_, append-assoc}
+use Prim.Native.Nat.{ℕ, _+_, _≤_}
+use mathlib.Core.Path.{_≡_, refl, ap, _∙_}
+use mathlib.Core.List.{List, [], _∷_}
 use native.Mathlib.Omega.{arith}
-use lib.ListN.{set, length, take, drop}
-use lib.Seq.{sets-eq}
+use lib.ListN.{length}
 use borrow.Author.Tests.{eq-eqb, ne-eqb}
-use Rattle.wire.specs.Wire.{byteAt, u16At, u32At, withPart}
+use Rattle.wire.specs.Wire.{byteAt, u16At, u32At, putU16, putU32, withPart, u16Bytes}
+use Rattle.wire.specs.WireLaws.{length-withPart, parts-next, put-16, put-32}
 use Rattle.state.specs.Bytes.{zeros, destinationBytes, replyBytes, readDestination, readReply}
 use Rattle.state_destinations.specs.declared.Destination.{Destination}
 use Rattle.state_destinations.specs.declared.Destination.the-variants.{Outsider, WaitingRow}
@@ -40,30 +40,22 @@ pub ruleset read-reply-laws = (read-nobody, read-to)
 
 -- ---- writing
 
-pub four : (s : List ℕ) (at a b c d : ℕ) → at + 4 ≤ length s
-    → set (set (set (set s at a) (at + 1) b) (at + 2) c) (at + 3) d ≡ withPart s at (a ∷ b ∷ c ∷ d ∷ [])
-four s at a b c d h =
-    let e1 : at + 1 ≡ suc at = omega arith in
-    let e2 : at + 2 ≡ suc (suc at) = omega arith in
-    let e3 : at + 3 ≡ suc (suc (suc at)) = omega arith in
-    rw (e1, e2, e3) (sets-eq (a ∷ b ∷ c ∷ d ∷ []) s at h ∙ append-assoc (take at s) (a ∷ b ∷ c ∷ d ∷ []) (drop (at + 4) s))
-
-pub ruleset four-laws = (four)
-
-module _ (s o : List ℕ) (at : ℕ) where
+module _ (s o : List ℕ) (at : ℕ) (fits : at + 4 ≤ length s) where
   module _ (d : Destination) where
-    pub write-outsider : {v : ℕ} → d ≡ Outsider v → o ≡ withPart s at (v % 256 ∷ v / 256 % 256 ∷ v / 65536 % 256 ∷ v / 16777216 ∷ [])
-        → o ≡ withPart s at (destinationBytes (destinationOf d))
-    write-outsider e h = rw e h
+    pub write-outsider : {v : ℕ} → d ≡ Outsider v → o ≡ putU32 s at v → o ≡ withPart s at (destinationBytes (destinationOf d))
+    write-outsider {v} e h = rw e (h ∙ put-32 s at v fits)
 
-    pub write-waiting : {q n r : ℕ} → d ≡ WaitingRow q n r → o ≡ withPart s at (q ∷ n ∷ r % 256 ∷ r / 256 ∷ [])
-        → o ≡ withPart s at (destinationBytes (destinationOf d))
-    write-waiting e h = rw e h
+    pub write-waiting : {q n r : ℕ} {s₁ s₂ : List ℕ} → d ≡ WaitingRow q n r → s₁ ≡ withPart s at (q ∷ []) → s₂ ≡ withPart s₁ (at + 1) (n ∷ [])
+        → o ≡ putU16 s₂ (at + 2) r → o ≡ withPart s at (destinationBytes (destinationOf d))
+    write-waiting {q} {n} {r} {s₁} {s₂} e a b c =
+        let two : s₂ ≡ withPart s at (q ∷ n ∷ []) = parts-next s at (q ∷ []) (n ∷ []) 1 (at + 1) (omega arith) refl refl a b in
+        let l : length s₂ ≡ length s = ap length two ∙ length-withPart s at (q ∷ n ∷ []) (omega arith) in
+        rw e (parts-next s at (q ∷ n ∷ []) (u16Bytes r) 2 (at + 2) (omega arith) refl refl two (c ∙ put-16 s₂ (at + 2) r (omega (arith, l))))
 
   module _ (to : ReplyTo) where
-    pub write-nobody : to ≡ Nobody → o ≡ withPart s at (0 ∷ 0 ∷ 0 ∷ 0 ∷ []) → o ≡ withPart s at (replyBytes (replyOf to))
+    pub write-nobody : to ≡ Nobody → o ≡ putU32 s at 0 → o ≡ withPart s at (replyBytes (replyOf to))
     unfolding zeros
-    write-nobody e h = rw e h
+    write-nobody e h = rw e (h ∙ put-32 s at 0 fits)
 
     pub write-to : {d : Destination} → to ≡ To d → o ≡ withPart s at (destinationBytes (destinationOf d)) → o ≡ withPart s at (replyBytes (replyOf to))
     write-to e h = rw e h

@@ -1,7 +1,6 @@
 // Where a reply goes, in a state's bytes: its kind and four bytes (docs/STATE.md), read and written. Reading is total: it gives what the
 // bytes say, whatever they are.
 ghost use mathlib.Core.Path.{_≡_};
-ghost use mathlib.Core.List.{[], _∷_};
 ghost use Prim.Native.Nat.{_+_, _≤_, _<_};
 ghost use lib.ListN.{length};
 ghost use Rattle.wire.specs.Wire.{withPart};
@@ -30,6 +29,7 @@ pub fn kind_of(d: Destination) -> u8
     }
 }
 
+// The kind of where a reply goes: 0 for nobody.
 pub fn reply_kind(to: ReplyTo) -> u8
     ensures { λ r. ⌜ r ≡ replyKind (replyOf to) ⌝ }
 {
@@ -54,6 +54,7 @@ pub fn read(state: &[u8], kind: u8, at: usize) -> Destination
     )
 }
 
+// Where a reply of that kind goes, by the four bytes from `at` on.
 pub fn read_reply(state: &[u8], kind: u8, at: usize) -> ReplyTo
     requires { ⌜ at + 4 < 0x10000000000000000 ⌝ }
     ensures { λ to. ⌜ replyOf to ≡ readReply (now (state .entry)) kind at ⌝ }
@@ -64,17 +65,6 @@ pub fn read_reply(state: &[u8], kind: u8, at: usize) -> ReplyTo
     ReplyTo::To(read(state, kind, at))
 }
 
-// Stores four bytes.
-fn put_four(state: &mut [u8], at: usize, a: u8, b: u8, c: u8, d: u8)
-    requires { ⌜ at + 4 ≤ length (now state) ⌝ }
-    ensures { λ _. ⌜ now (state .exit) ≡ withPart (now (state .entry)) at (a ∷ b ∷ c ∷ d ∷ []) ⌝ }
-{
-    state[at] = a;
-    state[at + 1] = b;
-    state[at + 2] = c;
-    state[at + 3] = d;
-}
-
 // Writes a destination to the four bytes from `at` on.
 pub fn write(state: &mut [u8], at: usize, d: Destination)
     requires { ⌜ at + 4 ≤ length (now state) ⌝ }
@@ -82,25 +72,24 @@ pub fn write(state: &mut [u8], at: usize, d: Destination)
 {
     match d {
         Destination::Outsider(v) => {
-            let a = (v % 256) as u8;
-            let b = (v / 256 % 256) as u8;
-            let c = (v / 65536 % 256) as u8;
-            let d = (v / 16777216) as u8;
-            put_four(state, at, a, b, c, d);
+            wire::put_u32(state, at, v);
         }
         Destination::WaitingRow(q, n, r) => {
-            put_four(state, at, q, n, (r % 256) as u8, (r / 256) as u8);
+            wire::put_u8(state, at, q);
+            wire::put_u8(state, at + 1, n);
+            wire::put_u16(state, at + 2, r);
         }
     }
 }
 
+// Writes where a reply goes to the four bytes from `at` on: zeros for nobody.
 pub fn write_reply(state: &mut [u8], at: usize, to: ReplyTo)
     requires { ⌜ at + 4 ≤ length (now state) ⌝ }
     ensures { λ _. ⌜ now (state .exit) ≡ withPart (now (state .entry)) at (replyBytes (replyOf to)) ⌝ }
 {
     match to {
         ReplyTo::Nobody => {
-            put_four(state, at, 0, 0, 0, 0);
+            wire::put_u32(state, at, 0);
         }
         ReplyTo::To(d) => {
             write(state, at, d);

@@ -1,18 +1,17 @@
 -- Laws of a row's progress: one for each way out of the functions.
-use Prim.Native.Nat.{ℕ, suc, _+_, _<_, _≤_}
+use Prim.Native.Nat.{ℕ, _+_, _<_, _≤_}
 use mathlib.Core.Path.{_≡_, refl, sym, ap, _∙_}
-use mathlib.Core.List.{List, [], _∷_, append-assoc}
+use mathlib.Core.List.{List, [], _∷_}
 use mathlib.Core.Bool.{true, false}
 use native.Mathlib.Omega.{arith}
-use lib.ListN.{set, length, take, drop}
-use lib.Seq.{sets-eq}
+use lib.ListN.{length}
 use borrow.Author.Tests.{ne-eqb, lt-ltb, le-ltb}
 use Rattle.wire.specs.Wire.{byteAt, withPart}
+use Rattle.wire.specs.WireLaws.{parts-next}
 use Rattle.state.specs.Places.{rowStart}
 use Rattle.state.specs.Session.{Progress}
 use Rattle.state.specs.Bytes.{zeros, replyBytes, destinationKind, readDestination, readProgress, readSession, progressBytes}
 use Rattle.state.specs.Shape.{isUndone}
-use Rattle.state.specs.PartLaws.{replace-more}
 use Rattle.state.specs.Session.{receivedBy}
 use Rattle.state_destinations.specs.declared.Destination.{Destination}
 use Rattle.state_destinations.specs.declared.ReplyTo.{ReplyTo}
@@ -96,16 +95,11 @@ pub ruleset by-laws = (by-nobody, by-destination)
 
 -- ---- writing
 
-pub two : (s : List ℕ) (at a b : ℕ) → at + 2 ≤ length s → set (set s at a) (at + 1) b ≡ withPart s at (a ∷ b ∷ [])
-two s at a b h =
-    let e1 : at + 1 ≡ suc at = omega arith in
-    rw e1 (sets-eq (a ∷ b ∷ []) s at h ∙ append-assoc (take at s) (a ∷ b ∷ []) (drop (at + 2) s))
-
-pub ruleset two-laws = (two)
-
-pub parts : (s t o : List ℕ) (at a b : ℕ) (l : List ℕ) → at + 6 ≤ length s → t ≡ withPart s at (a ∷ b ∷ []) → o ≡ withPart t (at + 2) l
-    → o ≡ withPart s at (a ∷ b ∷ l)
-parts s t o at a b l h e f = f ∙ (ap (λ (z : List ℕ). withPart z (at + 2) l) e ∙ replace-more s at (a ∷ b ∷ []) l 2 (omega arith) refl)
+pub parts : (s t u o : List ℕ) (at a b : ℕ) (l : List ℕ) → at + 6 ≤ length s → t ≡ withPart s at (a ∷ []) → u ≡ withPart t (at + 1) (b ∷ [])
+    → o ≡ withPart u (at + 2) l → o ≡ withPart s at (a ∷ b ∷ l)
+parts s t u o at a b l h e f g =
+    let i : at ≤ length s = omega arith in
+    parts-next s at (a ∷ b ∷ []) l 2 (at + 2) i refl refl (parts-next s at (a ∷ []) (b ∷ []) 1 (at + 1) i refl refl e f) g
 
 pub ruleset parts-laws = (parts)
 

@@ -1,6 +1,6 @@
 // The progress of a row in a state's bytes, read and written. Reading is total: it gives what the bytes say, whatever they are.
 ghost use mathlib.Core.Path.{_≡_};
-ghost use mathlib.Core.List.{[], _∷_};
+ghost use mathlib.Core.List.{_∷_};
 ghost use Prim.Native.Nat.{_+_, _≤_, _<_};
 ghost use lib.ListN.{length};
 ghost use Rattle.wire.specs.Wire.{withPart};
@@ -74,21 +74,13 @@ pub fn received_by(to: ReplyTo) -> Progress
     }
 }
 
-// Stores two bytes.
-fn put_two(state: &mut [u8], at: usize, a: u8, b: u8)
-    requires { ⌜ at + 2 ≤ length (now state) ⌝ }
-    ensures { λ _. ⌜ now (state .exit) ≡ withPart (now (state .entry)) at (a ∷ b ∷ []) ⌝ }
-{
-    state[at] = a;
-    state[at + 1] = b;
-}
-
 // Stores a progress by its parts: what it is, the taken part, where the reply goes.
 fn put_parts(state: &mut [u8], at: usize, code: u8, part: u8, to: ReplyTo)
     requires { ⌜ at + rowSize ≤ length (now state) ⌝ }
     ensures { λ _. ⌜ now (state .exit) ≡ withPart (now (state .entry)) at (code ∷ part ∷ replyBytes (replyOf to)) ⌝ }
 {
-    put_two(state, at, code, part);
+    wire::put_u8(state, at, code);
+    wire::put_u8(state, at + 1, part);
     state_destinations::write_reply(state, at + 2, to);
 }
 

@@ -3,61 +3,44 @@ use mathlib.Core.Path.{_≡_, refl, sym, ap, _∙_}
 use mathlib.Core.List.{List, [], _∷_, _++_}
 use mathlib.Core.Bool.{Bool}
 use mathlib.Core.Logic.{inr}
-use Prim.Native.Nat.{ℕ, _+_, _-_, _*_, _/_, _%_, _≤_, _<_}
+use Prim.Native.Nat.{ℕ, _+_, _-_, _*_, _≤_, _<_}
 use native.Mathlib.Numerals.{add-one}
 use native.Mathlib.Nat.{add-zero}
 use native.Mathlib.Omega.{arith}
 use lib.ListN.{getD, set, length, take, drop, take-append-drop, length-set}
-use lib.Seq.{set-split, take-suc, take-all, getD-take, getD-drop, length-take-le}
+use lib.Seq.{take-suc, take-all, getD-take, getD-drop, length-take-le}
 use borrow.Author.Tests.{lt-ltb, le-ltb}
 use Rattle.basics.specs.Choice.{pick}
-use Rattle.wire.specs.Wire.{byteAt, part, withPart}
-use Rattle.wire.specs.WireLaws.{length-part, length-withPart, agree-byte, withPart-outside}
+use Rattle.wire.specs.Wire.{byteAt, putU16, part, withPart}
+use Rattle.wire.specs.WireLaws.{length-part, length-withPart, agree-byte, withPart-outside, parts-next, put-8, put-16}
 use Rattle.state.specs.Places.{slotSize, messageRoom, entrySize, entryStart}
 use Rattle.network_syntax.specs.Syntax.{Optional}
 use Rattle.state.specs.Session.{Destination}
 use Rattle.state.specs.Bytes.{zeros, padded, replyKind, replyBytes, readSession}
 use Rattle.wire.specs.Wire.{u16Bytes}
-use Rattle.state.specs.PartLaws.{length-zeros, byte-zeros, replace-more}
+use Rattle.state.specs.PartLaws.{length-zeros, byte-zeros}
 use Rattle.state.specs.SizeLaws.{reply-size}
 use Rattle.state_destinations.specs.declared.ReplyTo.{ReplyTo}
 use Rattle.state_destinations.specs.Meaning.{replyOf}
 use Rattle.state_queues.specs.Queue.{removed, entryHead, entryOf, pushed}
-use Rattle.state_queues.specs.Written.{written}
 
 -- ---- one after another
 
 module _ (s : List ℕ) (at : ℕ) where
-  pub written-none : s ≡ written s at []
-  unfolding written
+  pub written-none : s ≡ withPart s at []
   written-none = sym (ap (λ (i : ℕ). take at s ++ drop i s) (add-zero at) ∙ take-append-drop at s)
 
-  pub written-set : (x : ℕ) → at < length s → set s at x ≡ written s at (x ∷ [])
-  unfolding written
-  written-set x l = set-split s at x l ∙ ap (λ (i : ℕ). take at s ++ (x ∷ drop i s)) (sym (add-one at))
-
-  pub length-written : (l : List ℕ) → at + length l ≤ length s → length (written s at l) ≡ length s
-  unfolding written
-  length-written l h = length-withPart s at l h
-
-  pub written-more : (x y : List ℕ) (n : ℕ) → at ≤ length s → length x ≡ n → written (written s at x) (at + n) y ≡ written s at (x ++ y)
-  unfolding written
-  written-more x y n h e = replace-more s at x y n h e
-
   -- One more byte.
-  written-next : {s₁ : List ℕ} (l : List ℕ) (i x : ℕ) → length l ≡ i → at + i < length s → s₁ ≡ written s at l
-      → set s₁ (at + i) x ≡ written s at (l ++ (x ∷ []))
+  written-next : {s₁ : List ℕ} (l : List ℕ) (i x : ℕ) → length l ≡ i → at + i < length s → s₁ ≡ withPart s at l
+      → set s₁ (at + i) x ≡ withPart s at (l ++ (x ∷ []))
   written-next {s₁} l i x e h w =
-      let n : length s₁ ≡ length s = ap length w ∙ length-written l (omega (arith, e, h)) in
-      step s₁ i x (omega (arith, n, h)) ∙ (ap (λ (z : List ℕ). written z (at + i) (x ∷ [])) w ∙ written-more l (x ∷ []) i (omega (arith, h)) e)
-    where
-      step : (s₁ : List ℕ) (i x : ℕ) → at + i < length s₁ → set s₁ (at + i) x ≡ written s₁ (at + i) (x ∷ [])
-      step s₁ i x h = unfold written in set-split s₁ (at + i) x h ∙ ap (λ (j : ℕ). take (at + i) s₁ ++ (x ∷ drop j s₁)) (sym (add-one (at + i)))
+      let n : length s₁ ≡ length s = ap length w ∙ length-withPart s at l (omega (arith, e, h)) in
+      parts-next s at l (x ∷ []) i (at + i) (omega (arith, h)) e refl w (put-8 s₁ (at + i) x (omega (arith, n, h)))
 
 -- What a loop has written after i bytes of l.
 pub record WrittenUpTo (s s₁ : List ℕ) (at i : ℕ) (l : List ℕ) : Type 0 where
   pub same : length s₁ ≡ length s
-  pub bytes : s₁ ≡ written s at (take i l)
+  pub bytes : s₁ ≡ withPart s at (take i l)
 
 module _ (s : List ℕ) (at : ℕ) (l : List ℕ) (fits : at + length l ≤ length s) where
   pub upTo-none : WrittenUpTo s s at 0 l
@@ -67,16 +50,15 @@ module _ (s : List ℕ) (at : ℕ) (l : List ℕ) (fits : at + length l ≤ leng
   upTo-more {s₁} i x h e w = record {
     same = length-set s₁ (at + i) x ∙ w .same;
     bytes = written-next s at (take i l) i x (length-take-le i l (omega (arith, h))) (omega (arith, h, fits)) (w .bytes)
-        ∙ (ap (λ (y : ℕ). written s at (take i l ++ (y ∷ []))) e
-        ∙ (ap (written s at) (sym (take-suc l i 0 h)) ∙ ap (λ (j : ℕ). written s at (take j l)) (sym (add-one i))));
+        ∙ (ap (λ (y : ℕ). withPart s at (take i l ++ (y ∷ []))) e
+        ∙ (ap (withPart s at) (sym (take-suc l i 0 h)) ∙ ap (λ (j : ℕ). withPart s at (take j l)) (sym (add-one i))));
   }
 
-  pub upTo-all : {s₁ : List ℕ} (i : ℕ) → length l ≤ i → WrittenUpTo s s₁ at i l → s₁ ≡ written s at l
-  upTo-all i h w = w .bytes ∙ ap (written s at) (take-all i l h)
+  pub upTo-all : {s₁ : List ℕ} (i : ℕ) → length l ≤ i → WrittenUpTo s s₁ at i l → s₁ ≡ withPart s at l
+  upTo-all i h w = w .bytes ∙ ap (withPart s at) (take-all i l h)
 
   -- What stands further on is not written yet.
   pub upTo-later : {s₁ : List ℕ} (i k : ℕ) → i ≤ length l → at + i ≤ k → WrittenUpTo s s₁ at i l → byteAt s₁ k ≡ byteAt s k
-  unfolding written
   upTo-later {s₁} i k h j w =
       let e : length (take i l) ≡ i = length-take-le i l h in
       ap (λ (z : List ℕ). byteAt z k) (w .bytes)
@@ -97,7 +79,7 @@ module _ (s : List ℕ) (at n : ℕ) (fits : at + n ≤ length s) where
   pub clear-more : {s₁ : List ℕ} (i : ℕ) → i < n → WrittenUpTo s s₁ at i (zeros n) → WrittenUpTo s (set s₁ (at + i) 0) at (i + 1) (zeros n)
   clear-more i h w = upTo-more s at (zeros n) zeros-fit i 0 (omega (arith, length-zeros n, h)) (zeros-byte n i) w
 
-  pub clear-all : {s₁ : List ℕ} (i : ℕ) → n ≤ i → WrittenUpTo s s₁ at i (zeros n) → s₁ ≡ written s at (zeros n)
+  pub clear-all : {s₁ : List ℕ} (i : ℕ) → n ≤ i → WrittenUpTo s s₁ at i (zeros n) → s₁ ≡ withPart s at (zeros n)
   clear-all i h w = upTo-all s at (zeros n) zeros-fit i (omega (arith, length-zeros n, h)) w
 
 -- A byte of a part.
@@ -115,7 +97,7 @@ module _ (s : List ℕ) (at : ℕ) (src : List ℕ) (start n : ℕ) (fits : at +
       → WrittenUpTo s (set s₁ (at + i) (getD src (start + i) 0)) at (i + 1) (part src start n)
   copy-more i h w = upTo-more s at (part src start n) part-fits i _ (omega (arith, length-part src start n within, h)) (part-byte src start n i h) w
 
-  pub copy-all : {s₁ : List ℕ} (i : ℕ) → n ≤ i → WrittenUpTo s s₁ at i (part src start n) → s₁ ≡ written s at (part src start n)
+  pub copy-all : {s₁ : List ℕ} (i : ℕ) → n ≤ i → WrittenUpTo s s₁ at i (part src start n) → s₁ ≡ withPart s at (part src start n)
   copy-all i h w = upTo-all s at (part src start n) part-fits i (omega (arith, length-part src start n within, h)) w
 
 pub move-more : (s : List ℕ) (at by n : ℕ) → at + by + n ≤ length s → {s₁ : List ℕ} (i : ℕ) → i < n → WrittenUpTo s s₁ at i (part s (at + by) n)
@@ -126,54 +108,41 @@ move-more s at by n fits i h w =
     upTo-more s at (part s (at + by) n) f i _ (omega (arith, e, h))
     (upTo-later s at (part s (at + by) n) f i (at + by + i) (omega (arith, e, h)) (omega arith) w ∙ part-byte s (at + by) n i h) w
 
--- ---- numbers
-
-pub number-written : (s : List ℕ) (at v : ℕ) {s₁ s₂ : List ℕ} → at + 2 ≤ length s → s₁ ≡ written s at (v % 256 ∷ []) → s₂ ≡ written s₁ (at + 1) (v / 256 ∷ [])
-    → s₂ ≡ written s at (u16Bytes v)
-number-written s at v h a b =
-    b ∙ (ap (λ (z : List ℕ). written z (at + 1) (v / 256 ∷ [])) a ∙ written-more s at (v % 256 ∷ []) (v / 256 ∷ []) 1 (omega (arith, h)) refl)
-
--- ---- what is written next to what was written
-
-chain : (s : List ℕ) (at : ℕ) {s₁ s₂ : List ℕ} (x y : List ℕ) (n a : ℕ) → at ≤ length s → length x ≡ n → a ≡ at + n → s₁ ≡ written s at x → s₂ ≡ written s₁ a y
-    → s₂ ≡ written s at (x ++ y)
-chain s at x y n a h e i p q =
-    q ∙ (ap (λ (z : List ℕ). written z a y) p ∙ (ap (λ (j : ℕ). written (written s at x) j y) i ∙ written-more s at x y n h e))
-
 -- ---- an entry
 
 pub head-written : (s : List ℕ) (at w : ℕ) (to : ReplyTo) (len : ℕ) {kind : ℕ} {s₁ s₂ s₃ s₄ : List ℕ} → at + 8 ≤ length s
-    → s₁ ≡ written s at ((w + 1) ∷ []) → kind ≡ replyKind (replyOf to) → s₂ ≡ written s₁ (at + 1) (kind ∷ []) → s₃ ≡ written s₂ (at + 2) (u16Bytes len)
-    → s₄ ≡ withPart s₃ (at + 4) (replyBytes (replyOf to)) → s₄ ≡ written s at (entryHead w (replyOf to) len)
-unfolding entryHead written
-head-written s at w to len {kind} h a k b d e =
+    → s₁ ≡ withPart s at ((w + 1) ∷ []) → kind ≡ replyKind (replyOf to) → s₂ ≡ withPart s₁ (at + 1) (kind ∷ []) → s₃ ≡ putU16 s₂ (at + 2) len → s₄ ≡ withPart s₃ (at + 4) (replyBytes (replyOf to)) → s₄ ≡ withPart s at (entryHead w (replyOf to) len)
+unfolding entryHead
+head-written s at w to len {kind} {s₁} {s₂} {s₃} h a k b d e =
     let r = replyBytes (replyOf to) in
     let inside : at ≤ length s = omega (arith, h) in
-    let one = chain s at ((w + 1) ∷ []) (kind ∷ []) 1 (at + 1) inside refl refl a b in
-    let two = chain s at ((w + 1) ∷ kind ∷ []) (u16Bytes len) 2 (at + 2) inside refl refl one d in
-    chain s at ((w + 1) ∷ kind ∷ u16Bytes len) r 4 (at + 4) inside refl refl two e
-    ∙ ap (λ (j : ℕ). written s at (((w + 1) ∷ j ∷ u16Bytes len) ++ r)) k
+    let two : s₂ ≡ withPart s at ((w + 1) ∷ kind ∷ []) = parts-next s at ((w + 1) ∷ []) (kind ∷ []) 1 (at + 1) inside refl refl a b in
+    let l : length s₂ ≡ length s = ap length two ∙ length-withPart s at ((w + 1) ∷ kind ∷ []) (omega (arith, h)) in
+    let four : s₃ ≡ withPart s at ((w + 1) ∷ kind ∷ u16Bytes len) =
+    parts-next s at ((w + 1) ∷ kind ∷ []) (u16Bytes len) 2 (at + 2) inside refl refl two (d ∙ put-16 s₂ (at + 2) len (omega (arith, h, l))) in
+    parts-next s at ((w + 1) ∷ kind ∷ u16Bytes len) r 4 (at + 4) inside refl refl four e
+    ∙ ap (λ (j : ℕ). withPart s at (((w + 1) ∷ j ∷ u16Bytes len) ++ r)) k
 
 head-size : (w : ℕ) (to : Optional Destination) (n : ℕ) → length (entryHead w to n) ≡ 8
 unfolding entryHead
 head-size w to n = omega (arith, reply-size to)
 
 pub message-written : (s : List ℕ) (at : ℕ) (message : List ℕ) (start len : ℕ) {s₁ s₂ : List ℕ} → at + messageRoom ≤ length s → start + len ≤ length message
-    → s₁ ≡ written s at (part message start len) → s₂ ≡ written s₁ (at + len) (zeros (messageRoom - len)) → s₂ ≡ written s at (padded messageRoom (part message start len))
+    → s₁ ≡ withPart s at (part message start len) → s₂ ≡ withPart s₁ (at + len) (zeros (messageRoom - len)) → s₂ ≡ withPart s at (padded messageRoom (part message start len))
 message-written s at message start len h i a b =
     let m = part message start len in
     let l : length m ≡ len = length-part message start len i in
-    chain s at m (zeros (messageRoom - len)) len (at + len) (omega (arith, h)) l refl a b ∙ ap (λ (j : ℕ). written s at (m ++ zeros (messageRoom - j))) (sym l)
+    parts-next s at m (zeros (messageRoom - len)) len (at + len) (omega (arith, h)) l refl a b ∙ ap (λ (j : ℕ). withPart s at (m ++ zeros (messageRoom - j))) (sym l)
 
 -- ---- taking one out, and one more
 
 pub removed-is : (s : List ℕ) (slot k : ℕ) {at : ℕ} {s₁ s₂ : List ℕ} → slot + slotSize ≤ length s → k < 4 → at ≡ entryStart slot k
-    → s₁ ≡ written s at (part s (at + entrySize) (entrySize * (3 - k))) → s₂ ≡ written s₁ (at + entrySize * (3 - k)) (zeros entrySize) → s₂ ≡ removed s slot k
-unfolding removed written
+    → s₁ ≡ withPart s at (part s (at + entrySize) (entrySize * (3 - k))) → s₂ ≡ withPart s₁ (at + entrySize * (3 - k)) (zeros entrySize) → s₂ ≡ removed s slot k
+unfolding removed
 removed-is s slot k {at} h i f a b =
     let n = entrySize * (3 - k) in
     let l : length (part s (at + entrySize) n) ≡ n = length-part s (at + entrySize) n (omega (arith, h, i, f)) in
-    chain s at (part s (at + entrySize) n) (zeros entrySize) n (at + n) (omega (arith, h, i, f)) l refl a b
+    parts-next s at (part s (at + entrySize) n) (zeros entrySize) n (at + n) (omega (arith, h, i, f)) l refl a b
     ∙ ap (λ (j : ℕ). withPart s j (part s (j + entrySize) n ++ zeros entrySize)) f
 
 module _ (s : List ℕ) (slot w : ℕ) (to : ReplyTo) (message : List ℕ) (start len : ℕ) {k : ℕ} where
@@ -184,21 +153,21 @@ module _ (s : List ℕ) (slot w : ℕ) (to : ReplyTo) (message : List ℕ) (star
       sym (ap (λ (t : Bool). pick t (withPart s (entryStart slot n) (entryOf w (replyOf to) (part message start len))) s) (le-ltb n 4 (omega (arith, h .0, i))))
 
   pub push-one : {at : ℕ} {s₁ s₂ : List ℕ} → slot + slotSize ≤ length s → start + len ≤ length message → (k ≡ length (readSession s slot .queue)) × (k ≤ 4)
-      → k < 4 → at ≡ entryStart slot k → s₁ ≡ written s at (entryHead w (replyOf to) len)
-      → s₂ ≡ written s₁ (at + 8) (padded messageRoom (part message start len)) → s₂ ≡ pushed s slot w (replyOf to) (part message start len)
+      → k < 4 → at ≡ entryStart slot k → s₁ ≡ withPart s at (entryHead w (replyOf to) len)
+      → s₂ ≡ withPart s₁ (at + 8) (padded messageRoom (part message start len)) → s₂ ≡ pushed s slot w (replyOf to) (part message start len)
   push-one {at} {s₁} {s₂} d e h i f a b =
       let m = part message start len in
       let l : length m ≡ len = length-part message start len e in
       let head = entryHead w (replyOf to) len in
-      let c : s₂ ≡ written s at (head ++ padded messageRoom m) =
-      chain s at head (padded messageRoom m) 8 (at + 8) (omega (arith, d, i, f)) (head-size w (replyOf to) len) refl a b in
-      c ∙ (ap (λ (j : ℕ). written s at (entryHead w (replyOf to) j ++ padded messageRoom m)) (sym l)
-      ∙ (ap (λ (j : ℕ). written s j (entryOf w (replyOf to) m)) f ∙ (ap (λ (j : ℕ). written s (entryStart slot j) (entryOf w (replyOf to) m)) (h .0) ∙ opened (omega (arith, h .0, i)))))
+      let c : s₂ ≡ withPart s at (head ++ padded messageRoom m) =
+      parts-next s at head (padded messageRoom m) 8 (at + 8) (omega (arith, d, i, f)) (head-size w (replyOf to) len) refl a b in
+      c ∙ (ap (λ (j : ℕ). withPart s at (entryHead w (replyOf to) j ++ padded messageRoom m)) (sym l)
+      ∙ (ap (λ (j : ℕ). withPart s j (entryOf w (replyOf to) m)) f ∙ (ap (λ (j : ℕ). withPart s (entryStart slot j) (entryOf w (replyOf to) m)) (h .0) ∙ opened (omega (arith, h .0, i)))))
     where
       opened : length (readSession s slot .queue) < 4
-          → written s (entryStart slot (length (readSession s slot .queue))) (entryOf w (replyOf to) (part message start len))
+          → withPart s (entryStart slot (length (readSession s slot .queue))) (entryOf w (replyOf to) (part message start len))
           ≡ pushed s slot w (replyOf to) (part message start len)
       opened h =
-          unfold pushed written in
+          unfold pushed in
           sym (ap (λ (t : Bool). pick t (withPart s (entryStart slot (length (readSession s slot .queue))) (entryOf w (replyOf to) (part message start len))) s)
           (lt-ltb (length (readSession s slot .queue)) 4 h))

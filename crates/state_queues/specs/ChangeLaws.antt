@@ -67,12 +67,14 @@ pub record EntryStands (s : List ℕ) (slot k : ℕ) : Type 0 where
   pub inside : messageSpan s slot k .start + messageSpan s slot k .len ≤ length s
   pub good : WellFormedTree messageLevelsBelow messageNodesBelow (readEntry s (entryStart slot k) .message)
 
-message-here : (a : List Queued) (m : Queued) (b : List Queued) → AllMessages (a ++ (m ∷ b)) → AllMessages a × WellFormedTree messageLevelsBelow messageNodesBelow (m .message)
+message-here : (a : List Queued) (m : Queued) (b : List Queued) → AllMessages (a ++ (m ∷ b))
+    → AllMessages a × WellFormedTree messageLevelsBelow messageNodesBelow (m .message)
 unfolding AllMessages
 message-here [] m b w = (tt, w .0)
 message-here (c ∷ a) m b w = let r = message-here a m b (w .1) in ((w .0, r .0), r .1)
 
-entry-stands : {s : List ℕ} {slot k : ℕ} (m : Queued) → WellFormedTree messageLevelsBelow messageNodesBelow (m .message) → HoldsAt s (entryStart slot k) (entryBytes m)
+entry-stands : {s : List ℕ} {slot k : ℕ} (m : Queued) → WellFormedTree messageLevelsBelow messageNodesBelow (m .message)
+    → HoldsAt s (entryStart slot k) (entryBytes m)
     → entryStart slot k + entrySize ≤ length s → EntryStands s slot k
 unfolding entryBytes messageSpan
 entry-stands {s} {slot} {k} m good h room =
@@ -194,11 +196,20 @@ module _ {s : List ℕ} {slot : ℕ} {S : Session} (made : WellMade S) (holds : 
       let q = queueBytes 4 (S .queue) in
       let r : queueBytes 4 (a ++ b) ≡ take (entrySize * k) q ++ (drop (entrySize * k + entrySize) q ++ zeros entrySize) =
       remove-bytes 4 a (x .here) b all few
-      ∙ (ap (λ (z : List Queued). take (entrySize * length a) (queueBytes 4 z) ++ (drop (entrySize * length a + entrySize) (queueBytes 4 z) ++ zeros entrySize)) (sym (x .whole))
+      ∙ (ap (λ (z : List Queued). take (entrySize * length a) (queueBytes 4 z)
+      ++ (drop (entrySize * length a + entrySize) (queueBytes 4 z) ++ zeros entrySize)) (sym (x .whole))
       ∙ ap (λ (i : ℕ). take (entrySize * i) q ++ (drop (entrySize * i + entrySize) q ++ zeros entrySize)) (x .index)) in
       let y = drop (entrySize * k + entrySize) q ++ zeros entrySize in
       let n : entrySize * k + length y ≡ queueSize =
-      omega (arith, length-append (drop (entrySize * k + entrySize) q) (zeros entrySize), length-drop (entrySize * k + entrySize) q, length-zeros entrySize, made-fits made .queueFits, h, four) in
+      omega (
+        arith,
+        length-append (drop (entrySize * k + entrySize) q) (zeros entrySize),
+        length-drop (entrySize * k + entrySize) q,
+        length-zeros entrySize,
+        made-fits made .queueFits,
+        h,
+        four,
+      ) in
       sym (ap (λ (z : List Queued). withPart s slot (slotBytes (live (withQueue S z)))) (x .others)
       ∙ (queue-changed (a ++ b) (queue-size 4 (a ++ b) (remove-messages a (x .here) b all))
       ∙ (ap (withPart s (slot + queuePlace)) r
@@ -228,7 +239,8 @@ module _ {s : List ℕ} {slot : ℕ} {S : Session} (made : WellMade S) (holds : 
       ∙ (ap (withPart s (entryStart slot n)) (entry-same w to m)
       ∙ sym (queue-changed (S .queue ++ (new ∷ [])) z ∙ (ap (withPart s (slot + queuePlace)) a ∙ b)))))
     where
-      entry-same : (w : ℕ) (to : Optional Destination) (m : Tree Value) → entryOf w to (messageBytes m) ≡ entryBytes (record { operation = w; message = m; replyTo = to })
+      entry-same : (w : ℕ) (to : Optional Destination) (m : Tree Value)
+          → entryOf w to (messageBytes m) ≡ entryBytes (record { operation = w; message = m; replyTo = to })
       entry-same w to m = unfold entryHead entryBytes in refl
 
 -- ---- in a state
@@ -243,7 +255,8 @@ module _ {G : State} (sized : Sized G) (q n : ℕ) (i : q < 4) (j : n < 4) {S : 
       let x : Slot = live (withQueue S (without k (S .queue))) in
       remove-live made slot-holds k h ∙ sym (set-bytes sized q n x (slot-size x (remove-made made k h)) i j)
 
-  pub push-state : (w : ℕ) (to : Optional Destination) (m : Tree Value) (l : List ℕ) → length (S .queue) < 4 → l ≡ messageBytes m → WellFormedTree messageLevelsBelow messageNodesBelow m
+  pub push-state : (w : ℕ) (to : Optional Destination) (m : Tree Value) (l : List ℕ) → length (S .queue) < 4 → l ≡ messageBytes m
+      → WellFormedTree messageLevelsBelow messageNodesBelow m
       → pushed (stateBytes G) (slotStart q n) w to l
       ≡ stateBytes (setSlot G q n (live (withQueue S (S .queue ++ (record { operation = w; message = m; replyTo = to } ∷ [])))))
   push-state w to m l h e good =

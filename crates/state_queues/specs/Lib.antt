@@ -1,4 +1,3 @@
 pub mod Queue
-pub mod Written
 pub mod ReadLaws
 pub mod ChangeLaws

@@ -1,16 +1,13 @@
 // The queue of a session in the bytes of a state: reading an entry, the oldest message of an operation, taking one out, queueing one more.
 // `slot` is where the session's slot starts. docs/STATE.md has the bytes.
 ghost use mathlib.Core.Path.{_≡_};
-ghost use mathlib.Core.List.{[], _∷_};
-ghost use Prim.Native.Nat.{_+_, _*_, _/_, _%_, _≤_, _<_};
+ghost use Prim.Native.Nat.{_+_, _*_, _≤_, _<_};
 ghost use lib.ListN.{length};
-ghost use Rattle.wire.specs.Wire.{part};
+ghost use Rattle.wire.specs.Wire.{part, withPart};
 ghost use Rattle.state.specs.Places.{slotSize, messageRoom, entrySize, entryStart};
 ghost use Rattle.state.specs.Bytes.{zeros, padded, readEntry, readQueue, readSession};
-ghost use Rattle.wire.specs.Wire.{u16Bytes};
 ghost use Rattle.state_destinations.specs.Meaning.{replyOf};
 ghost use Rattle.state_queues.specs.Queue.{messageSpan, Counted, oldestFrom, oldestIn, removed, entryHead, pushed};
-ghost use Rattle.state_queues.specs.Written.{written};
 use state_destinations::ReplyTo;
 
 // The index of the oldest message of an operation, if there is one.
@@ -105,25 +102,10 @@ pub fn oldest(state: &[u8], slot: usize, w: u16) -> OldestEntry
     oldest_from(state, slot + state::QUEUE, 0, 4, w)
 }
 
-fn put(state: &mut [u8], at: usize, x: u8)
-    requires { ⌜ at < length (now state) ⌝ }
-    ensures { λ _. ⌜ now (state .exit) ≡ written (now (state .entry)) at (x ∷ []) ⌝ }
-{
-    state[at] = x;
-}
-
-fn put_number(state: &mut [u8], at: usize, v: u16)
-    requires { ⌜ at + 2 ≤ length (now state) ⌝ }
-    ensures { λ _. ⌜ now (state .exit) ≡ written (now (state .entry)) at (u16Bytes v) ⌝ }
-{
-    put(state, at, (v % 256) as u8);
-    put(state, at + 1, (v / 256) as u8);
-}
-
 // Sets the n bytes from `at` on to 0.
 fn clear(state: &mut [u8], at: usize, n: usize)
     requires { ⌜ at + n ≤ length (now state) ⌝ }
-    ensures { λ _. ⌜ now (state .exit) ≡ written (now (state .entry)) at (zeros n) ⌝ }
+    ensures { λ _. ⌜ now (state .exit) ≡ withPart (now (state .entry)) at (zeros n) ⌝ }
 {
     let mut i: usize = 0;
     while i < n {
@@ -135,7 +117,7 @@ fn clear(state: &mut [u8], at: usize, n: usize)
 // Copies the n bytes of src from `start` on to `at`.
 fn copy(state: &mut [u8], at: usize, src: &[u8], start: usize, n: usize)
     requires { ⌜ (at + n ≤ length (now state)) × (start + n ≤ length (now src)) ⌝ }
-    ensures { λ _. ⌜ now (state .exit) ≡ written (now (state .entry)) at (part (now (src .entry)) start n) ⌝ }
+    ensures { λ _. ⌜ now (state .exit) ≡ withPart (now (state .entry)) at (part (now (src .entry)) start n) ⌝ }
 {
     let mut i: usize = 0;
     while i < n {
@@ -147,7 +129,7 @@ fn copy(state: &mut [u8], at: usize, src: &[u8], start: usize, n: usize)
 // Moves the n bytes that stand `by` bytes after `at` to `at`.
 fn move_up(state: &mut [u8], at: usize, by: usize, n: usize)
     requires { ⌜ at + by + n ≤ length (now state) ⌝ }
-    ensures { λ _. ⌜ now (state .exit) ≡ written (now (state .entry)) at (part (now (state .entry)) (at + by) n) ⌝ }
+    ensures { λ _. ⌜ now (state .exit) ≡ withPart (now (state .entry)) at (part (now (state .entry)) (at + by) n) ⌝ }
 {
     let mut i: usize = 0;
     while i < n {
@@ -171,18 +153,18 @@ pub fn remove(state: &mut [u8], slot: usize, k: usize)
 // Writes what an entry holds before its message, 8 bytes: the operation w, where the reply goes, the message's length.
 fn put_head(state: &mut [u8], at: usize, w: u16, to: ReplyTo, len: u16)
     requires { ⌜ (at + 8 ≤ length (now state)) × (w < 255) ⌝ }
-    ensures { λ _. ⌜ now (state .exit) ≡ written (now (state .entry)) at (entryHead w (replyOf to) len) ⌝ }
+    ensures { λ _. ⌜ now (state .exit) ≡ withPart (now (state .entry)) at (entryHead w (replyOf to) len) ⌝ }
 {
-    put(state, at, (w + 1) as u8);
-    put(state, at + 1, state_destinations::reply_kind(to));
-    put_number(state, at + 2, len);
+    wire::put_u8(state, at, (w + 1) as u8);
+    wire::put_u8(state, at + 1, state_destinations::reply_kind(to));
+    wire::put_u16(state, at + 2, len);
     state_destinations::write_reply(state, at + 4, to);
 }
 
 // Writes an entry's message, the `len` bytes of `message` from `start` on, and zeros.
 fn put_message(state: &mut [u8], at: usize, message: &[u8], start: usize, len: usize)
     requires { ⌜ (at + messageRoom ≤ length (now state)) × (start + len ≤ length (now message)) × (len ≤ messageRoom) ⌝ }
-    ensures { λ _. ⌜ now (state .exit) ≡ written (now (state .entry)) at (padded messageRoom (part (now (message .entry)) start len)) ⌝ }
+    ensures { λ _. ⌜ now (state .exit) ≡ withPart (now (state .entry)) at (padded messageRoom (part (now (message .entry)) start len)) ⌝ }
 {
     copy(state, at, message, start, len);
     clear(state, at + len, state::MESSAGE_ROOM - len);

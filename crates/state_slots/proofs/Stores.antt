@@ -2,14 +2,13 @@
 use mathlib.Core.Path.{_≡_, sym, ap, _∙_}
 use mathlib.Core.List.{List, [], _∷_, _++_}
 use mathlib.Core.Bool.{Bool}
-use Prim.Native.Nat.{ℕ, _+_, _-_, _/_, _%_, _≤_, _<_}
+use Prim.Native.Nat.{ℕ, _+_, _-_, _≤_, _<_}
 use native.Mathlib.Omega.{arith}
 use borrow.Author.Tests.{le-leb, lt-leb}
-use lib.ListN.{length, take, drop, set, replicate, length-take}
+use lib.ListN.{length, take, drop, set, replicate, length-take, length-set}
 use Rattle.wire.specs.Wire.{part, withPart, putU16}
 use Rattle.basics.specs.Choice.{pick}
-use Rattle.wire.specs.Wire.{littleEndian}
-use Rattle.scalar.specs.NumberLaws.{put-16}
+use Rattle.wire.specs.WireLaws.{put-8, put-16}
 use Rattle.tree_edit.specs.Wrote.{stored}
 use Rattle.state.specs.Places.{slotSize, treeRoom, lengthPlace, treePlace}
 use Rattle.state.specs.Bytes.{zeros, padded, slotBytes, treeLength}
@@ -18,10 +17,17 @@ use Rattle.state.specs.PartLaws.{length-padded}
 use Rattle.state.specs.FreshLaws.{replicate-zeros}
 use Rattle.state_slots.specs.Slots.{treeIn, begun, treeStored, freed}
 
-pub begin-sets : (s : List ℕ) (at : ℕ) {s₁ s₂ s₃ : List ℕ} → s₁ ≡ set s at 1 → s₂ ≡ set s₁ (at + lengthPlace) 5 → s₃ ≡ set s₂ (at + treePlace + 2) 6 → s₃ ≡ begun s at
+pub begin-sets : (s : List ℕ) (at : ℕ) {s₁ s₂ s₃ : List ℕ} → at + slotSize ≤ length s → s₁ ≡ withPart s at (1 ∷ [])
+    → s₂ ≡ withPart s₁ (at + lengthPlace) (5 ∷ []) → s₃ ≡ withPart s₂ (at + treePlace + 2) (6 ∷ []) → s₃ ≡ begun s at
 unfolding begun
-begin-sets s at a b c =
-    c ∙ (ap (λ (x : List ℕ). set x (at + treePlace + 2) 6) b ∙ ap (λ (x : List ℕ). set (set x (at + lengthPlace) 5) (at + treePlace + 2) 6) a)
+begin-sets s at {s₁} {s₂} h a b c =
+    let t = set s at 1 in
+    let u = set t (at + lengthPlace) 5 in
+    let l = length-set s at 1 in
+    let m = length-set t (at + lengthPlace) 5 in
+    let d : s₁ ≡ t = a ∙ sym (put-8 s at 1 (omega (arith, h))) in
+    let e : s₂ ≡ u = b ∙ (ap (λ (x : List ℕ). withPart x (at + lengthPlace) (5 ∷ [])) d ∙ sym (put-8 t (at + lengthPlace) 5 (omega (arith, h, l)))) in
+    c ∙ (ap (λ (x : List ℕ). withPart x (at + treePlace + 2) (6 ∷ [])) e ∙ sym (put-8 u (at + treePlace + 2) 6 (omega (arith, h, l, m))))
 
 pub store-padded : (s : List ℕ) (at size : ℕ) (src : List ℕ) (n : ℕ) → n ≤ size → n ≤ length src → stored s at size src n ≡ withPart s at (padded size (take n src))
 store-padded s at size src n h l =
@@ -37,11 +43,9 @@ release-zeros s at e = e ∙ (store-padded s at slotSize [] 0 (omega arith) (ome
 
 pub tree-bytes : (s src : List ℕ) (slot n : ℕ) {s₁ s₂ : List ℕ} {i : ℕ} → (slot + slotSize ≤ length s) × (n ≤ treeRoom) × (n ≤ length src) → s₁ ≡ putU16 s (slot + lengthPlace) n
     → i ≡ n → s₂ ≡ stored s₁ (slot + treePlace) treeRoom src i → s₂ ≡ treeStored s slot src n
-unfolding littleEndian treeStored
+unfolding treeStored
 tree-bytes s src slot n {s₁} {s₂} {i} h a k b =
-    let z : n / 256 % 256 ≡ n / 256 = omega (arith, h .1) in
-    let u : s₁ ≡ withPart s (slot + lengthPlace) (u16Bytes n) =
-    a ∙ (put-16 s (slot + lengthPlace) n (omega (arith, h .1)) (omega (arith, h .0)) ∙ ap (λ (y : ℕ). withPart s (slot + lengthPlace) (n % 256 ∷ y ∷ [])) z) in
+    let u : s₁ ≡ withPart s (slot + lengthPlace) (u16Bytes n) = a ∙ put-16 s (slot + lengthPlace) n (omega (arith, h .0)) in
     b ∙ (ap (λ (j : ℕ). stored s₁ (slot + treePlace) treeRoom src j) k ∙ (store-padded s₁ (slot + treePlace) treeRoom src n (h .1) (h .2)
     ∙ ap (λ (x : List ℕ). withPart x (slot + treePlace) (padded treeRoom (take n src))) u))
 

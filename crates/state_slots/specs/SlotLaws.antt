@@ -35,7 +35,8 @@ pub row-set : {s : List ℕ} {at : ℕ} {S : Session} → Living s at S → (r :
 unfolding rowStored
 row-set {s} {at} {S} h r x l =
     let e : rowStart at r ≡ at + rowStart 0 r = omega arith in
-    ap (λ (k : ℕ). withPart s k (progressBytes x)) e ∙ (sym (replace-within s at slotSize (rowStart 0 r) (progressBytes x) (h .inside) (omega (arith, l, progress-size x)))
+    ap (λ (k : ℕ). withPart s k (progressBytes x)) e
+    ∙ (sym (replace-within s at slotSize (rowStart 0 r) (progressBytes x) (h .inside) (omega (arith, l, progress-size x)))
     ∙ ap (withPart s at) (ap (λ (t : List ℕ). withPart t (rowStart 0 r) (progressBytes x)) (h .bytes) ∙ sym (change-row S (made-fits (h .made)) r x l)))
 
 -- Another tree, of the first n bytes of `tree`.
@@ -63,7 +64,8 @@ begin-set s at h e =
     let b : withPart s at l ≡ s = ap (withPart s at) (sym e) ∙ part-back s at slotSize h in
     let s1 : withPart s at (set l 0 1) ≡ set s at 1 = store-part s at l 0 1 i (omega (arith, k)) ∙ rw (add-zero at, b) in
     let k1 = length-set l 0 1 in
-    let s2 : withPart s at (set (set l 0 1) lengthPlace 5) ≡ set (set s at 1) (at + lengthPlace) 5 = store-part s at (set l 0 1) lengthPlace 5 i (omega (arith, k, k1)) ∙ rw s1 in
+    let s2 : withPart s at (set (set l 0 1) lengthPlace 5) ≡ set (set s at 1) (at + lengthPlace) 5 =
+    store-part s at (set l 0 1) lengthPlace 5 i (omega (arith, k, k1)) ∙ rw s1 in
     let k2 = length-set (set l 0 1) lengthPlace 5 in
     rw j (sym (ap (withPart s at) new-stores ∙ store-part s at (set (set l 0 1) lengthPlace 5) (treePlace + 2) 6 i (omega (arith, k, k1, k2)) ∙ rw s2))
 

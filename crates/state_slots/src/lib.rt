@@ -2,25 +2,18 @@
 // the bytes that it names and no others; SlotLaws say which session the slot holds afterwards.
 ghost use mathlib.Core.Path.{_≡_};
 ghost use Prim.Native.Nat.{_+_, _≤_, _<_};
-ghost use lib.ListN.{length, set};
+ghost use lib.ListN.{length};
 ghost use Rattle.state.specs.Places.{slotSize, treeRoom};
 ghost use Rattle.state_slots.specs.Slots.{treeIn, begun, treeStored, freed};
-
-fn put(state: &mut [u8], at: usize, x: u8)
-    requires { ⌜ at < length (now state) ⌝ }
-    ensures { λ _. ⌜ now (state .exit) ≡ set (now (state .entry)) at x ⌝ }
-{
-    state[at] = x;
-}
 
 // Makes a new session of the free slot that starts at `slot`: live, with an empty tree.
 pub fn begin(state: &mut [u8], slot: usize)
     requires { ⌜ slot + slotSize ≤ length (now state) ⌝ }
     ensures { λ _. ⌜ now (state .exit) ≡ begun (now (state .entry)) slot ⌝ }
 {
-    put(state, slot, 1);
-    put(state, slot + state::LENGTH, 5);
-    put(state, slot + state::TREE + 2, scalar::VOID);
+    wire::put_u8(state, slot, 1);
+    wire::put_u8(state, slot + state::LENGTH, 5);
+    wire::put_u8(state, slot + state::TREE + 2, scalar::VOID);
 }
 
 // Frees the slot.

@@ -127,7 +127,8 @@ decoded-root s t bs e = encodes-root sessionLevels sessionNodes s t (omega arith
 
 -- bytes are a message exactly if the test says so
 pub message-sound : (s : List ℕ) → Octets s → isMessage s ≡ true → (t : Tree Value) × Message s t
-message-sound s bs e = let w = present-is (decode messageLevelsBelow messageNodesBelow s) e in (w .0, decode-sound messageLevelsBelow messageNodesBelow s (w .0) bs (w .1))
+message-sound s bs e =
+    let w = present-is (decode messageLevelsBelow messageNodesBelow s) e in (w .0, decode-sound messageLevelsBelow messageNodesBelow s (w .0) bs (w .1))
 
 pub message-complete : (s : List ℕ) (t : Tree Value) → Message s t → isMessage s ≡ true
 message-complete s t m = ap isPresent (decode-complete messageLevelsBelow messageNodesBelow s t m)

@@ -199,7 +199,8 @@ first s at n (node x (value d v) ks rest) w e z h i b c m p q =
     first-node s at n x d v ks rest w e i b c m (u .id) (u .basic) (u .count) (u .next)
 
 -- where siblings stand there is a header
-pub no-first : {A : Type 0} (s : List ℕ) (at n : ℕ) (f : Forest Value) → Row s at f → rootCount f ≡ n → (n ≡ 0 → ⊥) → (h : Head) → h ≡ headAt s at → h ≡ Fault → A
+pub no-first : {A : Type 0} (s : List ℕ) (at n : ℕ) (f : Forest Value) → Row s at f → rootCount f ≡ n → (n ≡ 0 → ⊥) → (h : Head) → h ≡ headAt s at
+    → h ≡ Fault → A
 no-first s at n end w e z h p q = absurd (z (sym (unfold rootCount in e)))
 no-first s at n (node x (value d v) ks rest) w e z h p q = unseen s at x d v ks rest w h p q
 

@@ -15,6 +15,7 @@ use Rattle.tree.specs.Encode.{encode, rooted, rootCount}
 use Rattle.tree.specs.EncodeLaws.{part-length}
 use Rattle.tree.specs.Ids.{steps, isNone}
 use Rattle.tree.specs.IdsLaws.{none-is, steps-next}
+use Rattle.wire.specs.Wire.{withPart}
 use Rattle.tree_edit.specs.Wrote.{Wrote, paddedWith, stored}
 use Rattle.tree_edit.specs.WroteLaws.{wrote-more, wrote-as, wrote-all-of, wrote-over}
 use Rattle.tree_edit.specs.Change.{missingValue}
@@ -70,11 +71,11 @@ value-wrote {n₄ = n₄} {n₅ = n₅} s m p mid x y z u v h₄ h₅ h l =
     (wrote-more (wrote-more (wrote-more (wrote-more x y) z) u) v)
 
 -- the writes of `insert`
-pub insert-wrote : {o₀ o₁ o₂ o₃ o₄ : List ℕ} {a b c r n₁ n₂ n₃ n₄ : ℕ} {l : List ℕ} (s m : List ℕ) (p i x : ℕ) → Wrote o₀ o₁ 0 a n₁ (take p (drop 0 s)) → i < a → Wrote (set o₁ i x) o₂ a b n₂ l →
-    Wrote o₂ o₃ b c n₃ (take n₃ (drop 2 m)) → Wrote o₃ o₄ c r n₄ (take n₄ (drop p s)) → n₃ ≡ length m - 2 → n₄ ≡ length s - p →
-    Wrote o₀ o₄ 0 r r (set (take p s) i x ++ (l ++ (drop 2 m ++ drop p s)))
-insert-wrote {n₃ = n₃} {n₄ = n₄} {l = l} s m p i x w h y z u h₃ h₄ =
-    wrote-all-of (rw (rest-all m 2 n₃ h₃, rest-all s p n₄ h₄) (simp append-assoc)) (wrote-more (wrote-more (wrote-more (wrote-over w i x h) y) z) u)
+pub insert-wrote : {o₀ o₁ o₂ o₃ o₄ o₅ : List ℕ} {a b c r n₁ n₂ n₃ n₄ : ℕ} {l : List ℕ} (s m : List ℕ) (p i x : ℕ) → Wrote o₀ o₁ 0 a n₁ (take p (drop 0 s)) → i < a →
+    o₂ ≡ withPart o₁ i (x ∷ []) → Wrote o₂ o₃ a b n₂ l → Wrote o₃ o₄ b c n₃ (take n₃ (drop 2 m)) → Wrote o₄ o₅ c r n₄ (take n₄ (drop p s)) → n₃ ≡ length m - 2 →
+    n₄ ≡ length s - p → Wrote o₀ o₅ 0 r r (set (take p s) i x ++ (l ++ (drop 2 m ++ drop p s)))
+insert-wrote {n₃ = n₃} {n₄ = n₄} {l = l} s m p i x w h v y z u h₃ h₄ =
+    wrote-all-of (rw (rest-all m 2 n₃ h₃, rest-all s p n₄ h₄) (simp append-assoc)) (wrote-more (wrote-more (wrote-more (wrote-over w i x h v) y) z) u)
 
 pub missing-short : (ty : Bool) → length (bytesOf (missingValue ty)) ≤ 2
 missing-short true = omega arith

@@ -37,8 +37,8 @@ Outcome o o′ (Past r) t = PastLimits o o′ r t
 
 -- v is the outcome of replacing the subtree at the path of s by the tree of m.
 pub record PutOutcome (typed : Bool) (ids s m o o′ : List ℕ) (v : Grown) : Type 0 where
-  pub tells : (a : Value) (f : Forest Value) (t : Tree Value) → decode sessionLevels sessionNodes s ≡ present (tree a f) → decode sessionLevels sessionNodes m ≡ present t →
-      Outcome o o′ v (tree a (replaceAt (missingValue typed) (pathFromIds ids) t f))
+  pub tells : (a : Value) (f : Forest Value) (t : Tree Value) → decode sessionLevels sessionNodes s ≡ present (tree a f)
+      → decode sessionLevels sessionNodes m ≡ present t → Outcome o o′ v (tree a (replaceAt (missingValue typed) (pathFromIds ids) t f))
 
 -- v is the outcome of setting the value of the leaf m at the path of s.
 pub record SetOutcome (ids s m o o′ : List ℕ) (v : Grown) : Type 0 where

@@ -1,12 +1,13 @@
 -- Laws of writing: one write after another, a write said otherwise, every byte of the buffer.
 use mathlib.Core.Path.{_≡_, refl, ap, sym, subst₂, _∙_}
 use mathlib.Core.List.{List, [], _∷_, _++_, append-assoc, append-nil}
-use Prim.Native.Nat.{ℕ, zero, suc, _+_, _-_, _≤_, _<_}
-use native.Mathlib.Nat.{add-suc, add-zero}
-use native.Mathlib.Numerals.{add-one}
+use Prim.Native.Nat.{ℕ, _+_, _≤_, _<_}
+use native.Mathlib.Nat.{add-zero}
 use native.Mathlib.Omega.{arith}
-use lib.ListN.{length, getD, take, drop, set, length-set, length-take, length-drop, length-append, take-append-drop}
-use lib.Seq.{take-set-lt, take-suc-set, drop-set-lt, drop-drop, take-all}
+use lib.ListN.{length, take, drop, set, length-set, length-append, take-append-drop}
+use lib.Seq.{take-set-lt, drop-set-lt, drop-drop, take-at, drop-at, length-take-le}
+use Rattle.wire.specs.Wire.{withPart}
+use Rattle.wire.specs.WireLaws.{put-8}
 use Rattle.tree_edit.specs.Wrote.{Wrote}
 
 -- nothing written
@@ -34,29 +35,37 @@ wrote-as {o₀ = o₀} {o₁ = o₁} {w = w} {a = a} e f x = subst₂ (Wrote o�
 pub wrote-all-of : {o₀ o₁ : List ℕ} {r n : ℕ} {l k : List ℕ} → l ≡ k → Wrote o₀ o₁ 0 r n l → Wrote o₀ o₁ 0 r r k
 wrote-all-of {r = r} {n = n} e x = let z : n ≡ r = omega (arith, x .next) in wrote-as e z x
 
--- one byte
-pub wrote-byte : (o : List ℕ) (w x : ℕ) → w < length o → Wrote o (set o w x) w (w + 1) 1 (x ∷ [])
-wrote-byte o w x h = record {
-  next = refl;
-  size = refl;
-  fits = rw (length-set o w x) (omega arith);
-  holds = rw (add-one w) (take-suc-set o w x h);
-  keeps = drop-set-lt (w + 1) o w x (omega arith);
-}
-
 -- a byte that was written is written again
-pub wrote-over : {o₀ o₁ : List ℕ} {a n : ℕ} {l : List ℕ} → Wrote o₀ o₁ 0 a n l → (i x : ℕ) → i < a → Wrote o₀ (set o₁ i x) 0 a n (set l i x)
-wrote-over {o₁ = o₁} {a = a} {l = l} w i x h = record {
-  next = w .next;
-  size = length-set l i x ∙ w .size;
-  fits = rw (length-set o₁ i x) (w .fits);
-  holds = take-set-lt a o₁ i x h ∙ ap (λ (z : List ℕ). set z i x) (w .holds);
-  keeps = drop-set-lt a o₁ i x h ∙ w .keeps;
-}
+pub wrote-over : {o₀ o₁ o₂ : List ℕ} {a n : ℕ} {l : List ℕ} → Wrote o₀ o₁ 0 a n l → (i x : ℕ) → i < a → o₂ ≡ withPart o₁ i (x ∷ [])
+    → Wrote o₀ o₂ 0 a n (set l i x)
+wrote-over {o₀} {o₁} {o₂} {a} {n} {l} w i x h b =
+    let e : o₂ ≡ set o₁ i x = b ∙ sym (put-8 o₁ i x (omega (arith, h, w .fits))) in
+    rw e (record {
+      next = w .next;
+      size = length-set l i x ∙ w .size;
+      fits = rw (length-set o₁ i x) (w .fits);
+      holds = take-set-lt a o₁ i x h ∙ ap (λ (z : List ℕ). set z i x) (w .holds);
+      keeps = drop-set-lt a o₁ i x h ∙ w .keeps;
+    })
 
 -- every byte of the buffer afterwards
 pub wrote-all : {o o′ : List ℕ} {w r n : ℕ} {l : List ℕ} → Wrote o o′ w r n l → o′ ≡ take w o ++ (l ++ drop r o)
 wrote-all {o} {o′} {w} {r} {n} {l} x = sym (take-append-drop r o′) ∙ rw (x .holds, x .keeps) (append-assoc (take w o) l (drop r o))
+
+-- a buffer of which every byte is known
+pub wrote-of : {o o′ : List ℕ} (w n : ℕ) (l : List ℕ) → length l ≡ n → w + n ≤ length o → o′ ≡ take w o ++ (l ++ drop (w + n) o) → Wrote o o′ w (w + n) n l
+wrote-of {o} w n l f h b =
+    let front = take w o ++ l in
+    let rest = drop (w + n) o in
+    let k : length front ≡ w + n = length-append (take w o) l ∙ omega (arith, length-take-le w o (omega (arith, h)), f) in
+    let c = b ∙ sym (append-assoc (take w o) l rest) in
+    record {
+      next = refl;
+      size = f;
+      fits = omega (arith, ap length c, length-append front rest, k);
+      holds = ap (take (w + n)) c ∙ take-at front rest (w + n) k;
+      keeps = ap (drop (w + n)) c ∙ drop-at front rest (w + n) k;
+    }
 
 -- what was written from the start is a part of the buffer
 pub wrote-part : {o o′ : List ℕ} {r n : ℕ} {l : List ℕ} → Wrote o o′ 0 r n l → take r o′ ≡ l

@@ -46,7 +46,7 @@ pub fn push(out: &mut [u8], w: usize, x: u8) -> usize
     requires { ⌜ w < length (now out) ⌝ }
     ensures { λ r. ⌜ Wrote (now (out .entry)) (now (out .exit)) w r 1 (x ∷ []) ⌝ }
 {
-    out[w] = x;
+    wire::put_u8(out, w, x);
     w + 1
 }
 
@@ -55,8 +55,8 @@ pub fn push_id(out: &mut [u8], w: usize, id: u16) -> usize
     requires { ⌜ w + 2 ≤ length (now out) ⌝ }
     ensures { λ r. ⌜ Wrote (now (out .entry)) (now (out .exit)) w r 2 (id % 256 ∷ id / 256 ∷ []) ⌝ }
 {
-    let a = push(out, w, (id % 256) as u8);
-    push(out, a, (id / 256) as u8)
+    wire::put_u16(out, w, id);
+    w + 2
 }
 
 // Writes the bytes of a missing step with one child, from its basic type on.
@@ -171,7 +171,7 @@ fn insert(
         (prefix (missingValue typed) (getD ids k 0) (steps (drop (k + 1) ids)) ++ (drop 2 (now (m .entry)) ++ drop p (now (s .entry))))) ⌝ }
 {
     let a = append(out, 0, s, 0, p);
-    out[up + 3] = s[up + 3] + 1;
+    wire::put_u8(out, up + 3, s[up + 3] + 1);
     let b = push_steps(out, a, ids, k, typed);
     let c = append(out, b, m, 2, m.len() - 2);
     append(out, c, s, p, s.len() - p)

@@ -3,7 +3,8 @@ use mathlib.Core.Path.{_≡_, refl, sym, ap, subst, _∙_}
 use Prim.Native.Nat.{ℕ, suc, _≤_, _<_, _+_}
 use native.Mathlib.Omega.{arith}
 use Rattle.tree_forest.specs.Compare.{Compare, lt, eq, gt, compare}
-use Rattle.tree_forest.specs.Forest.{Forest, end, node, Tree, tree, Lookup, absent, present, findBy, find, nodeOf, setBy, set, Above, Rising, RisingTree, RisingLookup, measure, mapForest, mapTree, mapLookup}
+use Rattle.tree_forest.specs.Forest.{Forest, end, node, Tree, tree, Lookup, absent, present, findBy, find, nodeOf, setBy}
+use Rattle.tree_forest.specs.Forest.{set, Above, Rising, RisingTree, RisingLookup, measure, mapForest, mapTree, mapLookup}
 
 module _ {A : Type 0} where
   pub find-eq : {i j : ℕ} (c : Compare i j) → i ≡ j → (n : Tree A) (l : Lookup A) → findBy c n l ≡ present n

@@ -150,5 +150,6 @@ abbrev pub twice : List ℕ
 twice = 0 ∷ 0 ∷ 6 ∷ 2 ∷ 0 ∷ 1 ∷ 0 ∷ 0 ∷ 1 ∷ 1 ∷ 1 ∷ 5 ∷ 0 ∷ 6 ∷ 0 ∷ 0 ∷ 2 ∷ 0 ∷ 6 ∷ 1 ∷ 0 ∷ 5 ∷ 0 ∷ 6 ∷ 0 ∷ 0 ∷ []
 
 pub span-twice : (spanOf twice (1 ∷ 5 ∷ 0 ∷ 0 ∷ []) ≡ record { start = 11; len = 5 }) × (spanOf twice (2 ∷ 5 ∷ 0 ∷ 0 ∷ []) ≡ record { start = 21; len = 5 })
-unfolding spanOf partOf isPath endsInZeros allZeros pathFromIds steps decode headOk parse parseSiblings unsignedOf isValue earlier offset encode rootCount find readSteps lastOf u16At
+unfolding spanOf partOf isPath endsInZeros allZeros pathFromIds steps decode headOk parse parseSiblings unsignedOf
+    isValue earlier offset encode rootCount find readSteps lastOf u16At
 span-twice = (refl, refl)

@@ -1,15 +1,16 @@
 -- Laws of numbers in bytes, so that callers need not look at bytes: what is stored is read back (`same-16` ..), what lies apart is
--- kept (`other-16` ..), a store keeps the length, and a lent part agrees with the whole.
+-- kept (`other-16` ..), a store keeps the length, a lent part agrees with the whole, and a store puts bytes in the place of others (`put-16` ..).
 use Prim.Native.Nat.{ℕ, _+_, _-_, _/_, _%_, _≤_, _<_}
 use native.Mathlib.Omega.{arith}
 use native.Mathlib.Nat.{add-zero}
+use native.Mathlib.Numerals.{add-one}
 use mathlib.Core.Logic.{_⊎_, inl, inr, ⊎-elim}
 use mathlib.Core.Path.{_≡_, refl, sym, _∙_, ap}
-use mathlib.Core.List.{List, _++_}
+use mathlib.Core.List.{List, [], _∷_, _++_, append-assoc}
 use lib.ListN.{set, length, take, drop, length-set, length-append, length-take, length-drop, take-append-drop, List·getD-eq-default, List·getD-append}
 use lib.Seq.{getD-set-same, getD-set-other, getD-take, getD-drop, getD-append-add}
-use lib.Seq.{drop-set-add, drop-set-lt, take-set-le, take-set-lt, drop-drop, length-take-le}
-use Rattle.wire.specs.Wire.{byteAt, u16At, u32At, u64At, putU16, putU32, putU64, part, withPart}
+use lib.Seq.{drop-set-add, drop-set-lt, take-set-le, take-set-lt, drop-drop, length-take-le, take-at, drop-at, set-split}
+use Rattle.wire.specs.Wire.{byteAt, u16At, u32At, u64At, putU16, putU32, putU64, part, withPart, u16Bytes, u32Bytes}
 
 -- The n bytes at k and the m bytes at `at` have none in common.
 abbrev pub SpansApart : ℕ → ℕ → ℕ → ℕ → Type 0
@@ -212,6 +213,63 @@ module _ (s : List ℕ) (at : ℕ) (new : List ℕ) (fits : at + length new ≤ 
         let e : at + (length new + (k + q - (at + length new))) ≡ k + q = omega arith in
         rw e at (after (k + q - (at + length new)));
   }
+
+-- ---- bytes in the place of others
+
+-- Some, and the next right after them.
+pub parts-join : (s : List ℕ) (at : ℕ) (x y : List ℕ) (n : ℕ) → at ≤ length s → length x ≡ n → withPart (withPart s at x) (at + n) y ≡ withPart s at (x ++ y)
+parts-join s at x y n h e =
+    let front = take at s ++ x in
+    let rest = drop (at + length x) s in
+    let tail = drop (at + length (x ++ y)) s in
+    let l : length front ≡ at + n = length-append (take at s) x ∙ omega (arith, length-take-le at s h, e) in
+    let j : at + length x + length y ≡ at + length (x ++ y) = omega (arith, length-append x y) in
+    let d : drop (at + n + length y) (front ++ rest) ≡ tail =
+    sym (drop-drop (length y) (at + n) (front ++ rest)) ∙ (ap (drop (length y)) (drop-at front rest (at + n) l)
+    ∙ (drop-drop (length y) (at + length x) s ∙ ap (λ (i : ℕ). drop i s) j)) in
+    ap (λ (z : List ℕ). withPart z (at + n) y) (sym (append-assoc (take at s) x rest))
+    ∙ (ap (λ (z : List ℕ). z ++ (y ++ drop (at + n + length y) (front ++ rest))) (take-at front rest (at + n) l)
+    ∙ (ap (λ (z : List ℕ). front ++ (y ++ z)) d
+    ∙ (append-assoc (take at s) x (y ++ tail) ∙ ap (λ (z : List ℕ). take at s ++ z) (sym (append-assoc x y tail)))))
+
+-- The same of a store s₁ and the next store s₂, at a.
+pub parts-next : (s : List ℕ) (at : ℕ) {s₁ s₂ : List ℕ} (x y : List ℕ) (n a : ℕ) → at ≤ length s → length x ≡ n → a ≡ at + n → s₁ ≡ withPart s at x
+    → s₂ ≡ withPart s₁ a y → s₂ ≡ withPart s at (x ++ y)
+parts-next s at x y n a h e i p q =
+    q ∙ (ap (λ (z : List ℕ). withPart z a y) p ∙ (ap (λ (j : ℕ). withPart (withPart s at x) j y) i ∙ parts-join s at x y n h e))
+
+-- ---- a store puts a number's bytes in the place of others
+
+pub put-8 : (s : List ℕ) (at v : ℕ) → at + 1 ≤ length s → set s at v ≡ withPart s at (v ∷ [])
+put-8 s at v h = set-split s at v (omega arith) ∙ ap (λ (i : ℕ). take at s ++ (v ∷ drop i s)) (sym (add-one at))
+
+pub put-16 : (s : List ℕ) (at v : ℕ) → at + 2 ≤ length s → putU16 s at v ≡ withPart s at (u16Bytes v)
+unfolding putU16
+put-16 s at v h =
+    let low = set s at (v % 256) in
+    let l = length-set s at (v % 256) in
+    parts-next s at (v % 256 ∷ []) (v / 256 ∷ []) 1 (at + 1) (omega arith) refl refl
+    (put-8 s at (v % 256) (omega arith)) (put-8 low (at + 1) (v / 256) (omega (arith, l)))
+
+pub put-32 : (s : List ℕ) (at v : ℕ) → at + 4 ≤ length s → putU32 s at v ≡ withPart s at (u32Bytes v)
+unfolding putU32
+put-32 s at v h =
+    let low = putU16 s at (v % 0x10000) in
+    let l = length-16 s at (v % 0x10000) in
+    let a : v % 0x10000 % 256 ≡ v % 256 = omega arith in
+    let d : v / 256 / 256 ≡ v / 0x10000 = omega arith in
+    let b : v % 0x10000 / 256 ≡ v / 256 % 256 = omega (arith, d) in
+    let c : v / 0x10000 / 256 ≡ v / 16777216 = omega arith in
+    rw (← a, ← b, ← c) (parts-next s at (u16Bytes (v % 0x10000)) (u16Bytes (v / 0x10000)) 2 (at + 2) (omega arith) refl refl
+    (put-16 s at (v % 0x10000) (omega arith)) (put-16 low (at + 2) (v / 0x10000) (omega (arith, l))))
+
+pub put-64 : (s : List ℕ) (at v : ℕ) → at + 8 ≤ length s → putU64 s at v ≡ withPart s at (u32Bytes (v % 0x100000000) ++ u32Bytes (v / 0x100000000))
+unfolding putU64
+put-64 s at v h =
+    let low = putU32 s at (v % 0x100000000) in
+    let l = length-32 s at (v % 0x100000000) in
+    parts-next s at (u32Bytes (v % 0x100000000)) (u32Bytes (v / 0x100000000)) 4 (at + 4) (omega arith) refl refl
+    (put-32 s at (v % 0x100000000) (omega arith)) (put-32 low (at + 4) (v / 0x100000000) (omega (arith, l)))
 
 -- ---- stores in a lent part are stores in the whole, the part's start further on
 

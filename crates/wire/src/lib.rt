@@ -1,8 +1,9 @@
 // Little-endian numbers in a slice of bytes. Readers are total: a byte past the end counts as 0.
 ghost use mathlib.Core.Path.{_≡_};
+ghost use mathlib.Core.List.{[], _∷_};
 ghost use Prim.Native.Nat.{_+_, _≤_, _<_};
 ghost use lib.ListN.{length};
-ghost use Rattle.wire.specs.Wire.{byteAt, u16At, u32At, u64At, putU16, putU32, putU64};
+ghost use Rattle.wire.specs.Wire.{byteAt, u16At, u32At, u64At, putU16, putU32, putU64, withPart};
 
 pub fn wide(x: u8) -> usize
     ensures { λ r. ⌜ (r ≡ x) × (r < 256) ⌝ }
@@ -76,6 +77,13 @@ pub fn u64_at(s: &[u8], at: usize) -> u64
         return low;
     }
     low + 0x100000000 * u32_to_u64(u32_at(s, at + 4))
+}
+
+pub fn put_u8(s: &mut [u8], at: usize, x: u8)
+    requires { ⌜ at + 1 ≤ length (now s) ⌝ }
+    ensures { λ _. ⌜ now (s .exit) ≡ withPart (now (s .entry)) at (x ∷ []) ⌝ }
+{
+    s[at] = x;
 }
 
 pub fn put_u16(s: &mut [u8], at: usize, v: u16)

@@ -73,19 +73,23 @@ look-up-add-look-up t c = search needs
 
 look-up-look-up-requires-2 : (t : ℕ) → look-up-lts.Need-look-up-requires-2 (type-head-reads.Asked, type-head-reads.Learnt, extent-reads.Asked, extent-reads.Learnt, look-up-below t, look-up.Post, is-last-reads.Asked, is-last-reads.Learnt) (look-up-at t) look-up.Post
 look-up-look-up-requires-2 t c κs =
-    let l : length (c .before .before .before .before .before .before .before .before .before .before .before .args .t2) ≡ 4 = search needs in
-    let p = steps-next (c .before .before .before .before .before .before .before .before .before .before .before .args .t2) (c .before .before .before .before .before .before .before .before .before .before .before .args .k) l (sym (c .before .before .is-last .ensures) ∙ c .before .if4 .left) in
+    let d = c .before .before in
+    let start = d .before .before .before .before .before .before .before .before .before in
+    let l : length (start .args .t2) ≡ 4 = start .good .1 .0 .1 .0 .1 in
+    let p = steps-next (start .args .t2) (start .args .k) l (sym (d .is-last .ensures) ∙ c .before .if4 .left) in
     (omega (arith, p .0), p .0)
 
 look-up-returns-6 : (t : ℕ) → look-up-lts.Need-returns-6 (type-head-reads.Asked, type-head-reads.Learnt, extent-reads.Asked, extent-reads.Learnt, look-up-below t, look-up.Post, is-last-reads.Asked, is-last-reads.Learnt) (look-up-at t) look-up.Post
 look-up-returns-6 t c =
-    let l : length (c .before .before .before .before .before .before .before .before .before .before .before .before .args .t2) ≡ 4 = search needs in
-    search (look-deep (c .before .before .before .before .before .before .before .before .before .before .before .before .args .s .now) (c .before .before .before .before .before .before .before .before .before .before .before .before .args .t2)) depth 12
+    let d = c .before .before .before in
+    let start = d .before .before .before .before .before .before .before .before .before in
+    search (look-deep (start .args .s .now) (start .args .t2) (start .good .1 .0 .1 .0 .1)) depth 12
 
 look-up-returns-7 : (t : ℕ) → look-up-lts.Need-returns-7 (type-head-reads.Asked, type-head-reads.Learnt, extent-reads.Asked, extent-reads.Learnt, look-up-below t, look-up.Post, is-last-reads.Asked, is-last-reads.Learnt) (look-up-at t) look-up.Post
 look-up-returns-7 t c =
-    let l : length (c .before .before .before .before .before .before .before .before .before .before .before .args .t2) ≡ 4 = search needs in
-    search (look-loose (c .before .before .before .before .before .before .before .before .before .before .before .args .s .now) (c .before .before .before .before .before .before .before .before .before .before .before .args .t2)) depth 12
+    let d = c .before .before in
+    let start = d .before .before .before .before .before .before .before .before .before in
+    search (look-loose (start .args .s .now) (start .args .t2) (start .good .1 .0 .1 .0 .1)) depth 12
 
 pub +look-up-spec : {M : Type 1} → statement M
 +look-up-spec = close μ-look-up λ t. look-up-lts.spec (type-head-reads.Asked, type-head-reads.Learnt, extent-reads.Asked, extent-reads.Learnt, look-up-below t, look-up.Post, is-last-reads.Asked, is-last-reads.Learnt)

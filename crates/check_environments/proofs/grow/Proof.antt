@@ -58,19 +58,25 @@ returns-4 c = search grow-laws depth 12
 
 array-share-prefix-b-2 : tie.Need-array-share-prefix-b-2
 array-share-prefix-b-2 c =
-    let l : length (c .before .before .before .before .before .before .before .before .before .before .args .e .bytes) ≡ 512 = search needs in
+    let d = c .before .before .before .before .before in
+    let e = d .before .before .before .before .before .args .e in
+    let l : length (e .bytes) ≡ 512 = search needs in
     omega (arith, l)
 
 slice-aggregate-put-type : tie.Need-slice-aggregate-put-type
 slice-aggregate-put-type c =
-    let l : length (c .before .before .before .before .before .before .before .before .before .before .before .args .e .bytes) ≡ 512 = search needs in
-    part-len (c .before .before .before .before .before .before .before .before .before .before .before .args .e .bytes) (c .before .before .before .before .before .before .before .before .before .before .before .args .e .len) 512 (omega arith) l
+    let d = c .before .before .before .before .before .before in
+    let e = d .before .before .before .before .before .args .e in
+    let l : length (e .bytes) ≡ 512 = search needs in
+    part-len (e .bytes) (e .len) 512 (omega arith) l
 
 put-type-requires : tie.Need-put-type-requires
 put-type-requires c κs =
-    let l : length (c .before .before .before .before .before .before .before .before .before .before .before .args .e .bytes) ≡ 512 = search needs in
-    let q = part-len (c .before .before .before .before .before .before .before .before .before .before .before .args .e .bytes) (c .before .before .before .before .before .before .before .before .before .before .before .args .e .len) 512 (omega arith) l in
-    (sym (c .before .before .before .before .is-tree .ensures) ∙ not-false _ (c .before .before .before .if3 .left), sym (c .before .before .is-tree2 .ensures) ∙ not-false _ (c .before .if4 .left), omega (arith, q), omega arith)
+    let d = c .before .before .before .before in
+    let e = d .before .before .before .before .before .before .before .args .e in
+    let l : length (e .bytes) ≡ 512 = search needs in
+    let q = part-len (e .bytes) (e .len) 512 (omega arith) l in
+    (sym (d .is-tree .ensures) ∙ not-false _ (c .before .before .before .if3 .left), sym (c .before .before .is-tree2 .ensures) ∙ not-false _ (c .before .if4 .left), omega (arith, q), omega arith)
 
 returns-5 : tie.Need-returns-5
 returns-5 c = search grow-laws depth 12

@@ -93,8 +93,10 @@ rows-under-returns-9 t c = search under-laws depth 12
 
 rows-under-rows-under-requires-3 : (t : ℕ) → rows-under-lts.Need-rows-under-requires-3 (type-head-reads.Asked, type-head-reads.Learnt, extent-reads.Asked, extent-reads.Learnt, rows-under-below t, rows-under.Post, line-at-reads.Asked, line-at-reads.Learnt, accept-reads.Asked, accept-reads.Learnt) (rows-under-at t) rows-under.Post
 rows-under-rows-under-requires-3 t c κs =
-    let a = ahead _ _ _ _ _ _ _ _ _ (c .before .before .before .before .before .before .before .line-at .ensures) (c .before .before .before .before .before .j .given .1) in
-    (omega (arith, a .inside, a .later, c .before .before .before .before .before .before .before .before .before .before .before .before .before .before .before .before .before .pre), tt)
+    let d = c .before .before .before .before .before .before .before in
+    let a = ahead _ _ _ _ _ _ _ _ _ (d .line-at .ensures) (c .before .before .before .before .before .j .given .1) in
+    let s = d .before .before .before .before .before .before .before .before .before .before in
+    (omega (arith, a .inside, a .later, s .pre), tt)
 
 rows-under-returns-10 : (t : ℕ) → rows-under-lts.Need-returns-10 (type-head-reads.Asked, type-head-reads.Learnt, extent-reads.Asked, extent-reads.Learnt, rows-under-below t, rows-under.Post, line-at-reads.Asked, line-at-reads.Learnt, accept-reads.Asked, accept-reads.Learnt) (rows-under-at t) rows-under.Post
 rows-under-returns-10 t c = search under-laws depth 12
@@ -107,8 +109,10 @@ rows-under-sub-rows-under-4 t c = search needs
 
 rows-under-rows-under-requires-4 : (t : ℕ) → rows-under-lts.Need-rows-under-requires-4 (type-head-reads.Asked, type-head-reads.Learnt, extent-reads.Asked, extent-reads.Learnt, rows-under-below t, rows-under.Post, line-at-reads.Asked, line-at-reads.Learnt, accept-reads.Asked, accept-reads.Learnt) (rows-under-at t) rows-under.Post
 rows-under-rows-under-requires-4 t c κs =
-    let a = ahead _ _ _ _ _ _ _ _ _ (c .before .before .before .before .before .before .before .before .before .line-at .ensures) (c .before .before .before .before .before .before .before .j .given .1) in
-    (omega (arith, a .inside, a .after, c .before .before .before .before .before .before .before .before .before .before .before .before .before .before .before .before .before .before .before .pre), tt)
+    let d = c .before .before .before .before .before .before .before .before .before in
+    let a = ahead _ _ _ _ _ _ _ _ _ (d .line-at .ensures) (c .before .before .before .before .before .before .before .j .given .1) in
+    let s = d .before .before .before .before .before .before .before .before .before .before in
+    (omega (arith, a .inside, a .after, s .pre), tt)
 
 rows-under-returns-11 : (t : ℕ) → rows-under-lts.Need-returns-11 (type-head-reads.Asked, type-head-reads.Learnt, extent-reads.Asked, extent-reads.Learnt, rows-under-below t, rows-under.Post, line-at-reads.Asked, line-at-reads.Learnt, accept-reads.Asked, accept-reads.Learnt) (rows-under-at t) rows-under.Post
 rows-under-returns-11 t c = search under-laws depth 12

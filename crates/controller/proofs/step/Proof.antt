@@ -28,7 +28,7 @@ returns c =
     let call = c .before .before .before .before in
     let s = call .before .before .before .before .before .before .before .before .before in
     let a = s .args in
-    step-sound (a .file .now) (a .state .now) (a .out .now) (a .m) (a .outside .now) (call .before .before .before .before .numbered .ensures)
+    step-sound (a .file .now) (a .state .now) (a .out .now) (a .asked) (a .outside .now) (call .before .before .before .before .numbered .ensures)
     (call .before .before .before .octets .ensures) (call .step .ensures)
 
 pub step-spec : {M : Type 1} → statement M

@@ -12,7 +12,7 @@ enum-known-y c = search needs
 push-requires : tie.Need-push-requires
 push-requires c κs =
     let d1 = c .before .before in
-    let d2 = d1 .before .before .before .before .before .before in
+    let d2 = d1 .before .before .before .before .before in
     let d = d2 in
     let r = room (d .args .i) (d .args .message .now) (d .pre .1) (d1 .y .given .1) in
     (omega (arith, d .pre .0, r .0), r .1, omega arith, r .2)
@@ -26,7 +26,7 @@ received-by-requires c κs = search needs
 store-start-requires : tie.Need-store-start-requires
 store-start-requires c κs =
     let d1 = c .before .before .before in
-    let d2 = d1 .before .before .before .before .before .before in
+    let d2 = d1 .before .before .before .before .before in
     let d = d2 in
     let r = room (d .args .i) (d .args .message .now) (d .pre .1) (d1 .y2 .given .1) in
     (omega (arith, d .pre .0, r .0), r .3, omega (arith, d .pre .2, r .3), r .1, r .2)

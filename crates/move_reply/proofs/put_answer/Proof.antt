@@ -1,6 +1,5 @@
 use mathlib.Core.Path.{refl}
 use Rattle.move_reply.proofs.MessageLaws.{answer-put}
-use Rattle.move_reply.proofs.MessageLaws.{answer-laws}
 use borrow.Author.Needs.{needs}
 use Rattle.move_reply.proofs.put_answer.Statement.{statement}
 use Rattle.move_reply.proofs.put_answer.Tie as tie
@@ -9,24 +8,8 @@ returns : tie.Need-returns
 returns c =
     let d1 = c .before .before in
     let d2 = d1 .before .before .before .before in
-    let d3 = d2 .before .before .before .before in
-    let d4 = d3 .before .before .before .before in
-    let d5 = d4 .before .before .before .before in
-    let start = d5 .before .before .before .before in
-    answer-put (start .args .number) (start .args .m .now) (d5 .push .ensures) (d4 .push2 .ensures) (d3 .push3 .ensures) (d2 .push4 .ensures) refl (d1 .append .ensures)
+    let start = d2 .before .before .before .before in
+    answer-put (start .args .number) (start .args .m .now) (start .pre) (d2 .put-u32 .ensures) refl (d1 .append .ensures)
 
 pub put-answer-spec : {M : Type 1} → statement M
-put-answer-spec =
-    tie.close
-    (tie.spec
-    (λ c. search needs)
-    (λ c κs. search needs)
-    (λ c. search needs)
-    (λ c κs. search needs)
-    (λ c. search needs)
-    (λ c κs. search needs)
-    (λ c. search needs)
-    (λ c κs. search needs)
-    (λ c κs. search needs)
-    (λ c. search needs)
-    returns)
+put-answer-spec = tie.close (tie.spec (λ c κs. search needs) (λ c κs. search needs) (λ c. search needs) returns)

@@ -31,7 +31,7 @@ returns-6 c =
     let p3 = p2 .before .before .before .before .before .before .before .before in
     let a = p3 .before .before .before .before .args in
     outside-done (a .file .now) (a .state .now) (a .slot) (a .i) (a .o) (a .e) (a .to) (meaning (a .after)) (a .out .now) (p2 .before .before .before .before .before .before .before .if2 .left)
-    (p2 .before .before .before .before .write-message .ensures) (p2 .before .n .given .1) _ refl (p1 .before .before .before .before .before .before .request-type .ensures) (p1 .before .before .before .before .before .passes .ensures) (p1 .before .before .before .enum-told .given .1)
+    (p2 .before .before .before .before .write-message .ensures) (p2 .before .n .given .1) _ refl (p1 .before .before .before .before .before .before .before .request-type .ensures) (p1 .before .before .before .before .before .passes .ensures) (p1 .before .before .before .enum-told .given .1)
     (prefix-length (p2 .before .before .before .before .write-message .last .0) (p2 .before .n .given .0 .0) (message-inside (p2 .before .before .before .before .write-message .ensures) (p2 .before .n .given .1))) (p3 .before .before .before .before .pre .1) (p1 .put-row .ensures) (d1 .append .ensures) (c .done .ensures)
 
 pub send-outside-spec : {M : Type 1} → statement M
@@ -48,9 +48,9 @@ send-outside-spec =
     (λ c κs. search needs)
     (λ c. search needs)
     (λ c. search (outside-laws, message-laws, needs) depth 12)
-    (λ c. search (message-laws, needs) depth 12)
-    (λ c. search (message-laws, needs) depth 12)
     (λ c κs. search needs)
+    (λ c. search (message-laws, needs) depth 12)
+    (λ c. search (message-laws, needs) depth 12)
     (λ c κs. search needs)
     (λ c. search needs)
     (λ c. search needs)

@@ -19,11 +19,11 @@ enum-known-k c = search needs
 flag-requires : tie.Need-flag-requires
 flag-requires c κs = search needs
 
-slice-write-out : tie.Need-slice-write-out
-slice-write-out c =
-    let d1 = c .before .before in
-    let d2 = d1 .before .before .before in
-    let a = d2 in let r = room (a .args .out .now) (a .args .at) 1 (bool-written (a .args .x) (d1 .k .given .1)) refl (a .pre) in omega arith
+put-u8-requires : tie.Need-put-u8-requires
+put-u8-requires c κs =
+    let d1 = c .before .before .before in
+    let a = d1 .before .before .before in
+    room (a .args .out .now) (a .args .at) 1 (bool-written (a .args .x) (d1 .k .given .1)) refl (a .pre)
 
 enum-known-k-2 : tie.Need-enum-known-k-2
 enum-known-k-2 c = search needs
@@ -76,8 +76,9 @@ same-length c = search needs
 returns : tie.Need-returns
 returns c =
     let d1 = c .before .before in
-    let d2 = d1 .before .before .before in
-    let a = d2 in wrote-byte (a .args .out .now) _ (a .args .at) (bytesOf (valueOf (a .args .x))) (bool-written (a .args .x) (d1 .k .given .1)) (a .pre) (c .flag .ensures) refl
+    let d2 = d1 .before .before .before .before in
+    let a = d2 .before .before .before in
+    wrote-byte (a .args .out .now) _ (a .args .at) (bytesOf (valueOf (a .args .x))) (bool-written (a .args .x) (d2 .k .given .1)) (d1 .before .flag .ensures) (d1 .put-u8 .ensures)
 
 same-length-2 : tie.Need-same-length-2
 same-length-2 c = search needs
@@ -143,7 +144,7 @@ write-spec =
     (tie.spec
     enum-known-k
     flag-requires
-    slice-write-out
+    put-u8-requires
     enum-known-k-2
     int-bits-requires
     put-u32-requires

@@ -4,37 +4,33 @@ use Rattle.state_destinations.proofs.write.Statement.{statement}
 use Rattle.state_destinations.proofs.write.Tie as tie
 use Rattle.state_destinations.proofs.write.Reads as reads
 use Rattle.state_destinations.proofs.write.Lts as lts
-use Rattle.state_destinations.proofs.put_four.Reads as put-four-reads
+use Rattle.wire.proofs.put_u8.Reads as put-u8-reads
+use Rattle.wire.proofs.put_u16.Reads as put-u16-reads
+use Rattle.wire.proofs.put_u32.Reads as put-u32-reads
 
 enum-known-d : tie.Need-enum-known-d
 enum-known-d c = search needs
 
-cast-a : tie.Need-cast-a
-cast-a c = search needs
-
-cast-b : tie.Need-cast-b
-cast-b c = search needs
-
-cast-c : tie.Need-cast-c
-cast-c c = search needs
-
-cast-d : tie.Need-cast-d
-cast-d c = search needs
-
-put-four-requires : tie.Need-put-four-requires
-put-four-requires c κs = search needs
+put-u32-requires : tie.Need-put-u32-requires
+put-u32-requires c κs = search needs
 
 enum-known-d-2 : tie.Need-enum-known-d-2
 enum-known-d-2 c = search needs
 
-cast-put-four : tie.Need-cast-put-four
-cast-put-four c = search needs
+put-u8-requires : tie.Need-put-u8-requires
+put-u8-requires c κs = search needs
 
-cast-put-four-2 : tie.Need-cast-put-four-2
-cast-put-four-2 c = search needs
+add-put-u8 : tie.Need-add-put-u8
+add-put-u8 c = search needs
 
-put-four-requires-2 : tie.Need-put-four-requires-2
-put-four-requires-2 c κs = search needs
+put-u8-requires-2 : tie.Need-put-u8-requires-2
+put-u8-requires-2 c κs = search needs
+
+add-put-u16 : tie.Need-add-put-u16
+add-put-u16 c = search needs
+
+put-u16-requires : tie.Need-put-u16-requires
+put-u16-requires c κs = search needs
 
 same-length : tie.Need-same-length
 same-length c = search needs
@@ -53,15 +49,13 @@ write-spec =
     tie.close
     (tie.spec
     enum-known-d
-    cast-a
-    cast-b
-    cast-c
-    cast-d
-    put-four-requires
+    put-u32-requires
     enum-known-d-2
-    cast-put-four
-    cast-put-four-2
-    put-four-requires-2
+    put-u8-requires
+    add-put-u8
+    put-u8-requires-2
+    add-put-u16
+    put-u16-requires
     same-length
     returns
     same-length-2

@@ -4,14 +4,14 @@ use Rattle.state_destinations.proofs.write_reply.Statement.{statement}
 use Rattle.state_destinations.proofs.write_reply.Tie as tie
 use Rattle.state_destinations.proofs.write_reply.Reads as reads
 use Rattle.state_destinations.proofs.write_reply.Lts as lts
-use Rattle.state_destinations.proofs.put_four.Reads as put-four-reads
+use Rattle.wire.proofs.put_u32.Reads as put-u32-reads
 use Rattle.state_destinations.proofs.write.Reads as write-reads
 
 enum-told : tie.Need-enum-told
 enum-told c = search needs
 
-put-four-requires : tie.Need-put-four-requires
-put-four-requires c κs = search needs
+put-u32-requires : tie.Need-put-u32-requires
+put-u32-requires c κs = search needs
 
 enum-known-to : tie.Need-enum-known-to
 enum-known-to c = search needs
@@ -36,7 +36,7 @@ write-reply-spec =
     tie.close
     (tie.spec
     enum-told
-    put-four-requires
+    put-u32-requires
     enum-known-to
     write-requires
     same-length

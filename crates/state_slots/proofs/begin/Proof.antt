@@ -4,25 +4,25 @@ use Rattle.state_slots.proofs.begin.Statement.{statement}
 use Rattle.state_slots.proofs.begin.Tie as tie
 use Rattle.state_slots.proofs.begin.Reads as reads
 use Rattle.state_slots.proofs.begin.Lts as lts
-use Rattle.state_slots.proofs.put.Reads as put-reads
+use Rattle.wire.proofs.put_u8.Reads as put-u8-reads
 
-put-requires : tie.Need-put-requires
-put-requires c κs = search needs
+put-u8-requires : tie.Need-put-u8-requires
+put-u8-requires c κs = search needs
 
-add-put : tie.Need-add-put
-add-put c = search needs
+add-put-u8 : tie.Need-add-put-u8
+add-put-u8 c = search needs
 
-put-requires-2 : tie.Need-put-requires-2
-put-requires-2 c κs = search needs
+put-u8-requires-2 : tie.Need-put-u8-requires-2
+put-u8-requires-2 c κs = search needs
 
-add-put-2 : tie.Need-add-put-2
-add-put-2 c = search needs
+add-put-u8-2 : tie.Need-add-put-u8-2
+add-put-u8-2 c = search needs
 
-add-put-3 : tie.Need-add-put-3
-add-put-3 c = search needs
+add-put-u8-3 : tie.Need-add-put-u8-3
+add-put-u8-3 c = search needs
 
-put-requires-3 : tie.Need-put-requires-3
-put-requires-3 c κs = search needs
+put-u8-requires-3 : tie.Need-put-u8-requires-3
+put-u8-requires-3 c κs = search needs
 
 same-length : tie.Need-same-length
 same-length c = search needs
@@ -34,11 +34,11 @@ pub begin-spec : {M : Type 1} → statement M
 begin-spec =
     tie.close
     (tie.spec
-    put-requires
-    add-put
-    put-requires-2
-    add-put-2
-    add-put-3
-    put-requires-3
+    put-u8-requires
+    add-put-u8
+    put-u8-requires-2
+    add-put-u8-2
+    add-put-u8-3
+    put-u8-requires-3
     same-length
     returns)
