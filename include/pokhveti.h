@@ -1,12 +1,12 @@
-/* The checker of network files, the stepper and the message reader of Pokhveti, for C on x86-64.
+/* The checker of network files, the stepper, the message reader and the reader of type declarations of Pokhveti, for C on x86-64.
  *
  * Link with libhost.a (README, "From C"). The library needs memcpy, memmove and memset, and neither a heap nor data of its own. The
  * functions keep no state, so they may be called from several threads at once. They are total: any bytes of any length are answered. No
  * pointer may be NULL, even where the length beside it is 0, and each is good for that length; a buffer that is lent for writing, and each
  * pointer to a single result, shares no byte with the bytes that are read or with another such buffer.
  *
- * Stack: check, environments and fresh stay within 2 MiB, each move within 128 KiB, part within 4 KiB, on the deepest networks that 256 rows
- * allow and on every other input that was tried. That is measured (bin/compare stack), not proved: the proofs speak of a machine without a
+ * Stack: check, environments and fresh stay within 2 MiB, types within 1 MiB, each move within 128 KiB, part within 4 KiB, on the deepest
+ * networks that 256 rows allow, the deepest texts that 8,192 bytes allow and on every other input that was tried. That is measured (bin/compare stack), not proved: the proofs speak of a machine without a
  * stack. A thread needs as much beside what it takes itself. */
 #ifndef POKHVETI_H
 #define POKHVETI_H
@@ -92,6 +92,18 @@ uint32_t pokhveti_outer_reply(const uint8_t *file, size_t length, uint8_t *state
  * on waiting. */
 uint32_t pokhveti_close(const uint8_t *file, size_t length, uint8_t *state, size_t state_size, uint8_t *out, size_t out_size,
                         uint16_t service, uint16_t session, size_t *bytes, size_t *place);
+
+/* A text of type declarations has at most so many bytes, and its rows go to a buffer of at least so many. */
+#define POKHVETI_TEXT 8192
+#define POKHVETI_ROWS 2048
+
+/* Reads type declarations as text, as `type Lift : void { .load : double .clipped? : bool }`, and writes their rows of section T, 8 bytes each,
+ * to the start of `rows` (docs/NETWORKS.md, "Types in a file of their own"). Gives 0, *bytes being how many bytes were written; the bytes past
+ * them stay. Otherwise it gives the number of the refusal, with its place in *place, and the buffer is left as it was: 2 for a text that is too
+ * long; 20 for a byte that stands nowhere in such texts and 21 for a broken declaration, a name declared twice or an unknown name, with the
+ * place of the first offending byte (the text's length where it ends too soon); 1 for too small a buffer; 3 for more than 256 rows; 5 for a
+ * type of more than 16 nodes or 4 levels, with the place that its row would have. */
+uint32_t pokhveti_types(const uint8_t *text, size_t length, uint8_t *rows, size_t rows_size, size_t *bytes, size_t *place);
 
 #ifdef __cplusplus
 }

@@ -1,5 +1,5 @@
-// The controller, as a host calls it: the checker of network files, fresh state, the moves and the message reader. Nothing is asked of the
-// caller. specs/Promises.antt has all that is promised of them.
+// The controller, as a host calls it: the checker of network files, fresh state, the moves, the message reader and the reader of type
+// declarations. Nothing is asked of the caller. specs/Promises.antt has all that is promised of them.
 ghost use mathlib.Core.Path.{_≡_};
 ghost use Rattle.refusal.specs.Refusal.{outcomeNumber};
 ghost use Rattle.tree_part.specs.Part.{partOf};
@@ -12,6 +12,7 @@ ghost use Rattle.move_rules.specs.Step as stepper;
 ghost use Rattle.move_step.specs.Moves.{moveOf};
 ghost use Rattle.soundness.specs.Property3.{NumberFits};
 ghost use Rattle.soundness.specs.Calls.{SoundCall};
+ghost use Rattle.type_writing.specs.Answer.{writeTypes};
 ghost use Rattle.controller.specs.Parts.{PartAt};
 pub use check_listing::Listing;
 pub use check_network::Answer;
@@ -88,4 +89,12 @@ pub fn part(message: &[u8], ids: [u16; 4]) -> &[u8]
     let start = span.start;
     let end = start + span.len;
     &message[start..end]
+}
+
+// Reads a text of type declarations and writes its T rows.
+pub fn write_types(text: &[u8], out: &mut [u8]) -> Outcome
+    ensures { λ r. ⌜ r ≡ writeTypes (now (text .entry)) (now (out .entry)) .outcome ⌝ }
+    ensures { λ _. ⌜ now (out .exit) ≡ writeTypes (now (text .entry)) (now (out .entry)) .out ⌝ }
+{
+    type_writing::write_types(text, out)
 }

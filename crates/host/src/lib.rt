@@ -1,4 +1,4 @@
-// The checker, fresh state, the moves and the message reader for C: numbers and slices only. A slice is passed as a pointer and a length;
+// The checker, fresh state, the moves, the message reader and the reader of type declarations for C: numbers and slices only. A slice is passed as a pointer and a length;
 // include/pokhveti.h has the declarations.
 ghost use mathlib.Core.Path.{_≡_};
 ghost use mathlib.Core.List.{[], _∷_};
@@ -9,7 +9,8 @@ ghost use Rattle.check_typing.specs.Result.{refusalNumber, refusalPlace};
 ghost use Rattle.move_rules.specs.Fresh.{fresh};
 ghost use Rattle.move_rules.specs.Moves as definition;
 ghost use Rattle.move_rules.specs.Moves.{local, receive, send, reply, outerReply, close};
-ghost use Rattle.host.specs.Reports.{Says, RunsCall};
+ghost use Rattle.type_writing.specs.Answer.{writeTypes};
+ghost use Rattle.host.specs.Reports.{Says, RunsCall, TellsText};
 use controller::Move;
 use controller::Outcome;
 
@@ -208,4 +209,17 @@ pub extern "C" fn pokhveti_close(
 {
     let m = Move::Close(service, session);
     report(controller::step(file, state, out, m, &[]), bytes, place)
+}
+
+// Reads a text of type declarations and writes its T rows: 0, or the number of the refusal.
+#[no_mangle]
+pub extern "C" fn pokhveti_types(
+    text: &[u8],
+    rows: &mut [u8],
+    bytes: &mut usize,
+    place: &mut usize,
+) -> u32
+    ensures { λ n. ⌜ TellsText (writeTypes (now (text .entry)) (now (rows .entry))) n (now (bytes .exit)) (now (place .exit)) (now (rows .exit)) ⌝ }
+{
+    report(controller::write_types(text, rows), bytes, place)
 }

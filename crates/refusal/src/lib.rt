@@ -1,8 +1,8 @@
-// What a check or a move answers: how many bytes it wrote out, and that it is done or why it is refused.
+// What a check, a move or the reading of a text answers: how many bytes it wrote out, and that it is done or why it is refused.
 ghost use mathlib.Core.Path.{_≡_};
 ghost use Rattle.refusal.specs.Refusal.{numberOf, placeOf, outcomeNumber, outcomePlace, doneWith, refusedBy};
 
-// The kinds of refusal in 01's order. A place in the file is a byte's, a row is counted from 0 in its section.
+// The kinds of refusal in the papers' order. A place in a file or text is a byte's, a row is counted from 0 in its section.
 pub enum Refusal {
     BufferSize,
     FileLayout,
@@ -23,6 +23,8 @@ pub enum Refusal {
     NoMessage,
     Stuck,
     MessageMisfit,
+    UnknownByte(usize),
+    BrokenText(usize),
 }
 
 pub enum Verdict {
@@ -76,6 +78,8 @@ pub fn number_of(why: Refusal) -> u8
         Refusal::NoMessage => 17,
         Refusal::Stuck => 18,
         Refusal::MessageMisfit => 19,
+        Refusal::UnknownByte(_) => 20,
+        Refusal::BrokenText(_) => 21,
     }
 }
 
@@ -108,6 +112,8 @@ pub fn place_of(why: Refusal) -> usize
         Refusal::NoMessage => 0,
         Refusal::Stuck => 0,
         Refusal::MessageMisfit => 0,
+        Refusal::UnknownByte(at) => at,
+        Refusal::BrokenText(at) => at,
     }
 }
 

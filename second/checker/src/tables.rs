@@ -124,6 +124,14 @@ pub struct TypeRow {
     pub child_count: u16,
 }
 
+impl TypeRow {
+    pub fn bytes(&self) -> [u8; 8] {
+        let ([a, b], [c, d], [e, f]) =
+            (self.id.to_le_bytes(), self.first_child.to_le_bytes(), self.child_count.to_le_bytes());
+        [a, b, self.cardinality, self.basic, c, d, e, f]
+    }
+}
+
 #[derive(Clone, Copy, PartialEq, Eq, Debug, Default)]
 pub struct ExpressionRow {
     pub kind: u8,
@@ -240,9 +248,7 @@ impl Tables {
             put(&mut file, path);
         }
         for row in &self.types {
-            put(&mut file, &[row.id]);
-            file.extend([row.cardinality, row.basic]);
-            put(&mut file, &[row.first_child, row.child_count]);
+            file.extend(row.bytes());
         }
         for row in &self.expressions {
             file.extend([row.kind, row.basic]);

@@ -7,6 +7,7 @@ use std::process::ExitCode;
 use std::time::{Duration, Instant};
 
 use compare::{cases, with_large_stack, Second, Side};
+use generate::declarations::limits;
 use generate::walks::Call;
 use generate::{hostile, maximal};
 
@@ -69,6 +70,23 @@ fn checks(sides: &[Box<dyn Side>], hall: &[u8], largest: &[u8]) {
     line("part, largest message", sides, |side| {
         black_box(side.part(black_box(&message), black_box(ids)));
     });
+}
+
+/// Texts of 8,192 bytes, or of as many names as these have room for.
+fn texts(sides: &[Box<dyn Side>]) {
+    let out = RefCell::new([0; 2048]);
+    let texts: [(&str, Vec<u8>, u32); 4] = [
+        ("types, largest right text", limits::largest(), 0),
+        ("types, most type names", limits::most_type_names(), 3),
+        ("types, most child names", limits::most_child_names(), 3),
+        ("types, deepest text", limits::deep(1_168, 0), 21),
+    ];
+    for (name, text, number) in texts {
+        line(name, sides, |side| {
+            let answer = side.types(black_box(&text), &mut out.borrow_mut()[..]);
+            assert_eq!(answer.number, number, "{name}");
+        });
+    }
 }
 
 /// A time holds a copy of the state before each call, which the first line tells.
@@ -135,6 +153,7 @@ fn run(hostile: bool) -> Result<(), String> {
         return Ok(());
     }
     checks(&sides, hall, &largest);
+    texts(&sides);
     moves(&sides, "hall", hall);
     moves(&sides, "largest", &largest);
     Ok(())

@@ -168,6 +168,10 @@ mod tests {
             answer.bytes += usize::from(answer.number == 0);
             answer
         }
+
+        fn types(&self, text: &[u8], out: &mut [u8]) -> StepAnswer {
+            Second.types(text, out)
+        }
     }
 
     #[test]

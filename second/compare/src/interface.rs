@@ -25,6 +25,8 @@ pub struct Interface {
     pub environments: unsafe extern "C" fn(*const u8, usize, *mut u8, usize, *mut usize) -> u32,
     pub part: unsafe extern "C" fn(*const u8, usize, u16, u16, u16, u16, *mut usize) -> usize,
     pub moves: Moves,
+    /// Text, out buffer; bytes, place.
+    pub types: unsafe extern "C" fn(*const u8, usize, *mut u8, usize, *mut usize, *mut usize) -> u32,
     pub stacks: Stacks,
 }
 
@@ -92,6 +94,15 @@ impl Side for Interface {
     fn step(&self, file: &[u8], state: &mut [u8], out: &mut [u8], named: &Move, outside: &[u8]) -> StepAnswer {
         let given = Given { read: file, state: &raw const *state, named: Some(named) };
         run(&self.stacks.moves, given, || self.moves.step(file, state, out, named, outside))
+    }
+
+    fn types(&self, text: &[u8], out: &mut [u8]) -> StepAnswer {
+        let (mut bytes, mut place) = (usize::MAX, usize::MAX);
+        // SAFETY: the text is readable and the buffer writable for their lengths, bytes and place are writable.
+        let number = run(&self.stacks.types, text, || unsafe {
+            (self.types)(text.as_ptr(), text.len(), out.as_mut_ptr(), out.len(), &mut bytes, &mut place)
+        });
+        StepAnswer { number, place, bytes }
     }
 }
 

@@ -213,9 +213,26 @@ unsafe extern "C" fn close(
     unsafe { make(given, &[], Move::Close { service, session }) }
 }
 
+unsafe extern "C" fn types(
+    text: *const u8,
+    length: usize,
+    out: *mut u8,
+    out_size: usize,
+    bytes: *mut usize,
+    place: *mut usize,
+) -> u32 {
+    let text = unsafe { slice::from_raw_parts(text, length) };
+    let answer = Second.types(text, unsafe { slice::from_raw_parts_mut(out, out_size) });
+    unsafe {
+        *bytes = answer.bytes;
+        *place = answer.place;
+    }
+    answer.number
+}
+
 const MOVES: Moves = Moves { fresh, local, receive, send, reply, outer_message, outer_reply, close };
 
 /// On the caller's stack: the library is no part of what is stated.
 pub fn itself() -> Interface {
-    Interface { name: "itself", check, environments, part, moves: MOVES, stacks: Stacks::default() }
+    Interface { name: "itself", check, environments, part, moves: MOVES, types, stacks: Stacks::default() }
 }

@@ -1,4 +1,4 @@
-//! Answers of the checker, the reader and the stepper, from either side, in one form.
+//! Answers of the checker, the readers and the stepper, from either side, in one form.
 
 pub mod cases;
 pub mod interface;
@@ -7,6 +7,7 @@ pub mod moves;
 #[cfg(feature = "proved")]
 pub mod proved;
 pub mod stack;
+pub mod texts;
 pub mod walks;
 
 use std::fmt;
@@ -89,6 +90,7 @@ pub trait Side {
     fn part(&self, message: &[u8], ids: [u16; 4]) -> Range<usize>;
     fn fresh(&self, file: &[u8], state: &mut [u8]) -> StepAnswer;
     fn step(&self, file: &[u8], state: &mut [u8], out: &mut [u8], named: &Move, outside: &[u8]) -> StepAnswer;
+    fn types(&self, text: &[u8], out: &mut [u8]) -> StepAnswer;
 }
 
 /// The library, called directly.
@@ -123,6 +125,13 @@ impl Side for Second {
 
     fn step(&self, file: &[u8], state: &mut [u8], out: &mut [u8], named: &Move, outside: &[u8]) -> StepAnswer {
         answer(stepper::step(file, state, out, named, outside).map(|made| made.bytes))
+    }
+
+    fn types(&self, text: &[u8], out: &mut [u8]) -> StepAnswer {
+        match types::write_types(text, out) {
+            Ok(bytes) => StepAnswer { number: 0, place: 0, bytes },
+            Err(refusal) => StepAnswer { number: refusal.number.into(), place: refusal.place, bytes: 0 },
+        }
     }
 }
 
@@ -204,6 +213,10 @@ mod tests {
 
         fn step(&self, file: &[u8], state: &mut [u8], out: &mut [u8], named: &Move, outside: &[u8]) -> StepAnswer {
             Second.step(file, state, out, named, outside)
+        }
+
+        fn types(&self, text: &[u8], out: &mut [u8]) -> StepAnswer {
+            Second.types(text, out)
         }
     }
 

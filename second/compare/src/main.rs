@@ -1,13 +1,14 @@
-//! `compare [--seed N] [--files N] [--messages N] [--walks N] [--file FILE]...`
+//! `compare [--seed N] [--files N] [--messages N] [--walks N] [--texts N] [--file FILE]...`
 //!
-//! Generates files, messages and walks and compares the library's answers with those of the proved code
-//! (feature `proved`), or with the library's own behind the same interface. Exits with 1 at the
-//! first difference, with 2 if the run missed something that it should have hit.
+//! Generates files, messages, walks and texts of type declarations and compares the library's answers with
+//! those of the proved code (feature `proved`), or with the library's own behind the same interface. Exits
+//! with 1 at the first difference, with 2 if the run missed something that it should have hit.
 
 use std::process::ExitCode;
 use std::time::Instant;
 
-use compare::{differing_check, differing_part, other, walks, with_large_stack, Second, Side};
+use compare::{differing_check, differing_part, other, texts, walks, with_large_stack, Second, Side};
+use generate::declarations::DeclarationHits;
 use generate::walks::WalkHits;
 use generate::{file, messages, Hits, Random};
 
@@ -19,11 +20,13 @@ struct Options {
     files: usize,
     messages: usize,
     walks: usize,
+    texts: usize,
     named: Vec<String>,
 }
 
 fn options() -> Result<Options, String> {
-    let mut options = Options { seed: 1, files: 50_000, messages: 200_000, walks: 4_000, named: Vec::new() };
+    let mut options =
+        Options { seed: 1, files: 50_000, messages: 200_000, walks: 4_000, texts: 50_000, named: Vec::new() };
     let mut arguments = std::env::args().skip(1);
     while let Some(name) = arguments.next() {
         let value = arguments.next().ok_or(format!("{name} needs a value"))?;
@@ -33,8 +36,9 @@ fn options() -> Result<Options, String> {
             "--files" => options.files = number()? as usize,
             "--messages" => options.messages = number()? as usize,
             "--walks" => options.walks = number()? as usize,
+            "--texts" => options.texts = number()? as usize,
             "--file" => options.named.push(value),
-            _ => return Err(format!("{name} is not known; --seed, --files, --messages, --walks or --file")),
+            _ => return Err(format!("{name} is not known; --seed, --files, --messages, --walks, --texts or --file")),
         }
     }
     Ok(options)
@@ -65,18 +69,14 @@ fn run(options: &Options) -> Result<ExitCode, String> {
         }
     }
     let start = Instant::now();
-    let mut missed = match files_and_messages(options, &other) {
-        Ok(missed) => missed,
-        Err(difference) => {
-            println!("{difference}");
-            return Ok(ExitCode::from(DIFFERENCE));
-        }
-    };
-    match all_walks(options, &other) {
-        Ok(names) => missed.extend(names),
-        Err(difference) => {
-            println!("{difference}");
-            return Ok(ExitCode::from(DIFFERENCE));
+    let mut missed = Vec::new();
+    for part in [files_and_messages, all_walks, all_texts] {
+        match part(options, &other) {
+            Ok(names) => missed.extend(names),
+            Err(difference) => {
+                println!("{difference}");
+                return Ok(ExitCode::from(DIFFERENCE));
+            }
         }
     }
     println!("{:.1} seconds", start.elapsed().as_secs_f64());
@@ -133,5 +133,17 @@ fn all_walks(options: &Options, other: &dyn Side) -> Result<Vec<String>, String>
     }
     print!("{hits}");
     println!("{} walks of {moves} moves agree and keep property 3", options.walks);
+    Ok(hits.below(LEAST).into_iter().map(String::from).collect())
+}
+
+/// The same for texts of type declarations.
+fn all_texts(options: &Options, other: &dyn Side) -> Result<Vec<String>, String> {
+    if options.texts == 0 {
+        return Ok(Vec::new());
+    }
+    let mut hits = DeclarationHits::default();
+    let tried = texts::texts(options.seed, options.texts, &mut hits, other)?;
+    print!("{hits}");
+    println!("{tried} texts agree");
     Ok(hits.below(LEAST).into_iter().map(String::from).collect())
 }

@@ -8,8 +8,9 @@ use std::process::ExitCode;
 
 use compare::interface::{Interface, ROOM};
 use compare::proved::proved;
-use compare::stack::{Stack, Stacks, CHECK, MOVE, PART};
+use compare::stack::{Stack, Stacks, CHECK, MOVE, PART, TYPES};
 use compare::Side;
+use generate::declarations::{fixed, limits, Limit};
 use generate::hostile::place::At;
 use generate::hostile::{self, nest_place};
 use generate::nests::{self, Leaf, Level, Nest};
@@ -22,9 +23,11 @@ const MOVE_ROOM: usize = 1 << 20;
 
 /// Mixed nests, by seed.
 const MIXED: u64 = 200;
+/// Texts at each limit, by seed.
+const TEXTS: u64 = 20;
 
 /// The functions and the most bytes that each may use.
-const FUNCTIONS: [(&str, usize); 11] = [
+const FUNCTIONS: [(&str, usize); 12] = [
     ("check", CHECK),
     ("environments", CHECK),
     ("fresh", CHECK),
@@ -36,6 +39,7 @@ const FUNCTIONS: [(&str, usize); 11] = [
     ("outer message", MOVE),
     ("outer reply", MOVE),
     ("close", MOVE),
+    ("types", TYPES),
 ];
 
 /// The proved code on painted stacks, and the most that was touched.
@@ -52,7 +56,8 @@ impl Measure {
             stack.paint();
             Some(stack)
         };
-        let stacks = Stacks { check: painted(CHECK_ROOM), moves: painted(MOVE_ROOM), part: painted(MOVE_ROOM) };
+        let [check, moves, part, types] = [CHECK_ROOM, MOVE_ROOM, MOVE_ROOM, CHECK_ROOM].map(painted);
+        let stacks = Stacks { check, moves, part, types };
         Measure { interface: proved(stacks), most: BTreeMap::new() }
     }
 
@@ -63,6 +68,7 @@ impl Measure {
         let stack = match function {
             "check" | "environments" | "fresh" => &mut stacks.check,
             "part" => &mut stacks.part,
+            "types" => &mut stacks.types,
             _ => &mut stacks.moves,
         };
         let touched = stack.as_mut().map_or(0, Stack::touched);
@@ -139,6 +145,28 @@ impl Measure {
         }
     }
 
+    fn text(&mut self, kind: &'static str, name: &str, text: &[u8]) {
+        let mut out = [0; 2048];
+        self.note("types", kind, name, |interface| {
+            interface.types(text, &mut out);
+        });
+    }
+
+    fn texts(&mut self) {
+        for (opened, closed) in [(1_168, 0), (1_022, 1_022), (255, 255)] {
+            let name = format!("{opened} lists in one another, {closed} closed");
+            self.text("deep texts", &name, &limits::deep(opened, closed));
+        }
+        for limit in Limit::ALL {
+            for seed in 0..TEXTS {
+                self.text("limits", &format!("{limit:?}, seed {seed}"), &limit.text(&mut Random::new(seed)));
+            }
+        }
+        for (number, sample) in fixed().enumerate() {
+            self.text("fixed texts", &format!("number {number}"), &sample.text);
+        }
+    }
+
     /// The worst of a function over all kinds of input.
     fn worst(&self, function: &str) -> Option<&(usize, String)> {
         let of_function = self.most.iter().filter(|((of, _), _)| *of == function);
@@ -152,6 +180,7 @@ fn main() -> ExitCode {
     measure.mixed();
     measure.hostile();
     measure.parts();
+    measure.texts();
     if std::env::args().any(|argument| argument == "--kinds") {
         for ((function, kind), (bytes, name)) in &measure.most {
             println!("{function:14}{bytes:10}  {kind}: {name}");

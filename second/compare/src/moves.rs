@@ -2,7 +2,7 @@
 
 use stepper::Move;
 
-/// What a call of fresh or of a move gives back.
+/// What a call that writes gives back: fresh, a move, or types.
 #[derive(Clone, Copy, PartialEq, Eq, Debug)]
 pub struct StepAnswer {
     /// 0 for done.

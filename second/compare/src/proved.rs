@@ -113,6 +113,14 @@ extern "C" {
         bytes: *mut usize,
         place: *mut usize,
     ) -> u32;
+    fn pokhveti_types(
+        text: *const u8,
+        length: usize,
+        out: *mut u8,
+        out_size: usize,
+        bytes: *mut usize,
+        place: *mut usize,
+    ) -> u32;
 }
 
 const MOVES: Moves = Moves {
@@ -133,6 +141,7 @@ pub fn proved(stacks: Stacks) -> Interface {
         environments: pokhveti_environments,
         part: pokhveti_part,
         moves: MOVES,
+        types: pokhveti_types,
         stacks,
     }
 }

@@ -18,6 +18,9 @@ pub const MOVE: usize = 128 << 10;
 /// The most that part may use.
 pub const PART: usize = 4 << 10;
 
+/// The most that types may use.
+pub const TYPES: usize = 1 << 20;
+
 /// Room for the frames from which the proved code is called.
 const WRAPPER: usize = 512;
 
@@ -125,20 +128,22 @@ pub struct Stacks {
     pub check: Option<Stack>,
     pub moves: Option<Stack>,
     pub part: Option<Stack>,
+    pub types: Option<Stack>,
 }
 
 impl Stacks {
     /// Just what each function may use.
     pub fn stated() -> Stacks {
         report_overflow();
-        Stacks { check: Some(Stack::new(CHECK)), moves: Some(Stack::new(MOVE)), part: Some(Stack::new(PART)) }
+        let [check, moves, part, types] = [CHECK, MOVE, PART, TYPES].map(|most| Some(Stack::new(most)));
+        Stacks { check, moves, part, types }
     }
 }
 
 /// What a call is given, to be reported if it passes its stack.
 #[derive(Clone, Copy)]
 pub struct Given<'a> {
-    /// The file or message.
+    /// The file, message or text.
     pub read: &'a [u8],
     pub state: *const [u8],
     pub named: Option<&'a Move>,
@@ -211,7 +216,7 @@ extern "C" fn passed(_: i32) {
 
 fn tell(out: &mut impl fmt::Write) -> fmt::Result {
     out.write_str("a call passes the end of its stack")?;
-    for (note, name) in BYTES.iter().zip(["file or message", "state"]) {
+    for (note, name) in BYTES.iter().zip(["file, message or text", "state"]) {
         write!(out, "\n{name} ")?;
         for at in 0..note.1.load(Ordering::Relaxed) {
             // SAFETY: the call is not over, so what it was given is still there.
@@ -260,7 +265,7 @@ mod tests {
             let mut text = String::new();
             tell(&mut text).map(|()| text)
         });
-        let expected = "file or message a501\nstate 0707\nmove Some(Close { service: 1, session: 2 })\n";
+        let expected = "file, message or text a501\nstate 0707\nmove Some(Close { service: 1, session: 2 })\n";
         assert!(told.is_ok_and(|text| text.ends_with(expected)));
     }
 

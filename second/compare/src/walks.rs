@@ -195,6 +195,10 @@ mod tests {
             out.copy_from_slice(&left.out);
             left.answer
         }
+
+        fn types(&self, text: &[u8], out: &mut [u8]) -> StepAnswer {
+            Second.types(text, out)
+        }
     }
 
     fn call() -> Call {

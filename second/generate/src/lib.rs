@@ -1,7 +1,8 @@
-//! Seeded networks, messages and walks: right ones that use every kind of row and move, and damaged
-//! ones that reach every refusal.
+//! Seeded networks, messages, walks and texts of type declarations: right ones that use every kind of row,
+//! move and mark, and damaged ones that reach every refusal.
 
 pub mod damage;
+pub mod declarations;
 pub mod hits;
 pub mod hostile;
 pub mod maximal;

@@ -8,9 +8,11 @@ use std::collections::{HashMap, VecDeque};
 
 use second::tables::{BehaviourRow, ExpressionRow, OperationRow, Section, ServiceRow, Tables, TypeRow, NONE};
 use second::{Basic, Network, Refusal};
+use types::Types;
 
+use crate::declared::ReadFile;
 use crate::parse::parse;
-use crate::source::{line_and_column, Error, Spot};
+use crate::source::{line_and_column, Error, Refused, Spot};
 use crate::syntax::*;
 
 /// A network file and where in the text its rows come from.
@@ -44,10 +46,15 @@ fn origin(file: &[u8], origins: &Origins, refusal: &Refusal) -> Option<Spot> {
     origins.get(section as usize)?.get(row).copied()
 }
 
-/// Makes the network file of a text. A file that is made passes refusals 2 to 5.
+/// Makes the network file of a text that names no other file.
 pub fn assemble(text: &str) -> Result<Assembled, Error> {
+    assemble_with(text, &mut |_| Err("this text can name no file".into()))
+}
+
+/// Makes the network file of a text and of the file that it names. A file that is made passes refusals 2 to 5.
+pub fn assemble_with(text: &str, read: &mut ReadFile) -> Result<Assembled, Error> {
     let mut assembler = Assembler { text, ..Assembler::default() };
-    for item in parse(text)? {
+    for item in parse(text, read)? {
         assembler.item(item)?;
     }
     let (tables, origins) = assembler.finish()?;
@@ -57,7 +64,7 @@ pub fn assemble(text: &str) -> Result<Assembled, Error> {
         Err(refusal) => {
             let spot = origin(&file, &origins, &refusal).unwrap_or(0);
             let error = Error::at(text, spot, format!("{refusal}: {}", refusal.cause.sentence()));
-            Err(Error { refusal: Some(refusal), ..error })
+            Err(Error { refusal: Some(Refused::Rows(refusal)), ..error })
         }
     }
 }
@@ -154,6 +161,7 @@ impl Assembler<'_> {
                 let row = self.types(spot, &tree)?;
                 self.name_type(spot, name, row)?;
             }
+            Item::Types { spot, types } => self.types_of_file(spot, types)?,
             Item::Node { spot, name, id, optional, basic, first_child, child_count } => {
                 let row = self.new_row(Section::Types, spot)?;
                 let cardinality = u8::from(!optional);
@@ -174,6 +182,18 @@ impl Assembler<'_> {
                 self.tables.data = bytes;
             }
             Item::Service { spot, location, parts } => self.service(spot, location, parts)?,
+        }
+        Ok(())
+    }
+
+    /// The rows and names of a file of type declarations, which come first.
+    fn types_of_file(&mut self, spot: Spot, types: Types) -> Result<(), Error> {
+        for row in types.rows {
+            self.new_row(Section::Types, spot)?;
+            self.tables.types.push(row);
+        }
+        for declared in types.declarations {
+            self.name_type(spot, declared.name, declared.row as u16)?;
         }
         Ok(())
     }

@@ -18,35 +18,39 @@ pub struct Input {
 
 /// Reads at most one byte more than the longest input, which tells that it is too long.
 pub fn read(name: &OsStr, longest: usize) -> Result<Input, String> {
-    let shown = shown(name, "standard input");
-    let read = || -> io::Result<Input> {
-        let file = match name == "-" {
-            true => File::from(io::stdin().as_fd().try_clone_to_owned()?),
-            false => File::open(name)?,
-        };
+    if name == "-" {
+        let open = || Ok(File::from(io::stdin().as_fd().try_clone_to_owned()?));
+        return read_opened(open, "standard input".into(), longest);
+    }
+    read_file(Path::new(name), longest)
+}
+
+/// The same of a file, whatever its name is.
+pub fn read_file(path: &Path, longest: usize) -> Result<Input, String> {
+    read_opened(|| File::open(path), path.to_string_lossy().into_owned(), longest)
+}
+
+fn read_opened(open: impl Fn() -> io::Result<File>, name: String, longest: usize) -> Result<Input, String> {
+    let read = || -> io::Result<(Vec<u8>, Option<(u64, u64)>)> {
+        let file = open()?;
         let mut bytes = Vec::new();
         (&file).take(longest as u64 + 1).read_to_end(&mut bytes)?;
-        Ok(Input { name: shown.clone(), bytes, identity: identity(&file)? })
+        Ok((bytes, identity(&file)?))
     };
-    read().map_err(|error| format!("{shown}: {error}"))
-}
-
-/// Writes bytes made of an input, a regular file whole or not at all, and never over the input.
-pub fn write(name: &OsStr, bytes: &[u8], input: &Input) -> Result<(), String> {
-    let shown = shown(name, "standard output");
-    let written = match name == "-" {
-        true => standard_output().and_then(|file| write_open(&file, bytes, input)),
-        false => write_named(Path::new(name), bytes, input),
-    };
-    written.map_err(|error| format!("{shown}: {error}"))
-}
-
-fn shown(name: &OsStr, standard: &str) -> String {
-    if name == "-" {
-        standard.to_string()
-    } else {
-        name.to_string_lossy().into_owned()
+    match read() {
+        Ok((bytes, identity)) => Ok(Input { name, bytes, identity }),
+        Err(error) => Err(format!("{name}: {error}")),
     }
+}
+
+/// Writes bytes made of inputs, a regular file whole or not at all, and never over an input.
+pub fn write(name: &OsStr, bytes: &[u8], inputs: &[&Input]) -> Result<(), String> {
+    if name == "-" {
+        let written = standard_output().and_then(|file| write_open(&file, bytes, inputs));
+        return written.map_err(|error| format!("standard output: {error}"));
+    }
+    let written = write_named(Path::new(name), bytes, inputs);
+    written.map_err(|error| format!("{}: {error}", name.to_string_lossy()))
 }
 
 fn standard_output() -> io::Result<File> {
@@ -58,27 +62,26 @@ fn identity(file: &File) -> io::Result<Option<(u64, u64)>> {
     Ok(metadata.is_file().then(|| (metadata.dev(), metadata.ino())))
 }
 
-fn other_than(input: &Input, file: &File) -> io::Result<()> {
-    let same = input.identity.is_some() && input.identity == identity(file)?;
-    if same {
-        Err(io::Error::other(format!("this is the input, {}; nothing is written", input.name)))
-    } else {
-        Ok(())
+fn other_than(inputs: &[&Input], file: &File) -> io::Result<()> {
+    let identity = identity(file)?;
+    match inputs.iter().find(|input| input.identity.is_some() && input.identity == identity) {
+        Some(input) => Err(io::Error::other(format!("this is the input, {}; nothing is written", input.name))),
+        None => Ok(()),
     }
 }
 
-fn write_open(mut file: &File, bytes: &[u8], input: &Input) -> io::Result<()> {
-    other_than(input, file)?;
+fn write_open(mut file: &File, bytes: &[u8], inputs: &[&Input]) -> io::Result<()> {
+    other_than(inputs, file)?;
     file.write_all(bytes)
 }
 
-fn write_named(path: &Path, bytes: &[u8], input: &Input) -> io::Result<()> {
+fn write_named(path: &Path, bytes: &[u8], inputs: &[&Input]) -> io::Result<()> {
     match OpenOptions::new().write(true).open(path) {
         Ok(file) if file.metadata()?.is_file() => {
-            other_than(input, &file)?;
+            other_than(inputs, &file)?;
             replace(&fs::canonicalize(path)?, bytes, Some(file.metadata()?.permissions()))
         }
-        Ok(file) => write_open(&file, bytes, input),
+        Ok(file) => write_open(&file, bytes, inputs),
         Err(error) if error.kind() == ErrorKind::NotFound && fs::symlink_metadata(path).is_err() => {
             replace(path, bytes, None)
         }

@@ -2,13 +2,15 @@
 //! exactly that file, `rows` a list of the rows that moves name. docs/NETWORKS.md teaches the text.
 
 pub mod assemble;
+pub mod declared;
 pub mod disassemble;
 pub mod parse;
 pub mod rows;
 pub mod source;
 pub mod syntax;
 
-pub use assemble::{assemble, Assembled};
+pub use assemble::{assemble, assemble_with, Assembled};
+pub use declared::{NamedFile, ReadFile};
 pub use disassemble::disassemble;
 pub use rows::rows;
-pub use source::{decode, Error};
+pub use source::{decode, Error, Refused};

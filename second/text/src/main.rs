@@ -4,10 +4,12 @@ mod files;
 
 use std::ffi::{OsStr, OsString};
 use std::io::Write;
+use std::os::unix::ffi::OsStrExt;
+use std::path::Path;
 use std::process::ExitCode;
 
 use files::Input;
-use net::{assemble, decode, disassemble, rows, Error};
+use net::{assemble_with, decode, disassemble, rows, Assembled, Error, NamedFile};
 use second::tables::LONGEST;
 use second::Refusal;
 
@@ -72,7 +74,7 @@ fn run(mut arguments: impl Iterator<Item = OsString>) -> Result<u8, Failure> {
 
 /// Prints what is made of no input.
 fn tell(text: &str) -> Result<u8, Failure> {
-    files::write(OsStr::new("-"), text.as_bytes(), &Input::default())?;
+    files::write(OsStr::new("-"), text.as_bytes(), &[])?;
     Ok(ACCEPTED)
 }
 
@@ -86,13 +88,28 @@ fn read_text(name: &OsStr) -> Result<Input, Failure> {
 
 fn in_text(input: &Input, error: Error) -> Failure {
     let status = if error.refusal.is_some() { REFUSED } else { WRONG };
-    Failure(status, format!("{}: {error}", input.name))
+    Failure(status, format!("{}: {error}", error.file.as_ref().unwrap_or(&input.name)))
+}
+
+/// Assembles a text; a file that it names stands beside it, or is found from the working folder if the text
+/// comes from standard input. Also the file that was read.
+fn assembled(name: &OsStr, text: &str) -> (Result<Assembled, Error>, Input) {
+    let folder = if name == "-" { None } else { Path::new(name).parent() };
+    let mut named = Input::default();
+    let made = assemble_with(text, &mut |file| {
+        let path = folder.unwrap_or(Path::new("")).join(OsStr::from_bytes(file));
+        named = files::read_file(&path, types::LONGEST)?;
+        Ok(NamedFile { name: named.name.clone(), bytes: named.bytes.clone() })
+    });
+    (made, named)
 }
 
 fn run_assemble(name: &OsStr, file: &OsStr) -> Result<u8, Failure> {
     let input = read_text(name)?;
-    let made = decode(&input.bytes).and_then(assemble).map_err(|error| in_text(&input, error))?;
-    files::write(file, &made.file, &input)?;
+    let text = decode(&input.bytes).map_err(|error| in_text(&input, error))?;
+    let (made, named) = assembled(name, text);
+    let made = made.map_err(|error| in_text(&input, error))?;
+    files::write(file, &made.file, &[&input, &named])?;
     Ok(ACCEPTED)
 }
 
@@ -100,26 +117,32 @@ fn print_of(name: &OsStr, make: fn(&[u8]) -> Result<String, Refusal>) -> Result<
     let input = files::read(name, LONGEST)?;
     let text = make(&input.bytes)
         .map_err(|refusal| Failure(REFUSED, format!("{}: {refusal}: {}", input.name, refusal.cause.sentence())))?;
-    files::write(OsStr::new("-"), text.as_bytes(), &input)?;
+    files::write(OsStr::new("-"), text.as_bytes(), &[&input])?;
     Ok(ACCEPTED)
 }
 
 fn run_check(name: &OsStr) -> Result<u8, Failure> {
     let input = read_text(name)?;
     let text = decode(&input.bytes).map_err(|error| in_text(&input, error))?;
-    let (verdict, place) = match assemble(text) {
+    let (made, named) = assembled(name, text);
+    let (report, refused) = match made {
         Ok(made) => {
             let verdict = second::check(&made.file);
-            let place = verdict.as_ref().err().and_then(|refusal| made.origin(text, refusal));
-            (verdict, place)
+            let place = verdict.as_ref().err().and_then(|refusal| Some((refusal, made.origin(text, refusal)?)));
+            let told = place.map(|(refusal, (line, column))| told(&input.name, line, column, refusal.cause.sentence()));
+            (second::report(&verdict) + &told.unwrap_or_default(), verdict.is_err())
         }
-        Err(Error { refusal: Some(refusal), line, column, .. }) => (Err(refusal), Some((line, column))),
+        Err(Error { refusal: Some(refusal), file, line, column, .. }) => {
+            let told = told(file.as_ref().unwrap_or(&input.name), line, column, refusal.sentence());
+            (format!("{refusal}\n{told}"), true)
+        }
         Err(error) => return Err(in_text(&input, error)),
     };
-    let mut report = second::report(&verdict);
-    if let (Err(refusal), Some((line, column))) = (&verdict, place) {
-        report += &format!("{}: line {line}, column {column}: {}\n", input.name, refusal.cause.sentence());
-    }
-    files::write(OsStr::new("-"), report.as_bytes(), &input)?;
-    Ok(if verdict.is_ok() { ACCEPTED } else { REFUSED })
+    files::write(OsStr::new("-"), report.as_bytes(), &[&input, &named])?;
+    Ok(if refused { REFUSED } else { ACCEPTED })
+}
+
+/// The line that leads to what is refused.
+fn told(name: &str, line: usize, column: usize, sentence: &str) -> String {
+    format!("{name}: line {line}, column {column}: {sentence}\n")
 }

@@ -6,13 +6,15 @@ use second::tables::Section;
 use second::value::LONGEST;
 use second::Basic;
 
+use crate::declared::{self, ReadFile};
 use crate::source::{Error, Scanner, Spot};
 use crate::syntax::*;
 
-const KEYWORDS: [&str; 44] = [
+const KEYWORDS: [&str; 45] = [
     "id",
     "location",
     "path",
+    "types",
     "type",
     "node",
     "children",
@@ -56,23 +58,27 @@ const KEYWORDS: [&str; 44] = [
     "void",
 ];
 
+/// The words with which an item starts.
+const ITEMS: &str = "id, location, path, types, type, node, expression, data or service";
+
 /// Statements, expressions and types stand inside each other at most so deep. A file's 256 rows of
 /// statements, each in braces of its own, need 512 levels, and an expression of 8 levels some more.
 pub const LEVELS: usize = 600;
 
-/// Reads a whole text.
-pub fn parse(text: &str) -> Result<Vec<Item>, Error> {
+/// Reads a whole text, and the file that it names.
+pub fn parse(text: &str, read: &mut ReadFile) -> Result<Vec<Item>, Error> {
     let mut parser = Parser {
         scanner: Scanner::new(text),
         ids: HashMap::new(),
         locations: HashMap::new(),
         types: HashMap::new(),
+        has_types: false,
         level: 0,
         rows: [0; 7],
     };
     let mut items = Vec::new();
     while !parser.scanner.ended() {
-        items.extend(parser.item()?);
+        items.extend(parser.item(read)?);
     }
     Ok(items)
 }
@@ -83,6 +89,8 @@ struct Parser<'a> {
     locations: HashMap<String, u16>,
     /// Types that a child may copy.
     types: HashMap<String, Tree>,
+    /// The text has a `types` item.
+    has_types: bool,
     /// How deep the next token stands.
     level: usize,
     /// How many rows of T, E and B the text makes so far.
@@ -115,7 +123,7 @@ impl Parser<'_> {
         Ok(())
     }
 
-    fn item(&mut self) -> Result<Option<Item>, Error> {
+    fn item(&mut self, read: &mut ReadFile) -> Result<Option<Item>, Error> {
         let spot = self.scanner.spot();
         let word = self.scanner.peek_word();
         self.scanner.takes_word(word);
@@ -132,6 +140,7 @@ impl Parser<'_> {
                 self.types.insert(name.clone(), tree.clone());
                 Item::Type { spot, name, tree }
             }
+            "types" => self.types_of_file(spot, read)?,
             "node" => self.node(spot)?,
             "expression" => {
                 self.scanner.expect("$")?;
@@ -149,8 +158,31 @@ impl Parser<'_> {
                 }
                 Item::Service { spot, location, parts }
             }
-            _ => return self.error(spot, "id, location, path, type, node, expression, data or service expected"),
+            _ => return self.error(spot, format!("{ITEMS} expected")),
         }))
+    }
+
+    /// `types`, after that word: the types and ids of a file.
+    fn types_of_file(&mut self, spot: Spot, read: &mut ReadFile) -> Result<Item, Error> {
+        if self.has_types || self.rows[Section::Types as usize] > 0 {
+            return self.error(spot, "`types` stands once, before every type");
+        }
+        self.has_types = true;
+        let name_spot = self.scanner.spot();
+        let file = read(&self.quoted()?).or_else(|message| self.error(name_spot, message))?;
+        let types = declared::read(&file)?;
+        self.count(Section::Types, spot, types.rows.len())?;
+        for (id, name) in (1..).zip(&types.children) {
+            if self.ids.insert(name.clone(), id).is_some() {
+                let message =
+                    format!("the id `{name}` is declared already, and {} has a child of that name", file.name);
+                return self.error(name_spot, message);
+            }
+        }
+        for declared in &types.declarations {
+            self.types.insert(declared.name.clone(), declared::tree(&types.rows, declared.row, spot));
+        }
+        Ok(Item::Types { spot, types })
     }
 
     /// `id` or `location`, after that word.
@@ -707,20 +739,26 @@ impl Parser<'_> {
 
     fn string(&mut self) -> Result<Vec<u8>, Error> {
         let spot = self.scanner.spot();
+        let bytes = self.quoted()?;
+        if bytes.len() > LONGEST {
+            return self.error(spot, format!("a string has at most {LONGEST} bytes, this one has {}", bytes.len()));
+        }
+        Ok(bytes)
+    }
+
+    /// Bytes in quotes.
+    fn quoted(&mut self) -> Result<Vec<u8>, Error> {
+        let spot = self.scanner.spot();
         self.scanner.expect("\"")?;
         let mut bytes = Vec::new();
         loop {
             match self.scanner.take_sign() {
-                Some('"') => break,
+                Some('"') => return Ok(bytes),
                 Some('\\') => bytes.push(self.escape()?),
                 Some(sign) if sign != '\n' => bytes.extend(sign.encode_utf8(&mut [0; 4]).bytes()),
                 _ => return self.error(spot, "the string does not end on its line"),
             }
         }
-        if bytes.len() > LONGEST {
-            return self.error(spot, format!("a string has at most {LONGEST} bytes, this one has {}", bytes.len()));
-        }
-        Ok(bytes)
     }
 
     fn escape(&mut self) -> Result<u8, Error> {

@@ -14,14 +14,44 @@ pub struct Error {
     /// From 1, in characters.
     pub column: usize,
     pub message: String,
-    /// The text can be read, and its rows break a rule of 2 to 5.
-    pub refusal: Option<Refusal>,
+    /// The file that line and column are of, where it is not the text.
+    pub file: Option<String>,
+    /// The text or the file can be read, and it is refused by number.
+    pub refusal: Option<Refused>,
+}
+
+/// A refusal of what an assembler makes or reads.
+#[derive(Clone, Copy, PartialEq, Eq, Debug)]
+pub enum Refused {
+    /// The rows of the text break a rule of 2 to 5.
+    Rows(Refusal),
+    /// The file of type declarations is refused.
+    Types(types::Refusal),
+}
+
+impl Refused {
+    /// One line for a fitter.
+    pub fn sentence(&self) -> &'static str {
+        match self {
+            Refused::Rows(refusal) => refusal.cause.sentence(),
+            Refused::Types(refusal) => refusal.cause.sentence(),
+        }
+    }
+}
+
+impl fmt::Display for Refused {
+    fn fmt(&self, f: &mut fmt::Formatter) -> fmt::Result {
+        match self {
+            Refused::Rows(refusal) => refusal.fmt(f),
+            Refused::Types(refusal) => refusal.fmt(f),
+        }
+    }
 }
 
 impl Error {
     pub fn at(text: &str, spot: Spot, message: impl Into<String>) -> Error {
         let (line, column) = line_and_column(text, spot);
-        Error { line, column, message: message.into(), refusal: None }
+        Error { line, column, message: message.into(), file: None, refusal: None }
     }
 }
 

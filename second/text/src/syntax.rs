@@ -1,6 +1,7 @@
 //! The text's syntax tree. Names of ids, locations and child types are resolved by the parser.
 
 use second::Basic;
+use types::Types;
 
 use crate::source::Spot;
 
@@ -13,6 +14,11 @@ pub enum Item {
         spot: Spot,
         name: String,
         tree: Tree,
+    },
+    /// What a file of type declarations has.
+    Types {
+        spot: Spot,
+        types: Types,
     },
     /// A single type row.
     Node {

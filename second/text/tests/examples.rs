@@ -3,7 +3,7 @@
 use std::collections::BTreeSet;
 use std::path::PathBuf;
 
-use net::{assemble, disassemble, rows};
+use net::{assemble, assemble_with, disassemble, rows, NamedFile};
 
 fn folder() -> PathBuf {
     PathBuf::from(env!("CARGO_MANIFEST_DIR")).join("../../examples")
@@ -12,28 +12,37 @@ fn folder() -> PathBuf {
 /// Name, first line of the report, lines of the report, line and column of a refusal.
 type Verdict = (&'static str, &'static str, usize, Option<(usize, usize)>);
 
-const VERDICTS: [Verdict; 8] = [
+const VERDICTS: [Verdict; 9] = [
     ("assign", "accepted", 3, None),
     ("branches", "accepted", 5, None),
     ("flag_refused", "refused 7 3", 1, Some((18, 13))),
     ("hall", "accepted", 18, None),
     ("hall_refused", "refused 9 5", 1, Some((21, 53))),
+    ("lift", "accepted", 12, None),
     ("nested", "accepted", 15, None),
     ("parallel", "accepted", 4, None),
     ("scale", "accepted", 13, None),
 ];
+
+/// A file that an example names.
+fn beside(name: &[u8]) -> Result<NamedFile, String> {
+    let name = String::from_utf8_lossy(name).into_owned();
+    let bytes = std::fs::read(folder().join(&name)).map_err(|error| error.to_string())?;
+    Ok(NamedFile { name, bytes })
+}
 
 #[test]
 fn each_example_has_its_verdict() {
     for (name, first, lines, place) in VERDICTS {
         let text = std::fs::read_to_string(folder().join(format!("{name}.net"))).expect("a text");
         let file = std::fs::read(folder().join(format!("{name}.bin"))).expect("a file");
-        let made = assemble(&text).unwrap_or_else(|error| panic!("{name}: {error}"));
+        let made = assemble_with(&text, &mut beside).unwrap_or_else(|error| panic!("{name}: {error}"));
         assert!(made.file == file, "{name}.bin is not what {name}.net assembles to");
         let verdict = second::check(&file);
         let report = second::report(&verdict);
         assert_eq!(report.lines().next(), Some(first), "{name}");
         assert_eq!(report.lines().count(), lines, "{name}");
+        assert_eq!(std::fs::read_to_string(folder().join(format!("{name}.txt"))).expect("an answer"), report, "{name}");
         assert_eq!(verdict.err().and_then(|refusal| made.origin(&text, &refusal)), place, "{name}");
     }
 }
@@ -91,6 +100,14 @@ fn the_worked_example_of_the_page_is_as_it_says() {
     let text = block("id load = 1                     // children of messages");
     let made = assemble(&text).unwrap_or_else(|error| panic!("{error}\n{text}"));
     assert_eq!(second::report(&second::check(&made.file)).trim_end(), block("accepted"));
+}
+
+#[test]
+fn the_types_of_the_page_are_those_of_the_example() {
+    let [page, example] = [block("type Lift : void {").into_bytes(), beside(b"lift.types").expect("a file").bytes]
+        .map(|text| types::read_types(&text).expect("a right text"));
+    assert_eq!(page, example);
+    assert_eq!(page.children, ["load", "clipped", "hoist", "lift"]);
 }
 
 #[test]

@@ -226,6 +226,48 @@ fn file_names_are_any_bytes() {
     assert_eq!(run(&[OsString::from_vec(b"\xff".to_vec()).as_ref()]).0, 2);
 }
 
+/// A types file stands beside the text that names it; for standard input it is found from the working folder.
+#[test]
+fn a_types_file_is_found_beside_its_text() {
+    let folder = folder("beside");
+    fs::create_dir(folder.join("in")).expect("a folder");
+    for name in ["lift.net", "lift.types"] {
+        fs::copy(examples().join(name), folder.join("in").join(name)).expect("a copy");
+    }
+    let expected = fs::read(examples().join("lift.bin")).expect("a file");
+    says(&folder, &["assemble", "in/lift.net", "lift.bin"], 0, "");
+    assert!(fs::read(folder.join("lift.bin")).expect("a file") == expected);
+    assert_eq!(net(&folder, &["check", "in/lift.net"]).1, fs::read(examples().join("lift.txt")).expect("a text"));
+    let text = fs::read(folder.join("in/lift.net")).expect("a text");
+    let (status, out, _) = run(&folder.join("in"), &["assemble", "-", "-"], &text, Stdio::piped());
+    assert!(status == 0 && out == expected);
+    let (status, _, said) = run(&folder, &["assemble", "-", "-"], &text, Stdio::piped());
+    assert!(status == 2 && said.contains("standard input: line 5, column 7: lift.types: No such file"), "{said}");
+    // A file of this name is no standard input.
+    fs::write(folder.join("dash.net"), "types \"-\" service 1 {}").expect("a file");
+    says(&folder, &["check", "dash.net"], 2, "dash.net: line 1, column 7: -: No such file");
+    let listed = run(&folder, &["rows", "lift.bin"], b"", Stdio::piped()).1;
+    assert!(listed.starts_with(b"service 0: location 1, starter 0, client none\n"));
+}
+
+#[test]
+fn a_refused_types_file_is_told_with_its_line() {
+    let folder = folder("refused_types");
+    fs::write(folder.join("a.net"), "types \"a.types\"\nservice 1 {}\n").expect("a file");
+    fs::write(folder.join("a.types"), "type A : int\ntype B : int { .a : C }\n").expect("a file");
+    let (status, out, said) = net(&folder, &["check", "a.net"]);
+    let expected = "refused 21 33\na.types: line 2, column 21: no type of this name is declared before\n";
+    assert_eq!((status, String::from_utf8_lossy(&out).as_ref(), said.as_str()), (1, expected, ""));
+    let part = "a.types: line 2, column 21: refused 21 33: no type of this name is declared before\n";
+    says(&folder, &["assemble", "a.net", "a.bin"], 1, part);
+    assert!(!folder.join("a.bin").exists());
+    fs::write(folder.join("a.types"), "type A : int").expect("a file");
+    says(&folder, &["assemble", "a.net", "a.types"], 2, "this is the input, a.types");
+    assert_eq!(fs::read(folder.join("a.types")).expect("a file"), b"type A : int");
+    fs::write(folder.join("a.types"), vec![b' '; 9000]).expect("a file");
+    says(&folder, &["assemble", "a.net", "a.bin"], 1, "a.types: line 1, column 8193: refused 2 0: the text has more");
+}
+
 /// Texts that go on and on, each far past what a file can hold.
 #[test]
 fn endless_texts_are_errors_with_line_and_column() {

@@ -83,6 +83,12 @@ enum-told-8 c = search needs
 enum-told-9 : tie.Need-enum-told-9
 enum-told-9 c = search needs
 
+enum-known-why-11 : tie.Need-enum-known-why-11
+enum-known-why-11 c = search needs
+
+enum-known-why-12 : tie.Need-enum-known-why-12
+enum-known-why-12 c = search needs
+
 returns : tie.Need-returns
 returns c = rw (c .before .why .given .1)
 
@@ -140,6 +146,12 @@ returns-18 c = rw (c .enum-told8 .given .1)
 returns-19 : tie.Need-returns-19
 returns-19 c = rw (c .enum-told9 .given .1)
 
+returns-20 : tie.Need-returns-20
+returns-20 c = rw (c .before .why11 .given .1)
+
+returns-21 : tie.Need-returns-21
+returns-21 c = rw (c .before .why12 .given .1)
+
 pub place-of-spec : {M : Type 1} → statement M
 place-of-spec =
     tie.close
@@ -171,6 +183,8 @@ place-of-spec =
     enum-told-7
     enum-told-8
     enum-told-9
+    enum-known-why-11
+    enum-known-why-12
     returns
     returns-2
     returns-3
@@ -189,4 +203,6 @@ place-of-spec =
     returns-16
     returns-17
     returns-18
-    returns-19)
+    returns-19
+    returns-20
+    returns-21)

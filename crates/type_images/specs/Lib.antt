@@ -1,0 +1,2 @@
+pub mod TypeImages
+pub mod TypeImageLaws

@@ -1,0 +1,5 @@
+pub mod Words
+pub mod Marks
+pub mod Beginnings
+pub mod Lists
+pub mod Rest

@@ -1,0 +1,14 @@
+pub mod Spelling
+pub mod Grammar
+pub mod Reader
+pub mod Meaning
+pub mod TypeRows
+pub mod Sizes
+pub mod TextExamples
+pub mod SpellingLaws
+pub mod LookaheadLaws
+pub mod ReaderLaws
+pub mod PlaceLaws
+pub mod TextLaws
+pub mod ViableLaws
+pub mod BeginsLaws

@@ -1,0 +1,1 @@
+// A text of types: its words and marks.

@@ -1,0 +1,4 @@
+pub mod Names
+pub mod NameLaws
+pub mod Builds
+pub mod BuildLaws
