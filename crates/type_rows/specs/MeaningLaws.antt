@@ -19,11 +19,12 @@ use Rattle.network.specs.Shapes.{NodesShape, TreeNodesShape}
 use Rattle.type_text.specs.Spelling.{Token}
 use Rattle.type_text.specs.Grammar.{sameWord, among, Children, noMore, written, named, Declaration, declaration, TreeFrom, leafTree, bracedTree}
 use Rattle.type_text.specs.Grammar.{ChildrenFrom, noChild, writtenChild, namedChild, DeclarationsFrom, noDeclaration, oneDeclaration}
+use Rattle.type_text.specs.ReaderLaws.{same-word-self}
 use Rattle.type_text.specs.Meaning.{namesIn, childNames, idNames, idOf, NamedType, namedType, typeNamed, asChild, forestFrom, typeFrom, typesFrom, typesOf}
 use Rattle.type_text.specs.Sizes.{nodesIn, levelsIn, rootsIn}
 use Rattle.type_text.specs.TypeRows.{rowsIn, rowCount, isTooLarge}
 use Rattle.type_rows.specs.Ranged.{WellRanged, IdsUpTo, EachType}
-use Rattle.type_rows.specs.WordLaws.{own-word, neither, among-first, among-later, among-left, among-right, id-positive, id-bounded, id-once}
+use Rattle.type_rows.specs.WordLaws.{neither, among-first, among-later, among-left, among-right, id-positive, id-bounded, id-once}
 use Rattle.type_rows.specs.WordLaws.{in-first-uses, first-uses-few}
 
 -- ---- what the rules say of a list of children
@@ -145,7 +146,7 @@ unfolding FreshFor among
 fresh-set ids seen f v n h w e g =
     let p = neither {a = sameWord w v} g in
     let z : idOf ids w ≡ idOf ids v → ⊥ =
-    λ i. clash (ap (sameWord w) (sym (id-once ids w v e i)) ∙ own-word w) (p .0) in
+    λ i. clash (ap (sameWord w) (sym (id-once ids w v e i)) ∙ same-word-self w) (p .0) in
     find-set-other (idOf ids w) (idOf ids v) n f z ∙ h w e (p .1)
 
 -- ---- the forest of a list of children

@@ -9,22 +9,8 @@ use lib.Dec.{eqb}
 use Rattle.basics.specs.Choice.{pick}
 use Rattle.basics.specs.TestLaws.{apart, true-false, clash, and-of, both-true, or-left, or-right, eq-of, of-eq}
 use Rattle.type_text.specs.Grammar.{sameWord, among}
+use Rattle.type_text.specs.ReaderLaws.{same-word-is, same-word-self}
 use Rattle.type_text.specs.Meaning.{firstUses, idOf}
-
--- ---- words
-
-pub word-of : (v w : List ℕ) → sameWord v w ≡ true → v ≡ w
-unfolding sameWord
-word-of [] [] e = refl
-word-of [] (b ∷ w) e = apart e
-word-of (a ∷ v) [] e = apart e
-word-of (a ∷ v) (b ∷ w) e =
-    let p = and-of (eqb a b) (sameWord v w) e in let x = eq-of a b (p .0) in let y = word-of v w (p .1) in cc
-
-pub own-word : (v : List ℕ) → sameWord v v ≡ true
-unfolding sameWord
-own-word [] = refl
-own-word (a ∷ v) = both-true (of-eq a a refl) (own-word v)
 
 -- ---- a word among words
 
@@ -34,7 +20,7 @@ neither {a = false} e = (refl, e)
 
 pub among-first : (w : List ℕ) (l : List (List ℕ)) → among w (w ∷ l) ≡ true
 unfolding among
-among-first w l = or-left (among w l) (own-word w)
+among-first w l = or-left (among w l) (same-word-self w)
 
 pub among-later : (w v : List ℕ) (l : List (List ℕ)) → among w l ≡ true → among w (v ∷ l) ≡ true
 unfolding among
@@ -81,7 +67,7 @@ id-once (u ∷ l) v w e i = go (sameWord v u) (sameWord w u) refl refl (λ h g. 
   where
     go : (a b : Bool) → sameWord v u ≡ a → sameWord w u ≡ b → (among v l ≡ true → idOf l v ≡ idOf l w → v ≡ w)
         → a || among v l ≡ true → pick a 1 (1 + idOf l v) ≡ pick b 1 (1 + idOf l w) → v ≡ w
-    go true true p q ih h g = word-of v u p ∙ sym (word-of w u q)
+    go true true p q ih h g = same-word-is v u p ∙ sym (same-word-is w u q)
     go true false p q ih h g = let x = id-positive l w in absurd (omega arith)
     go false true p q ih h g = let x = id-positive l v in absurd (omega arith)
     go false false p q ih h g = ih h (omega arith)
@@ -97,7 +83,7 @@ in-first-uses seen (v ∷ l) w e f =
     go : (a b : Bool) → among v seen ≡ a → sameWord w v ≡ b → b || among w l ≡ true → (among w l ≡ true → among w (firstUses seen l) ≡ true)
         → (among w l ≡ true → b || among w seen ≡ false → among w (firstUses (v ∷ seen) l) ≡ true)
         → among w (pick a (firstUses seen l) (v ∷ firstUses (v ∷ seen) l)) ≡ true
-    go true true p q h x y = absurd (clash (ap (λ (u : List ℕ). among u seen) (word-of w v q) ∙ p) f)
+    go true true p q h x y = absurd (clash (ap (λ (u : List ℕ). among u seen) (same-word-is w v q) ∙ p) f)
     go true false p q h x y = x h
     go false true p q h x y = or-left (among w (firstUses (v ∷ seen) l)) q
     go false false p q h x y = or-right (sameWord w v) (y h f)

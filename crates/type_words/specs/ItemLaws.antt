@@ -12,6 +12,7 @@ use Rattle.basics.specs.TestLaws.{clash, true-false}
 use Rattle.wire.specs.Wire.{part}
 use Rattle.wire.specs.WireLaws.{length-part}
 use Rattle.type_text.specs.Spelling.{isBlank, inWord, isMark, Token, word, colon, opening, closing, dot, question, zeroToOne, oneToOne}
+use Rattle.type_text.specs.SpellingLaws.{items-skip}
 use Rattle.type_text.specs.Reader.{Lexeme, space, found, broken, wordBytes, markAt, lexemeAt, Item, token, itemsBy, itemsFrom, itemsAt, tokenKind}
 use Rattle.type_words.specs.declared.Item.the-variants.{Word}
 use Rattle.type_words.specs.Told.{markToken, runOf, ItemTold}
@@ -97,14 +98,6 @@ word-taken (b ∷ s) = by (inWord b) (word-taken s)
 
 -- ---- items from a place on
 
--- Bytes that are passed over.
-pub items-past : (n at : ℕ) (s : List ℕ) → itemsFrom n at s ≡ itemsFrom 0 (at + n) (drop n s)
-unfolding itemsFrom
-items-past zero at [] = refl
-items-past zero at (b ∷ s) = let z : at + 0 ≡ at = omega arith in rw z refl
-items-past (suc n) at [] = refl
-items-past (suc n) at (b ∷ s) = let z : at + suc n ≡ at + 1 + n = omega arith in rw z (items-past n (at + 1) s)
-
 -- Blanks add nothing.
 blanks-past : (s : List ℕ) (at : ℕ) → itemsFrom 0 at s ≡ itemsFrom 0 (at + runOf isBlank s) (drop (runOf isBlank s) s)
 unfolding itemsFrom runOf lexemeAt
@@ -125,7 +118,7 @@ module _ (s : List ℕ) (p : ℕ) where
   -- What follows when n more bytes are passed over.
   pub items-after : (n : ℕ) → itemsFrom n (p + 1) (drop (p + 1) s) ≡ itemsAt s (p + 1 + n)
   unfolding itemsAt
-  items-after n = items-past n (p + 1) (drop (p + 1) s) ∙ ap (itemsFrom 0 (p + 1 + n)) (drop-drop n (p + 1) s)
+  items-after n = items-skip n (p + 1) (drop (p + 1) s) ∙ ap (itemsFrom 0 (p + 1 + n)) (drop-drop n (p + 1) s)
 
   pub items-here : p < length s →
       itemsAt s p ≡ itemsBy p (lexemeAt (getD s p 0) (drop (p + 1) s)) (λ n. itemsFrom n (p + 1) (drop (p + 1) s))

@@ -15,7 +15,7 @@ use Rattle.type_images.specs.declared.TypeImage.{TypeImage}
 use Rattle.type_lines.specs.Emits.{TreeEmitted}
 use Rattle.type_lines.specs.EmitsLaws.{tree-emitted}
 use Rattle.type_writing.specs.Passes.{ImageWrote, TypeWrote, RestWritten}
-use Rattle.type_writing.specs.PassLaws.{rest-over, rest-wrong, names-same}
+use Rattle.type_writing.specs.PassLaws.{rows-image, rest-over, rest-wrong, names-same}
 use Rattle.wire.specs.Wire.{putU16}
 use Rattle.type_reading.specs.Tables.{NoneEmpty}
 use Rattle.type_reading.proofs.Start as starts
@@ -31,10 +31,6 @@ use Rattle.type_reading.specs.Readings.{StartTold}
 use Rattle.type_images.specs.TypeImageLaws.{image-length}
 use Rattle.check_types.specs.TypeRowsLaws.{TypeKeeps}
 use lib.Seq.{take-length}
-
-image-rows : (t : MessageType) → imageSize t ≡ 7 * rowsIn t
-unfolding rowsIn
-image-rows (tree a k) = refl
 
 rises : (t : MessageType) → RisingTree t → Rising (rootChildren t)
 rises (tree a k) h = h
@@ -58,7 +54,7 @@ module _ (s : List ℕ) (row : ℕ) (images out : List ℕ) where
   images-short h = record {
     outSize = refl;
     imagesSize = refl;
-    tells = λ t x k f l i. let y = image-long s t x in let z = image-rows t in absurd (omega (arith, h, i, y, z));
+    tells = λ t x k f l i. let y = image-long s t x in let z = rows-image t in absurd (omega (arith, h, i, y, z));
   }
 
   module _ (out′ : List ℕ) (end : ℕ) (emitted : TreeEmitted s out out′ row end) (same : length out′ ≡ length out) where

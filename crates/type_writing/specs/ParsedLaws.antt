@@ -10,14 +10,7 @@ use Rattle.type_text.specs.Grammar.{Children, noMore, Declaration}
 use Rattle.type_text.specs.Reader.{Item, Reading, parsed, offends, readThen, expect, nextIs, nextWord, nextPlace, afterNext, Side, inline, declarationOf}
 use Rattle.type_text.specs.Reader.{basicNamed, readBraces, readTypeTreeBy, readTypeTree, readChildren, readDeclarations}
 use Rattle.type_reading.specs.Readings.{afterName}
-
--- An offending byte is nothing read.
-abbrev IsParsed : {A : Type 0} → Reading A → Type 0
-IsParsed (parsed a l) = Unit {0}
-IsParsed (offends p) = ⊥
-
-pub not-parsed : {A : Type 0} {p : ℕ} {a : A} {l : List Item} → offends p ≡ parsed a l → ⊥
-not-parsed {A} e = subst (λ (x : Reading A). IsParsed x) (sym e) tt
+use Rattle.type_trees.specs.BuildLaws.{no-parse}
 
 -- The parts of what was read one after the other.
 pub record ThenRead {A B : Type 0} (x : Reading A) (k : A → List Item → Reading B) (y : B) (r : List Item) : Type 0 where
@@ -28,12 +21,12 @@ pub record ThenRead {A B : Type 0} (x : Reading A) (k : A → List Item → Read
 
 pub then-read : {A B : Type 0} (x : Reading A) (k : A → List Item → Reading B) (y : B) (r : List Item) → readThen x k ≡ parsed y r → ThenRead x k y r
 then-read (parsed a l) k y r e = record { first = a; left = l; reads = refl; goes = e }
-then-read (offends p) k y r e = absurd (not-parsed e)
+then-read (offends p) k y r e = no-parse e
 
 -- A test that was passed.
 pub expect-read : {A : Type 0} (t : Bool) (size : ℕ) (l : List Item) (y : Reading A) (a : A) (r : List Item) → expect t size l y ≡ parsed a r → y ≡ parsed a r
 expect-read true size l y a r e = e
-expect-read false size l y a r e = absurd (not-parsed e)
+expect-read false size l y a r e = no-parse e
 
 -- A tree that was read is one, and no name.
 pub record InlineRead (x : Side) : Type 0 where
@@ -71,7 +64,7 @@ module _ (size : ℕ) (children : List Item → Reading Children) where
   tree-inline l x r e = by (basicNamed (nextWord l)) e
     where
       by : (o : Optional ℕ) → readTypeTreeBy size children o l ≡ parsed x r → InlineRead x
-      by none q = absurd (not-parsed q)
+      by none q = no-parse q
       by (some b) q = braces-inline b (afterNext l) x r q
 
 -- A declaration's tree, and the declarations after it.

@@ -31,10 +31,12 @@ use Rattle.type_rows.specs.MeaningLaws.{ProperAll}
 use Rattle.type_images.specs.TypeImages.{imageOf, imageSize, HoldsType}
 use Rattle.type_images.specs.TypeImageLaws.{image-length}
 use Rattle.type_trees.specs.Names.{namesUpTo}
+use Rattle.type_trees.specs.BuildLaws.{no-parse}
 use Rattle.type_trees.specs.Builds.{ImageAt, KnownImages, LimitsKept, TreeBuilt}
 use Rattle.type_trees.specs.declared.Built.{Built}
+use Rattle.type_writing.specs.Sums.{rows-children}
 use Rattle.type_writing.specs.Passes.{ImagesBelow, EntriesAre, TypeWrote, RestGiven, RestWritten}
-use Rattle.type_writing.specs.ParsedLaws.{not-parsed, NextDeclared, next-declared}
+use Rattle.type_writing.specs.ParsedLaws.{NextDeclared, next-declared}
 
 -- ---- what a store of a first row leaves
 
@@ -148,13 +150,9 @@ small-limits (tree a k) e = (lt-not messageNodesBelow (nodes k) (p .0), lt-not m
     p : (ltb messageNodesBelow (nodes k) ≡ false) × (ltb messageLevelsBelow (levels k) ≡ false)
     p = neither-of (ltb messageNodesBelow (nodes k)) (ltb messageLevelsBelow (levels k)) e
 
-rows-image : (t : MessageType) → imageSize t ≡ 7 * rowsIn t
+pub rows-image : (t : MessageType) → imageSize t ≡ 7 * rowsIn t
 unfolding rowsIn
 rows-image (tree a k) = refl
-
-rows-children : (t : MessageType) → rowsIn t ≡ suc (nodes (children t))
-unfolding rowsIn
-rows-children (tree a k) = refl
 
 proper-rest : (ids : List (List ℕ)) (v : List ℕ) (b : ℕ) (c : Children) (ds : List Declaration) → ProperAll ids (declaration v b c ∷ ds) → ProperAll ids ds
 unfolding ProperAll
@@ -202,7 +200,7 @@ module _ (s : List ℕ) (at : ℕ) (table : List ℕ) (n total : ℕ) (names : L
     where
       by : (f : ℕ) → length (itemsAt s at) ≤ f → readDeclarations (length s) f (declaredNames s table n) (itemsAt s at) ≡ parsed ds [] → ⊥
       by zero l q = omega (arith, e .0, l)
-      by (suc f) l q = not-parsed (sym (e .1 f) ∙ q)
+      by (suc f) l q = no-parse (sym (e .1 f) ∙ q)
 
   module _ (p a : ℕ) (start : NameGiven s at table n p a) (made : Built) (built : TreeBuilt s a table n names m images made) (images′ out₁ : List ℕ) (r : ℕ)
       (w : TypeWrote (made .image) row images images′ out out₁ r) where

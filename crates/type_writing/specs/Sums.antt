@@ -13,6 +13,7 @@ use Rattle.wire.specs.Wire.{u16At}
 use Rattle.tree_forest.specs.Forest.{tree, nodes, levels}
 use Rattle.tree_forest.specs.Limits.{messageNodesBelow, messageLevelsBelow}
 use Rattle.tree.specs.Encode.{children}
+use Rattle.network_syntax.specs.ViewLaws.{none-some}
 use Rattle.network_syntax.specs.Syntax.{MessageType, Optional, none, some}
 use Rattle.type_text.specs.TypeRows.{rowsIn, rowCount, isTooLarge}
 use Rattle.type_reading.specs.Tables.{held}
@@ -39,20 +40,13 @@ abbrev pub LargeTold : List ℕ → ℕ → Large → Type 0
 LargeTold table n (Row r) = tableLarge table 0 n 0 ≡ some r
 LargeTold table n Fits = tableLarge table 0 n 0 ≡ none
 
-none-some : {x : ℕ} → none ≡ some x → ⊥
-none-some e = subst IsNone e tt
-  where
-    IsNone : Optional ℕ → Type 0
-    IsNone none = Unit {0}
-    IsNone (some y) = ⊥
-
 gap : (i n : ℕ) → i < n → n - i ≡ suc (n - suc i)
 gap i n h = omega (arith, h)
 
 held-add : (a b c d : ℕ) → a ≡ held 257 b → held 257 c ≡ held 257 d → held 257 (suc a + c) ≡ held 257 (suc b + d)
 held-add a b c d x y = omega (arith, x, y)
 
-rows-children : (t : MessageType) → rowsIn t ≡ suc (nodes (children t))
+pub rows-children : (t : MessageType) → rowsIn t ≡ suc (nodes (children t))
 unfolding rowsIn
 rows-children (tree a k) = refl
 

@@ -15,6 +15,7 @@ use Rattle.tree_forest.specs.Forest.{tree, nodes, levels}
 use Rattle.tree.specs.Encode.{children}
 use Rattle.tree_edit.specs.Wrote.{Wrote}
 use Rattle.tree_edit.specs.WroteLaws.{wrote-all}
+use Rattle.network_syntax.specs.ViewLaws.{none-some}
 use Rattle.network_syntax.specs.Syntax.{MessageType, Optional, none, some}
 use Rattle.type_text.specs.Spelling.{Token}
 use Rattle.type_text.specs.Grammar.{Declaration, declaration, TypeText}
@@ -34,7 +35,7 @@ use Rattle.type_reading.specs.Readings.{RestTold, RestRead}
 use Rattle.type_reading.specs.declared.ReadAll.the-variants.{OffendsAt}
 use Rattle.type_writing.specs.Answer.{textRefused, textOffence, largeFrom, rowsAnswer, typesAnswer, readingAnswer, writeTypes}
 use Rattle.type_writing.specs.SizeLaws.{SizesNoted, agrees-none, sizes-noted}
-use Rattle.type_writing.specs.Sums.{tableRows, tableLarge, rows-counted, large-found}
+use Rattle.type_writing.specs.Sums.{rows-children, tableRows, tableLarge, rows-counted, large-found}
 use Rattle.type_writing.specs.Passes.{ImagesBelow, EntriesAre, RestGiven, RestWritten, TextRead, TextWritten, RowsTold}
 
 -- ---- ids
@@ -55,10 +56,6 @@ unfolding typesFrom
 types-length ids [] known = refl
 types-length ids (declaration v b c ∷ ds) known = ap suc (types-length ids ds (namedType v (typeFrom ids known b c) ∷ known))
 
-rows-of : (t : MessageType) → rowsIn t ≡ suc (nodes (children t))
-unfolding rowsIn
-rows-of (tree a k) = refl
-
 items-within : (s : List ℕ) → length (itemsAt s 0) ≤ length s
 unfolding itemsAt
 items-within s = items-shorter 0 0 s
@@ -69,7 +66,7 @@ unfolding EntriesAre typesFrom Noted SizesNoted rowCount
 entries-are s table ids [] n known h z w = tt
 entries-are s table ids (declaration v b c ∷ ds) n known h z w =
     let t : MessageType = typeFrom ids known b c in
-    let r = rows-of t in
+    let r = rows-children t in
     let e : u16At table (6 * n + 2) ≡ nodes (children t) = omega (arith, z .0, w, r) in
     (h .0, e, entries-are s table ids ds (suc n) (namedType v t ∷ known) (h .3) (z .2) (omega (arith, w)))
 
@@ -131,13 +128,6 @@ module _ (s table : List ℕ) (n : ℕ) (ds : List Declaration) (h : TextRead s 
 
 -- ---- the answer
 
-some-none : {r : ℕ} → some r ≡ none → ⊥
-some-none e = subst IsSome e tt
-  where
-    IsSome : Optional ℕ → Type 0
-    IsSome none = ⊥
-    IsSome (some x) = Unit {0}
-
 none-large : (ts : List MessageType) (r : ℕ) → largeFrom r ts ≡ none → EachType Small ts
 unfolding largeFrom EachType
 none-large [] r e = tt
@@ -145,7 +135,7 @@ none-large (t ∷ ts) r e = by (isTooLarge t) refl e (λ z. none-large ts (r + r
   where
     by : (b : Bool) → isTooLarge t ≡ b → pick b (some r) (largeFrom (r + rowsIn t) ts) ≡ none → (largeFrom (r + rowsIn t) ts ≡ none → EachType Small ts)
         → Small t × EachType Small ts
-    by true q z more = absurd (some-none z)
+    by true q z more = absurd (none-some (sym z))
     by false q z more = (q, more z)
 
 -- A list written at the start of a buffer.
