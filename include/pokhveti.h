@@ -55,7 +55,7 @@ size_t pokhveti_part(const uint8_t *message, size_t length, uint16_t first, uint
  * the caller, who may copy or store them. They do not say which file they were made for: the caller passes the same file with each move. */
 uint32_t pokhveti_fresh(const uint8_t *file, size_t length, uint8_t *state, size_t state_size, size_t *place);
 
-/* The moves. Each gives 0 if it was made, otherwise the number of the refusal, 1 to 5 or 14 to 19, with its place in *place (0 from 14 on),
+/* The moves. Each gives 0 if it was made, otherwise the number of the refusal, 1 to 5, 14 to 19 or 22, with its place in *place (0 from 14 on),
  * and both buffers are left as they were. *bytes is how many bytes were written to the start of the out buffer, 0 if nothing went out; the
  * bytes past them stay. Services, rows and sessions count from 0: session 0 runs the service's client, 1 to 3 are started by messages. */
 

@@ -9,7 +9,7 @@ use lib.Ieee.{add, ofBits, toBits, ofFields, sum, round, size, units, odd, span,
 use lib.Count.{trailingZeros}
 use Rattle.tree_forest.specs.Forest.{end, node, tree, find, set, measure}
 use Rattle.tree_forest.specs.Path.{Path, path, readSteps, writeSteps}
-use Rattle.integer.specs.Wrap.{pattern, modulo}
+use Rattle.integer.specs.Range.{inWidth}
 use Rattle.scalar.specs.Basic.{bool, int, double, long, string, void}
 use Rattle.scalar.specs.Value.{value}
 use Rattle.wire.specs.Wire.{unsignedOf}
@@ -87,10 +87,9 @@ table =
     (row rowF ℕ (refusalNumber (check 0 (whileDo 0 yes-constant (assign 1 fiveSeven twelve)) end)) 10
     -- g: 5.7 optional, read: 7
     (row rowG ℕ (refusalNumber (withRow 0 (expressionType (fiveVoid false) (valueAt fiveSeven)))) 7
-    -- h: int 2147483647 + 1 = -2147483648; -2147483648 negated is itself
-    (row rowH Operator.Answer
-    (addOf (ofInt (pos 2147483647)) (ofInt (pos 1))) (Operator.gives (ofInt (negsuc 2147483647)))
-    (row rowH Operator.Answer (negateOf (ofInt (negsuc 2147483647))) (Operator.gives (ofInt (negsuc 2147483647)))
+    -- h, by 02 "two refusals": int 2147483647 + 1, and -2147483648 negated, are outside int
+    (row rowH Operator.Answer (addOf (ofInt (pos 2147483647)) (ofInt (pos 1))) (Operator.outside int)
+    (row rowH Operator.Answer (negateOf (ofInt (negsuc 2147483647))) (Operator.outside int)
     -- i: 0.1 + 0.2 has bits 3FD3333333333334
     (row rowI Operator.Answer (sumOfDoubles 0x3FB999999999999A 0x3FC999999999999A) (doubleBits 0x3FD3333333333334)
     lastRow))))))))))
@@ -98,5 +97,5 @@ table =
 -- Every row of the table holds.
 pub all-rows-hold : TableHolds table
 unfolding TableHolds table areSubtypes check expressionType sameTypes next firmSteps firmAboveSteps find set measure readSteps writeSteps
-    addOf negateOf littleEndian unsignedOf pattern modulo add ofBits toBits ofFields sum round size units odd span climb trailingZeros
+    addOf negateOf littleEndian unsignedOf inWidth add ofBits toBits ofFields sum round size units odd span climb trailingZeros
 all-rows-hold = (refl, (refl, (refl, (refl, (refl, (refl, (refl, (refl, (refl, (refl, (refl, tt)))))))))))

@@ -1,20 +1,21 @@
 -- Signed arithmetic by natural numbers, at any width: an integer is its positive part P less its negative part N, and what a sum is, how
 -- two numbers compare and whether a number fits a width are linear facts of the parts. Assumes nothing.
-use Prim.Native.Nat.{ℕ, zero, suc, _+_, _-_, _%_, _^_, _<_, _≤_}
-use native.Mathlib.Nat.{mod-eq-of-lt, add-mod-right}
+use Prim.Native.Nat.{ℕ, zero, suc, _+_, _-_, _^_, _<_, _≤_}
 use native.Mathlib.Omega.{arith}
 use mathlib.Core.Path.{_≡_, refl, sym, ap, _∙_}
 use mathlib.Core.Bool.{Bool, true, false, cond}
 use lib.IntN.{ℤ, pos, negsuc, negℤ, _+ℤ_, _-ℤ_, subℕ, +ℤ-idl}
 use lib.Signed.{ltZ, leZ}
 use lib.Dec.{ltb}
-use borrow.Author.Tests.{ltb-true, ltb-false, lt-ltb, leb-true, le-leb}
-use mir.Syntax.{Width}
-use mir.Val.{bits, hbits, toZ, ofZ, SFits}
-use mir.ValLaws.{toZ-pos, toZ-neg, toZ-ofZ, pow-bits}
+use borrow.Author.Tests.{ltb-true, ltb-false, le-ltb, leb-true, le-leb}
+use mir.Syntax.{Width, w32, w64}
+use mir.Val.{hbits, toZ, ofZ, SFits}
+use mir.ValLaws.{toZ-ofZ}
 use Rattle.basics.specs.TestLaws.{agree}
-use Rattle.integer.specs.Wrap.{modulo, pattern, wrap, inWidth, wrappedOnce}
-use Rattle.integer.specs.WrapLaws.{wrap-exact}
+use Rattle.integer.specs.declared.IntSum.{IntSum}
+use Rattle.integer.specs.declared.LongSum.{LongSum}
+use Rattle.integer.specs.Range.{inWidth, intSum, longSum}
+use Rattle.integer.specs.RangeLaws.{width-fits, fits-width}
 
 abbrev pub P : ℤ → ℕ
 P (pos n) = n
@@ -72,10 +73,6 @@ pub natural : (a : ℤ) → ltZ a (pos 0) ≡ false → N a ≡ 0
 natural (pos a) e = refl
 natural (negsuc a) e = let z : _≡_ {A = ℕ} 0 1 = cc in absurd (omega arith)
 
--- x is k modulo n, for a k below n
-once-over : (n x k : ℕ) → k < n → x ≡ k + n → x % n ≡ k
-once-over n x k h e = rw e (add-mod-right k n ∙ mod-eq-of-lt h)
-
 module _ (w : Width) where
   abbrev pub least : ℤ
   least = negsuc (2 ^ hbits w - 1)
@@ -91,14 +88,6 @@ module _ (w : Width) where
   within (pos n) h k = record { sfits = omega arith }
   within (negsuc n) h k = record { sfits = omega arith }
 
-  pub fits-true : (z : ℤ) → inWidth w z ≡ true → SFits w z
-  unfolding inWidth
-  fits-true z e = record { sfits = ltb-true _ _ e }
-
-  pub is-fit : (z : ℤ) → SFits w z → inWidth w z ≡ true
-  unfolding inWidth
-  is-fit z f = lt-ltb _ _ (f .sfits)
-
   -- ---- does a + d fit? For d not negative a is at most greatest - d, for d not positive least - d is at most a.
 
   module _ (a d e : ℤ) (fa : SFits w a) (o : P e ≡ N d) (q : N e ≡ P d) where
@@ -109,8 +98,8 @@ module _ (w : Width) where
     below n h =
         let p = bounds a fa in
         agree _ _
-        (λ t. is-fit (a +ℤ d) (within (a +ℤ d) (omega (arith, at-most a (greatest +ℤ e) t, sum greatest e, sum a d)) (omega (arith, at-most a (greatest +ℤ e) t, sum greatest e, sum a d))))
-        (λ t. is-at-most a (greatest +ℤ e) (omega (arith, bounds (a +ℤ d) (fits-true (a +ℤ d) t), sum greatest e, sum a d)))
+        (λ t. fits-width w (a +ℤ d) (within (a +ℤ d) (omega (arith, at-most a (greatest +ℤ e) t, sum greatest e, sum a d)) (omega (arith, at-most a (greatest +ℤ e) t, sum greatest e, sum a d))))
+        (λ t. is-at-most a (greatest +ℤ e) (omega (arith, bounds (a +ℤ d) (width-fits w (a +ℤ d) t), sum greatest e, sum a d)))
 
     pub above-fits : P d ≡ 0 → N d ≤ 2 ^ hbits w → SFits w (least +ℤ e)
     above-fits n h = let p = bounds a fa in within _ (omega (arith, sum least e)) (omega (arith, sum least e))
@@ -119,106 +108,8 @@ module _ (w : Width) where
     above n h =
         let p = bounds a fa in
         agree _ _
-        (λ t. is-fit (a +ℤ d) (within (a +ℤ d) (omega (arith, at-most (least +ℤ e) a t, sum least e, sum a d)) (omega (arith, at-most (least +ℤ e) a t, sum least e, sum a d))))
-        (λ t. is-at-most (least +ℤ e) a (omega (arith, bounds (a +ℤ d) (fits-true (a +ℤ d) t), sum least e, sum a d)))
-
-  -- ---- what does not fit wraps by the whole range
-
-  pub record Wraps (z y : ℤ) : Type 0 where
-    pub fit : SFits w y
-    pub is : wrap w z ≡ y
-
-  pub exact : (z : ℤ) → inWidth w z ≡ true → Wraps z z
-  exact z e = record { fit = fits-true z e; is = wrap-exact w z (fits-true z e) }
-
-  -- from above: y is z less the range
-  pub wraps-down : (z y : ℤ) → SFits w y → P z + N y ≡ P y + N z + 2 ^ bits w → Wraps z y
-  unfolding wrap pattern modulo
-  wraps-down (pos k) (pos n) f e = record {
-    fit = f;
-    is = ap (toZ w) (once-over (2 ^ bits w) k n (omega (arith, f .sfits, pow-bits w)) (omega arith)) ∙ toZ-pos w n (f .sfits);
-  }
-  wraps-down (pos k) (negsuc n) f e =
-      let q : k ≡ 2 ^ bits w - suc n = omega arith in
-      record { fit = f; is = ap (toZ w) (mod-eq-of-lt (omega (arith, f .sfits, pow-bits w)) ∙ q) ∙ toZ-neg w n (f .sfits) }
-  wraps-down (negsuc k) (pos n) f e = absurd (omega arith)
-  wraps-down (negsuc k) (negsuc n) f e = absurd (omega (arith, f .sfits, pow-bits w))
-
-  -- from below: y is z and the range
-  pub wraps-up : (z y : ℤ) → SFits w y → P z + N y + 2 ^ bits w ≡ P y + N z → Wraps z y
-  unfolding wrap pattern modulo
-  wraps-up (negsuc k) (pos n) f e =
-      let l : k < 2 ^ bits w = omega arith in
-      let q : 2 ^ bits w - suc k ≡ n = omega arith in
-      record { fit = f; is = ap (λ (m : ℕ). toZ w (2 ^ bits w - suc m)) (mod-eq-of-lt l) ∙ ap (toZ w) q ∙ toZ-pos w n (f .sfits) }
-  wraps-up (negsuc k) (negsuc n) f e = record {
-    fit = f;
-    is =
-        ap (λ (m : ℕ). toZ w (2 ^ bits w - suc m)) (once-over (2 ^ bits w) k n (omega (arith, f .sfits, pow-bits w)) (omega arith))
-        ∙ toZ-neg w n (f .sfits);
-  }
-  wraps-up (pos k) (pos n) f e = absurd (omega (arith, f .sfits, pow-bits w))
-  wraps-up (pos k) (negsuc n) f e = absurd (omega arith)
-
-  -- ---- a number moved to the other sign
-
-  pub moved-fits : (x : ℤ) → SFits w x → SFits w (wrappedOnce w x)
-  unfolding wrappedOnce
-  moved-fits (pos n) f = record { sfits = omega (arith, f .sfits) }
-  moved-fits (negsuc n) f = record { sfits = omega (arith, f .sfits) }
-
-  pub moved-down : (x : ℤ) → SFits w x → N x ≡ 0 → x +ℤ least ≡ wrappedOnce w x
-  unfolding wrappedOnce
-  moved-down (pos n) f h = same _ _ (omega (arith, f .sfits, sum (pos n) least))
-  moved-down (negsuc n) f h = absurd (omega arith)
-
-  pub moved-up : (x : ℤ) → SFits w x → P x ≡ 0 → 0 < N x → x -ℤ least ≡ wrappedOnce w x
-  unfolding wrappedOnce
-  moved-up (pos n) f h k = absurd (omega arith)
-  moved-up (negsuc n) f h k = same _ _ (omega (arith, f .sfits, sum (negsuc n) (negℤ least)))
-
-  unfit : (z : ℤ) → SFits w z → inWidth w z ≡ false → ⊥
-  unfit z f e = let z : _≡_ {A = ℕ} 0 1 = cc (is-fit z f) in omega arith
-
-  -- The law of `int_add` and `long_add` where the sum does not fit.
-  pub sum-wraps : (a b : ℤ) → SFits w a → SFits w b → inWidth w (a +ℤ b) ≡ false → Wraps (a +ℤ b) (wrappedOnce w a +ℤ wrappedOnce w b)
-  unfolding inWidth wrappedOnce
-  sum-wraps (pos m) (pos n) fa fb e =
-      let h = ltb-false (m + n) (2 ^ hbits w) e in
-      wraps-down _ _ (record { sfits = omega (arith, fa .sfits, fb .sfits) }) (omega (arith, fa .sfits, fb .sfits, pow-bits w))
-  sum-wraps (negsuc m) (negsuc n) fa fb e =
-      let h = ltb-false (suc (m + n)) (2 ^ hbits w) e in
-      wraps-up _ _ (record { sfits = omega (arith, fa .sfits, fb .sfits) }) (omega (arith, fa .sfits, fb .sfits, pow-bits w))
-  sum-wraps (pos m) (negsuc n) fa fb e =
-      let k = sum (pos m) (negsuc n) in
-      absurd (unfit (pos m +ℤ negsuc n) (within (pos m +ℤ negsuc n) (omega (arith, fa .sfits, fb .sfits)) (omega (arith, fa .sfits, fb .sfits))) e)
-  sum-wraps (negsuc m) (pos n) fa fb e =
-      let k = sum (negsuc m) (pos n) in
-      absurd (unfit (negsuc m +ℤ pos n) (within (negsuc m +ℤ pos n) (omega (arith, fa .sfits, fb .sfits)) (omega (arith, fa .sfits, fb .sfits))) e)
-
-  -- The law of `int_subtract` and `long_subtract` where the difference does not fit.
-  pub difference-wraps : (a b : ℤ) → SFits w a → SFits w b → inWidth w (a -ℤ b) ≡ false → Wraps (a -ℤ b) (wrappedOnce w a -ℤ wrappedOnce w b)
-  unfolding inWidth wrappedOnce
-  difference-wraps (pos m) (negsuc n) fa fb e =
-      let h = ltb-false (m + suc n) (2 ^ hbits w) e in
-      let k = sum (negsuc (2 ^ hbits w - suc m)) (negℤ (pos (2 ^ hbits w - suc n))) in
-      let o = opposite (pos (2 ^ hbits w - suc n)) in
-      let f : SFits w (wrappedOnce w (pos m) -ℤ wrappedOnce w (negsuc n)) = within _ (omega (arith, fa .sfits, fb .sfits)) (omega (arith, fa .sfits, fb .sfits)) in
-      wraps-down _ _ f (omega (arith, fa .sfits, fb .sfits, pow-bits w))
-  difference-wraps (negsuc m) (pos (suc n)) fa fb e =
-      let h = ltb-false (suc (m + n)) (2 ^ hbits w) e in
-      let f : SFits w (wrappedOnce w (negsuc m) -ℤ wrappedOnce w (pos (suc n))) = record { sfits = omega (arith, fa .sfits, fb .sfits) } in
-      wraps-up _ _ f (omega (arith, fa .sfits, fb .sfits, pow-bits w))
-  difference-wraps (pos m) (pos n) fa fb e =
-      let k = sum (pos m) (negℤ (pos n)) in
-      let o = opposite (pos n) in
-      absurd (unfit (pos m -ℤ pos n) (within (pos m -ℤ pos n) (omega (arith, fa .sfits, fb .sfits)) (omega (arith, fa .sfits, fb .sfits))) e)
-  difference-wraps (negsuc m) (pos zero) fa fb e =
-      let k = sum (negsuc m) (pos zero) in
-      absurd (unfit (negsuc m -ℤ pos zero) (within (negsuc m -ℤ pos zero) (omega (arith, fa .sfits)) (omega (arith, fa .sfits))) e)
-  difference-wraps (negsuc m) (negsuc n) fa fb e =
-      let k = sum (negsuc m) (pos (suc n)) in
-      absurd (unfit (negsuc m -ℤ negsuc n) (within (negsuc m -ℤ negsuc n) (omega (arith, fa .sfits, fb .sfits)) (omega (arith, fa .sfits, fb .sfits))) e)
+        (λ t. fits-width w (a +ℤ d) (within (a +ℤ d) (omega (arith, at-most (least +ℤ e) a t, sum least e, sum a d)) (omega (arith, at-most (least +ℤ e) a t, sum least e, sum a d))))
+        (λ t. is-at-most (least +ℤ e) a (omega (arith, bounds (a +ℤ d) (width-fits w (a +ℤ d) t), sum least e, sum a d)))
 
   -- ---- opposites: only the least number's does not fit
 
@@ -227,21 +118,24 @@ module _ (w : Width) where
   opposite-fits (pos (suc n)) f e = record { sfits = omega (arith, f .sfits) }
   opposite-fits (negsuc n) f e = record { sfits = omega (arith, f .sfits, ltb-true n (2 ^ hbits w - 1) e) }
 
-  pub opposite-wraps : (a : ℤ) → SFits w a → ltZ least a ≡ false → Wraps (negℤ a) a
-  opposite-wraps (pos n) f e = let z : _≡_ {A = ℕ} 0 1 = cc in absurd (omega arith)
-  opposite-wraps (negsuc n) f e = wraps-down _ _ f (omega (arith, f .sfits, ltb-false n (2 ^ hbits w - 1) e, pow-bits w))
+  pub opposite-outside : (a : ℤ) → SFits w a → ltZ least a ≡ false → inWidth w (negℤ a) ≡ false
+  unfolding inWidth
+  opposite-outside (pos n) f e = let z : _≡_ {A = ℕ} 0 1 = cc in absurd (omega arith)
+  opposite-outside (negsuc n) f e = le-ltb (suc n) (2 ^ hbits w) (omega (arith, ltb-false n (2 ^ hbits w - 1) e))
 
   -- ---- the same of numbers as the code stores and reads them: by their patterns
 
   abbrev pub stored : ℤ → ℤ
   stored z = toZ w (ofZ w z)
 
-  -- An operation's code gives x, which fits, and is z wrapped.
-  abbrev pub Stored : ℤ → ℤ → Type 0
-  Stored z x = SFits w x × (stored x ≡ wrap w z)
+  -- The exact result z is in the width, and x is what the code stores of it.
+  pub record Stored (z x : ℤ) : Type 0 where
+    pub fit : SFits w x
+    pub is : stored x ≡ z
+    pub inside : inWidth w z ≡ true
 
-  stored-so : (z : ℤ) {y x : ℤ} → Wraps z y → x ≡ y → Stored z x
-  stored-so z {y} {x} h e = let f : SFits w x = rw e (h .fit) in (f, toZ-ofZ w x f ∙ e ∙ sym (h .is))
+  stored-so : (z : ℤ) {x : ℤ} → SFits w z → x ≡ z → Stored z x
+  stored-so z {x} f e = let k : SFits w x = rw e f in record { fit = k; is = toZ-ofZ w x k ∙ e; inside = fits-width w z f }
 
   module _ (a b : ℤ) (fa : SFits w a) (fb : SFits w b) where
     pub negative-sum : ltZ (stored b) (pos 0) ≡ true → SFits w (least -ℤ stored b) × (leZ (stored (least -ℤ stored b)) (stored a) ≡ inWidth w (a +ℤ b))
@@ -272,46 +166,46 @@ module _ (w : Width) where
         let f = above-fits a (negℤ b) b fa (sym (opposite b .1)) (sym (opposite b .0)) n h in
         rw (toZ-ofZ w a fa, toZ-ofZ w b fb, toZ-ofZ w (least +ℤ b) f) (f, above a (negℤ b) b fa (sym (opposite b .1)) (sym (opposite b .0)) n h)
 
-    pub sum-exact : {t : Bool} → t ≡ inWidth w (stored a +ℤ stored b) → t ≡ true → Stored (a +ℤ b) (stored a +ℤ stored b)
-    sum-exact e t =
-        let s : stored a +ℤ stored b ≡ a +ℤ b = rw (toZ-ofZ w a fa, toZ-ofZ w b fb) refl in
-        stored-so (a +ℤ b) (exact (a +ℤ b) (ap (inWidth w) (sym s) ∙ sym e ∙ t)) s
+    stored-sum : stored a +ℤ stored b ≡ a +ℤ b
+    stored-sum = rw (toZ-ofZ w a fa, toZ-ofZ w b fb) refl
 
-    pub sum-past : {t : Bool} {x y : ℤ} → t ≡ inWidth w (stored a +ℤ stored b) → t ≡ false → SFits w x → SFits w y
-        → x ≡ wrappedOnce w (stored a) → y ≡ wrappedOnce w (stored b) → Stored (a +ℤ b) (stored x +ℤ stored y)
-    sum-past {x = x} {y = y} e t fx fy p q =
-        let s : stored a +ℤ stored b ≡ a +ℤ b = rw (toZ-ofZ w a fa, toZ-ofZ w b fb) refl in
-        let m : stored x +ℤ stored y ≡ wrappedOnce w a +ℤ wrappedOnce w b = rw (toZ-ofZ w x fx, toZ-ofZ w y fy, p, q, toZ-ofZ w a fa, toZ-ofZ w b fb) refl in
-        stored-so (a +ℤ b) (sum-wraps a b fa fb (ap (inWidth w) (sym s) ∙ sym e ∙ t)) m
+    stored-difference : stored a -ℤ stored b ≡ a -ℤ b
+    stored-difference = rw (toZ-ofZ w a fa, toZ-ofZ w b fb) refl
+
+    pub sum-exact : {t : Bool} → t ≡ inWidth w (stored a +ℤ stored b) → t ≡ true → Stored (a +ℤ b) (stored a +ℤ stored b)
+    sum-exact e t = stored-so (a +ℤ b) (width-fits w (a +ℤ b) (ap (inWidth w) (sym stored-sum) ∙ sym e ∙ t)) stored-sum
+
+    pub sum-outside : {t : Bool} → t ≡ inWidth w (stored a +ℤ stored b) → t ≡ false → inWidth w (a +ℤ b) ≡ false
+    sum-outside e t = ap (inWidth w) (sym stored-sum) ∙ sym e ∙ t
 
     pub difference-exact : {t : Bool} → t ≡ inWidth w (stored a -ℤ stored b) → t ≡ true → Stored (a -ℤ b) (stored a -ℤ stored b)
-    difference-exact e t =
-        let s : stored a -ℤ stored b ≡ a -ℤ b = rw (toZ-ofZ w a fa, toZ-ofZ w b fb) refl in
-        stored-so (a -ℤ b) (exact (a -ℤ b) (ap (inWidth w) (sym s) ∙ sym e ∙ t)) s
+    difference-exact e t = stored-so (a -ℤ b) (width-fits w (a -ℤ b) (ap (inWidth w) (sym stored-difference) ∙ sym e ∙ t)) stored-difference
 
-    pub difference-past : {t : Bool} {x y : ℤ} → t ≡ inWidth w (stored a -ℤ stored b) → t ≡ false → SFits w x → SFits w y
-        → x ≡ wrappedOnce w (stored a) → y ≡ wrappedOnce w (stored b) → Stored (a -ℤ b) (stored x -ℤ stored y)
-    difference-past {x = x} {y = y} e t fx fy p q =
-        let s : stored a -ℤ stored b ≡ a -ℤ b = rw (toZ-ofZ w a fa, toZ-ofZ w b fb) refl in
-        let m : stored x -ℤ stored y ≡ wrappedOnce w a -ℤ wrappedOnce w b = rw (toZ-ofZ w x fx, toZ-ofZ w y fy, p, q, toZ-ofZ w a fa, toZ-ofZ w b fb) refl in
-        stored-so (a -ℤ b) (difference-wraps a b fa fb (ap (inWidth w) (sym s) ∙ sym e ∙ t)) m
+    pub difference-outside : {t : Bool} → t ≡ inWidth w (stored a -ℤ stored b) → t ≡ false → inWidth w (a -ℤ b) ≡ false
+    difference-outside e t = ap (inWidth w) (sym stored-difference) ∙ sym e ∙ t
 
   module _ (x : ℤ) (f : SFits w x) where
-    pub moved-negative : ltZ (stored x) (pos 0) ≡ true → SFits w (stored x -ℤ least) × (stored (stored x -ℤ least) ≡ wrappedOnce w x)
-    moved-negative t =
-        let n = negative x (rw (toZ-ofZ w x f) at t) in
-        rw (toZ-ofZ w x f, moved-up x f (n .0) (n .1), toZ-ofZ w (wrappedOnce w x) (moved-fits x f)) (moved-fits x f, refl)
-
-    pub moved-natural : ltZ (stored x) (pos 0) ≡ false → SFits w (stored x +ℤ least) × (stored (stored x +ℤ least) ≡ wrappedOnce w x)
-    moved-natural t =
-        let n = natural x (rw (toZ-ofZ w x f) at t) in
-        rw (toZ-ofZ w x f, moved-down x f n, toZ-ofZ w (wrappedOnce w x) (moved-fits x f)) (moved-fits x f, refl)
-
     pub opposite-exact : ltZ least (stored x) ≡ true → Stored (negℤ x) (pos 0 -ℤ stored x)
     opposite-exact t =
-        let k = exact (negℤ x) (is-fit (negℤ x) (opposite-fits x f (rw (toZ-ofZ w x f) at t))) in
-        let e : pos 0 -ℤ stored x ≡ negℤ x = rw (toZ-ofZ w x f) (+ℤ-idl (negℤ x)) in
-        stored-so (negℤ x) k e
+        stored-so (negℤ x) (opposite-fits x f (rw (toZ-ofZ w x f) at t)) (rw (toZ-ofZ w x f) (+ℤ-idl (negℤ x)))
 
-    pub opposite-least : ltZ least (stored x) ≡ false → stored x ≡ wrap w (negℤ x)
-    opposite-least t = stored-so (negℤ x) (opposite-wraps x f (rw (toZ-ofZ w x f) at t)) refl .1
+    pub opposite-past : ltZ least (stored x) ≡ false → inWidth w (negℤ x) ≡ false
+    opposite-past t = opposite-outside x f (rw (toZ-ofZ w x f) at t)
+
+-- ---- what the operations answer
+
+pub int-exact : (z : ℤ) {x : ℤ} → Stored w32 z x → IntSum.Exact (stored w32 x) ≡ intSum z
+unfolding intSum
+int-exact z h = rw (h .inside, h .is) refl
+
+pub int-outside : (z : ℤ) → inWidth w32 z ≡ false → IntSum.Outside ≡ intSum z
+unfolding intSum
+int-outside z e = rw e refl
+
+pub long-exact : (z : ℤ) {x : ℤ} → Stored w64 z x → LongSum.Exact (stored w64 x) ≡ longSum z
+unfolding longSum
+long-exact z h = rw (h .inside, h .is) refl
+
+pub long-outside : (z : ℤ) → inWidth w64 z ≡ false → LongSum.Outside ≡ longSum z
+unfolding longSum
+long-outside z e = rw e refl

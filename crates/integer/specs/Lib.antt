@@ -1,2 +1,2 @@
-pub mod Wrap
-pub mod WrapLaws
+pub mod Range
+pub mod RangeLaws

@@ -1,9 +1,21 @@
-// Signed 32-bit and 64-bit numbers, their two's complement patterns, and arithmetic that wraps at the width.
+// Signed 32-bit and 64-bit numbers, their two's complement patterns, and arithmetic that is exact or leaves the width.
 ghost use mathlib.Core.Path.{_≡_};
 ghost use mir.Syntax.{w32, w64};
 ghost use mir.Val.{toZ, ofZ};
 ghost use lib.IntN.{_+ℤ_, _-ℤ_, negℤ};
-ghost use Rattle.integer.specs.Wrap.{wrap, inWidth, wrappedOnce};
+ghost use Rattle.integer.specs.Range.{inWidth, intSum, longSum};
+
+// The exact result of an operation on ints; or that it is outside.
+pub enum IntSum {
+    Exact(i32),
+    Outside,
+}
+
+// The exact result of an operation on longs; or that it is outside.
+pub enum LongSum {
+    Exact(i64),
+    Outside,
+}
 
 // The number whose pattern is n. A cast must fit, so the upper half goes through -1 - x.
 pub fn int_of(n: u32) -> i32
@@ -49,44 +61,35 @@ fn int_difference_fits(a: i32, b: i32) -> bool
     }
 }
 
-// x moved by half the range of the width, to the other sign.
-fn int_moved(x: i32) -> i32
-    ensures { λ r. ⌜ r ≡ wrappedOnce w32 x ⌝ }
-{
-    if x < 0 {
-        x - -2147483648
-    } else {
-        x + -2147483648
-    }
-}
-
-// A sum that does not fit is of two numbers of one sign, and wraps by the whole range.
-pub fn int_add(a: i32, b: i32) -> i32
-    ensures { λ r. ⌜ r ≡ wrap w32 (a +ℤ b) ⌝ }
+pub fn int_add(a: i32, b: i32) -> IntSum
+    ensures { λ r. ⌜ r ≡ intSum (a +ℤ b) ⌝ }
 {
     if int_sum_fits(a, b) {
-        return a + b;
+        let sum = a + b;
+        return IntSum::Exact(sum);
     }
-    int_moved(a) + int_moved(b)
+    IntSum::Outside
 }
 
-pub fn int_subtract(a: i32, b: i32) -> i32
-    ensures { λ r. ⌜ r ≡ wrap w32 (a -ℤ b) ⌝ }
+pub fn int_subtract(a: i32, b: i32) -> IntSum
+    ensures { λ r. ⌜ r ≡ intSum (a -ℤ b) ⌝ }
 {
     if int_difference_fits(a, b) {
-        return a - b;
+        let difference = a - b;
+        return IntSum::Exact(difference);
     }
-    int_moved(a) - int_moved(b)
+    IntSum::Outside
 }
 
-// The least number's opposite does not fit, and wraps to the least number.
-pub fn int_negate(a: i32) -> i32
-    ensures { λ r. ⌜ r ≡ wrap w32 (negℤ a) ⌝ }
+// Of the least number alone the opposite is outside.
+pub fn int_negate(a: i32) -> IntSum
+    ensures { λ r. ⌜ r ≡ intSum (negℤ a) ⌝ }
 {
     if -2147483648 < a {
-        return -a;
+        let opposite = -a;
+        return IntSum::Exact(opposite);
     }
-    a
+    IntSum::Outside
 }
 
 // The number whose pattern is n.
@@ -133,42 +136,33 @@ fn long_difference_fits(a: i64, b: i64) -> bool
     }
 }
 
-// x moved by half the range of the width, to the other sign.
-fn long_moved(x: i64) -> i64
-    ensures { λ r. ⌜ r ≡ wrappedOnce w64 x ⌝ }
-{
-    if x < 0 {
-        x - -9223372036854775808
-    } else {
-        x + -9223372036854775808
-    }
-}
-
-// A sum that does not fit is of two numbers of one sign, and wraps by the whole range.
-pub fn long_add(a: i64, b: i64) -> i64
-    ensures { λ r. ⌜ r ≡ wrap w64 (a +ℤ b) ⌝ }
+pub fn long_add(a: i64, b: i64) -> LongSum
+    ensures { λ r. ⌜ r ≡ longSum (a +ℤ b) ⌝ }
 {
     if long_sum_fits(a, b) {
-        return a + b;
+        let sum = a + b;
+        return LongSum::Exact(sum);
     }
-    long_moved(a) + long_moved(b)
+    LongSum::Outside
 }
 
-pub fn long_subtract(a: i64, b: i64) -> i64
-    ensures { λ r. ⌜ r ≡ wrap w64 (a -ℤ b) ⌝ }
+pub fn long_subtract(a: i64, b: i64) -> LongSum
+    ensures { λ r. ⌜ r ≡ longSum (a -ℤ b) ⌝ }
 {
     if long_difference_fits(a, b) {
-        return a - b;
+        let difference = a - b;
+        return LongSum::Exact(difference);
     }
-    long_moved(a) - long_moved(b)
+    LongSum::Outside
 }
 
-// The least number's opposite does not fit, and wraps to the least number.
-pub fn long_negate(a: i64) -> i64
-    ensures { λ r. ⌜ r ≡ wrap w64 (negℤ a) ⌝ }
+// Of the least number alone the opposite is outside.
+pub fn long_negate(a: i64) -> LongSum
+    ensures { λ r. ⌜ r ≡ longSum (negℤ a) ⌝ }
 {
     if -9223372036854775808 < a {
-        return -a;
+        let opposite = -a;
+        return LongSum::Exact(opposite);
     }
-    a
+    LongSum::Outside
 }

@@ -9,13 +9,13 @@ use lib.Dec.{leb}
 use Rattle.wire.specs.Wire.{part}
 use Rattle.tree_forest.specs.Forest.{Forest, Tree, tree, Lookup}
 use Rattle.tree_forest.specs.Path.{Path, read}
-use Rattle.scalar.specs.Value.{Value, value, isValue}
+use Rattle.scalar.specs.Value.{Value, value, basicOf, isValue}
 use Rattle.basics.specs.Choice.{pick}
 use Rattle.basics.specs.TestLaws.{and-right}
 use Rattle.scalar.specs.Operator.{ofBool}
 use Rattle.scalar.specs.Scalar.{valueOf}
 use Rattle.scalar.specs.declared.Operand.{Operand}
-use Rattle.network_syntax.specs.Syntax.{Expression, constant, valueAt, presence, unary, binary}
+use Rattle.network_syntax.specs.Syntax.{MessageType, Unary, Binary, Expression, constant, valueAt, presence, unary, binary}
 use Rattle.tree.specs.Encode.{Encodes, empty, payload}
 use Rattle.tree_forest.specs.Limits.{sessionLevels, sessionNodes}
 use Rattle.tree.specs.EncodeLaws.{sized, got}
@@ -34,7 +34,11 @@ use Rattle.network_rows.specs.Readers.{pathIds}
 use Rattle.network_row_parts.specs.Parts.{unaryOf, binaryOf}
 use Rattle.network_row_parts.specs.declared.UnaryOperator.{UnaryOperator}
 use Rattle.network_row_parts.specs.declared.BinaryOperator.{BinaryOperator}
-use Rattle.move_rules.specs.Evaluation.{Evaluation, missing, wrongKind, given, leaf, found, applyUnary, applyBinary, onRoot, asLeaf, evaluate}
+use Rattle.move_rules.specs.Evaluation.{Evaluation, missing, wrongKind, beyond, given, leaf, found, applyUnary, applyBinary, byRule, onOperand}
+use Rattle.move_rules.specs.Evaluation.{unaryResult, binaryResult, asLeaf, evaluate}
+use Rattle.move_rules.specs.OperatorLaws.{withoutValue, unary-rule, binary-rule}
+use Rattle.check_typing.specs.Result.{Attempt, fails, yields}
+use Rattle.check_typing.specs.ExpressionTyping.{unaryType, binaryType}
 use Rattle.tree_forest.specs.Forest.{isPresent}
 use Rattle.network_row_parts.specs.PathLaws.{path-is, ids-path}
 use Rattle.move_evaluation.specs.declared.Source.{Source}
@@ -52,6 +56,7 @@ source-alone s (Source.At at) v w h = absurd h
 source-alone s Source.Alone v w h = ap asLeaf h
 source-alone s Source.Missing v w h = ap asLeaf h
 source-alone s Source.Wrong v w h = ap asLeaf h
+source-alone s Source.Outside v w h = ap asLeaf h
 
 stands-alone : (s : List ℕ) {x : Evaluated} {w : Evaluation Value} → Computes x w → StandsFor s x (asLeaf w)
 stands-alone s {x} {w} h = source-alone s (x .source) (x .root) w (h .gives)
@@ -125,17 +130,68 @@ module _ (file s : List ℕ) (p : ℕ) {ids : List ℕ} {y : Found} (d : ids ≡
 
 pub ruleset path-laws = (read-none, read-there, present-none, present-there)
 
--- ---- operands: their root values count
+-- ---- operands: their root values count, or their kinds
 
-root-of : (t : Tree Value) (f : Value → Evaluation Value) → onRoot (given t) f ≡ f (payload t)
-root-of (tree v k) f = refl
+root-of : (t : Tree Value) (g : ℕ → Evaluation Value) (f : Value → Evaluation Value) → onOperand (given t) g f ≡ f (payload t)
+root-of (tree v k) g f = refl
 
-source-root : (s : List ℕ) (k : Source) (v : Operand) (g : Evaluation (Tree Value)) (f : Value → Evaluation Value) → SourceOf s k v g
-    → onRoot g f ≡ onSource k (f (valueOf v))
-source-root s (Source.At at) v g f h = ap (λ (z : Evaluation (Tree Value)). onRoot z f) (h .is) ∙ root-of (h .there) f ∙ ap f (sym (h .value))
-source-root s Source.Alone v g f h = ap (λ (z : Evaluation (Tree Value)). onRoot z f) h
-source-root s Source.Missing v g f h = ap (λ (z : Evaluation (Tree Value)). onRoot z f) h
-source-root s Source.Wrong v g f h = ap (λ (z : Evaluation (Tree Value)). onRoot z f) h
+-- Where only the kind is known, g says what f gives without its value.
+source-operand : (s : List ℕ) (k : Source) (v : Operand) (x : Evaluation (Tree Value)) (g : ℕ → Evaluation Value) (f : Value → Evaluation Value)
+    → withoutValue (f (valueOf v)) ≡ g (basicOf (valueOf v)) → SourceOf s k v x → onOperand x g f ≡ onSource k (f (valueOf v))
+source-operand s (Source.At at) v x g f e h =
+    ap (λ (z : Evaluation (Tree Value)). onOperand z g f) (h .is) ∙ root-of (h .there) g f ∙ ap f (sym (h .value))
+source-operand s Source.Alone v x g f e h = ap (λ (z : Evaluation (Tree Value)). onOperand z g f) h
+source-operand s Source.Missing v x g f e h = ap (λ (z : Evaluation (Tree Value)). onOperand z g f) h
+source-operand s Source.Wrong v x g f e h = ap (λ (z : Evaluation (Tree Value)). onOperand z g f) h
+source-operand s Source.Outside v x g f e h = ap (λ (z : Evaluation (Tree Value)). onOperand z g f) h ∙ sym e
+
+without-twice : (w : Evaluation Value) → withoutValue (withoutValue w) ≡ withoutValue w
+without-twice missing = refl
+without-twice wrongKind = refl
+without-twice (beyond b) = refl
+without-twice (given v) = refl
+
+without-rule : (r : Attempt MessageType) → withoutValue (byRule r) ≡ byRule r
+without-rule (fails why) = refl
+without-rule (yields t) = refl
+
+without-source : (k : Source) (w : Evaluation Value) → withoutValue (onSource k w) ≡ onSource k (withoutValue w)
+without-source (Source.At at) w = refl
+without-source Source.Alone w = refl
+without-source Source.Missing w = refl
+without-source Source.Wrong w = refl
+without-source Source.Outside w = refl
+
+unary-stands : (s : List ℕ) (o : Unary) (x : Evaluated) (a : Evaluation (Tree Value)) → StandsFor s x a
+    → unaryResult o a ≡ onSource (x .source) (applyUnary o (valueOf (x .root)))
+unary-stands s o x a h =
+    source-operand s (x .source) (x .root) a (λ b. byRule (unaryType o b)) (applyUnary o) (unary-rule o (valueOf (x .root))) h
+
+module _ (s : List ℕ) (o : Binary) (x y : Evaluated) (a b : Evaluation (Tree Value)) (h : StandsFor s x a) (k : StandsFor s y b) where
+  abbrev v : Value
+  v = valueOf (x .root)
+
+  abbrev w : Value
+  w = valueOf (y .root)
+
+  -- The left operand's value is known, or its kind alone.
+  right-known : onOperand b (λ c. byRule (binaryType o (basicOf v) c)) (applyBinary o v) ≡ onSource (y .source) (applyBinary o v w)
+  right-known = source-operand s (y .source) (y .root) b (λ c. byRule (binaryType o (basicOf v) c)) (applyBinary o v) (binary-rule o v w) k
+
+  right-kind : onOperand b (λ c. byRule (binaryType o (basicOf v) c)) (λ u. byRule (binaryType o (basicOf v) (basicOf u)))
+      ≡ onSource (y .source) (byRule (binaryType o (basicOf v) (basicOf w)))
+  right-kind =
+      source-operand s (y .source) (y .root) b (λ c. byRule (binaryType o (basicOf v) c)) (λ u. byRule (binaryType o (basicOf v) (basicOf u)))
+      (without-rule (binaryType o (basicOf v) (basicOf w))) k
+
+  binary-stands : binaryResult o a b ≡ onSource (x .source) (onSource (y .source) (applyBinary o v w))
+  binary-stands =
+      source-operand s (x .source) (x .root) a
+      (λ d. onOperand b (λ c. byRule (binaryType o d c)) (λ u. byRule (binaryType o d (basicOf u))))
+      (λ u. onOperand b (λ c. byRule (binaryType o (basicOf u) c)) (applyBinary o u))
+      (ap withoutValue right-known ∙ (without-source (y .source) (applyBinary o v w)
+      ∙ (ap (onSource (y .source)) (binary-rule o v w) ∙ sym right-kind))) h
+      ∙ ap (onSource (x .source)) right-known
 
 -- ---- rows
 
@@ -174,7 +230,7 @@ unfolding evaluate unaryOn
 unary-evaluates file s r {y} {o} {a} {x} {z} m n h c = evaluates-as file s r (λ F g w l.
     let u = part-is file w r l m n in
     let i = u .1 in
-    let e = source-root s (x .source) (x .root) (evaluate F (expressionOf file a)) (applyUnary (unaryOf o)) (h .tells F g w (omega arith)) in
+    let e = unary-stands s (unaryOf o) x (evaluate F (expressionOf file a)) (h .tells F g w (omega arith)) in
     (unary (unaryOf o) (expressionOf file a), u .0, stands-as s z (ap asLeaf (sym e)) (stands-alone s c)))
 
 pub binary-evaluates : (file s : List ℕ) (r : ℕ) {y : Part} {o : BinaryOperator} {a b : ℕ} {x t z : Evaluated} → y ≡ expressionPart file r
@@ -184,11 +240,8 @@ binary-evaluates file s r {y} {o} {a} {b} {x} {t} {z} m n h k c = evaluates-as f
     let u = part-is file w r l m n in
     let i = u .1 in
     let j = u .2 in
-    let right : (v : Value) → Evaluation Value = λ v. onRoot (evaluate F (expressionOf file b)) (applyBinary (binaryOf o) v) in
-    let e = source-root s (x .source) (x .root) (evaluate F (expressionOf file a)) right (h .tells F g w (omega arith)) in
-    let d = source-root s (t .source) (t .root) (evaluate F (expressionOf file b)) (applyBinary (binaryOf o) (valueOf (x .root)))
+    let all = binary-stands s (binaryOf o) x t (evaluate F (expressionOf file a)) (evaluate F (expressionOf file b)) (h .tells F g w (omega arith))
     (k .tells F g w (omega arith)) in
-    let all = e ∙ ap (onSource (x .source)) d in
     (binary (binaryOf o) (expressionOf file a) (expressionOf file b), u .0, stands-as s z (ap asLeaf (sym all)) (stands-alone s c)))
 
 pub broken-evaluates : (file s : List ℕ) (r : ℕ) {y : Part} (x : Evaluated) → y ≡ expressionPart file r → y ≡ Part.Broken → Evaluates file s r x

@@ -2,14 +2,15 @@
 use Prim.Native.Nat.{ℕ, _+_, _-_, _≤_}
 use mathlib.Core.Path.{_≡_, refl, sym, _∙_, ap, subst}
 use mathlib.Core.List.{List, []}
-use mathlib.Core.Bool.{Bool, true, false, not}
+use mathlib.Core.Bool.{Bool, true, false, not, _&&_}
 use native.Mathlib.Omega.{arith}
 use lib.ListN.{length, take, drop, length-drop}
-use Rattle.basics.specs.TestLaws.{apart, told, true-false, untold}
+use Rattle.basics.specs.TestLaws.{and-of, apart, told, true-false, untold}
 use Rattle.wire.specs.Wire.{part}
-use Rattle.scalar.specs.Value.{Value, value, isValue}
+use Rattle.scalar.specs.Value.{Value, value, basicOf, isValue}
 use Rattle.scalar.specs.Operator.{notOf, negateOf, addOf, subtractOf, lessOf, equalOf, andOf}
-use Rattle.scalar.specs.Scalar.{valueOf, valueBeside, answerOf, truthOf}
+use Rattle.scalar.specs.Scalar.{valueOf, valueBeside, answerOf, kindOf, truthOf}
+use Rattle.scalar.specs.ScalarLaws.{basic-kind}
 use Rattle.scalar.specs.declared.Operand.{Operand}
 use Rattle.scalar.specs.declared.Scalar.{Scalar}
 use Rattle.scalar.specs.declared.Computed.{Computed}
@@ -18,13 +19,14 @@ use Rattle.network.specs.Layout.{D, start, dataPart}
 use Rattle.network_row_parts.specs.Parts.{unaryOf, binaryOf}
 use Rattle.network_row_parts.specs.declared.UnaryOperator.{UnaryOperator}
 use Rattle.network_row_parts.specs.declared.BinaryOperator.{BinaryOperator}
-use Rattle.move_rules.specs.Evaluation.{Evaluation, wrongKind, given, answered, applyUnary, applyBinary}
+use Rattle.move_rules.specs.Evaluation.{Evaluation, missing, wrongKind, beyond, given, answered, applyUnary, applyBinary}
+use Rattle.move_rules.specs.OperatorLaws.{withoutValue}
 use Rattle.scalar.specs.declared.Truth.{Truth}
 use Rattle.move_evaluation.specs.declared.Decision.{Decision}
 use Rattle.move_evaluation.specs.declared.Evaluated.{Evaluated}
 use Rattle.move_evaluation.specs.declared.Source.{Source}
-use Rattle.move_evaluation.specs.Condition.{decisionBy, decisionOf, conditionOf}
-use Rattle.move_evaluation.specs.Evaluated.{isGiven, onSource, literal, unaryOn, binaryOn, AloneAs, Computes}
+use Rattle.move_evaluation.specs.Condition.{decisionBy, withoutTruth, decisionOf, conditionOf}
+use Rattle.move_evaluation.specs.Evaluated.{isGiven, hasKind, onSource, literal, unaryOn, binaryOn, AloneAs, Computes}
 
 computes-as : {x : Evaluated} {v w : Evaluation Value} → v ≡ w → Computes x v → Computes x w
 computes-as {x} e h = subst (Computes x) e h
@@ -41,7 +43,36 @@ pub answer-gives : (v : Operand) {c : Computed} {y : Scalar} {x : Evaluated} →
 unfolding answerOf
 answer-gives v e f h = computes-as (ap given f ∙ sym (ap (λ (c : Computed). answered (answerOf c)) e)) h
 
-pub ruleset answer-laws = (value-alone, answer-wrong, answer-gives)
+-- The root beside a result outside its width has the scalar's kind.
+pub outside-kind : (v : Operand) (y : Scalar) → valueOf v ≡ valueBeside y [] → Computes (record { source = Source.Outside; root = v }) (beyond (kindOf y))
+outside-kind v y e = record { gives = ap beyond (sym (ap basicOf e ∙ basic-kind y [])) }
+
+pub answer-outside : {c : Computed} {y : Scalar} {x : Evaluated} → c ≡ Computed.Outside y → Computes x (beyond (kindOf y)) → Computes x (answered (answerOf c))
+unfolding answerOf
+answer-outside e h = computes-as (sym (ap (λ (c : Computed). answered (answerOf c)) e)) h
+
+pub ruleset answer-laws = (value-alone, outside-kind, answer-wrong, answer-outside, answer-gives)
+
+-- ---- an operator's answer without its value
+
+abbrev Kind : Computed → Evaluation Value
+Kind c = withoutValue (answered (answerOf c))
+
+pub kind-wrong : {c : Computed} {x : Evaluated} → c ≡ Computed.Wrong → Computes x wrongKind → Computes x (withoutValue (answered (answerOf c)))
+unfolding answerOf
+kind-wrong e h = computes-as (sym (ap Kind e)) h
+
+pub kind-outside : {c : Computed} {y : Scalar} {x : Evaluated} → c ≡ Computed.Outside y → Computes x (beyond (kindOf y))
+    → Computes x (withoutValue (answered (answerOf c)))
+unfolding answerOf
+kind-outside e h = computes-as (sym (ap Kind e)) h
+
+pub kind-gives : {c : Computed} {y : Scalar} {x : Evaluated} → c ≡ Computed.Gives y → Computes x (beyond (kindOf y))
+    → Computes x (withoutValue (answered (answerOf c)))
+unfolding answerOf
+kind-gives {y = y} e h = computes-as (sym (ap Kind e ∙ ap beyond (basic-kind y []))) h
+
+pub ruleset kind-laws = (kind-wrong, kind-outside, kind-gives)
 
 -- ---- operators on values
 
@@ -81,51 +112,104 @@ pub ruleset operator-laws = (not-applies, negate-applies, add-applies, subtract-
 
 -- ---- operators on what evaluation answers
 
--- Where nothing is given, the answer itself stays; else what follows counts.
-source-stays : (k : Source) (v : Operand) (w : Evaluation Value) → isGiven k ≡ false → AloneAs k v (onSource k w)
+-- Where no kind is known, the answer itself stays; of a value outside its width the kind counts; else what follows.
+source-stays : (k : Source) (v : Operand) (w : Evaluation Value) → hasKind k ≡ false → AloneAs k v (onSource k w)
 source-stays (Source.At at) v w e = true-false e
 source-stays Source.Alone v w e = true-false e
 source-stays Source.Missing v w e = refl
 source-stays Source.Wrong v w e = refl
+source-stays Source.Outside v w e = true-false e
 
 source-gives : (k : Source) (w : Evaluation Value) → isGiven k ≡ true → onSource k w ≡ w
 source-gives (Source.At at) w e = refl
 source-gives Source.Alone w e = refl
 source-gives Source.Missing w e = apart e
 source-gives Source.Wrong w e = apart e
+source-gives Source.Outside w e = apart e
 
-answer-stays : (x : Evaluated) (w : Evaluation Value) {t : Bool} → t ≡ isGiven (x .source) → not t ≡ true → Computes x (onSource (x .source) w)
+source-kind : (k : Source) (w : Evaluation Value) → isGiven k ≡ false → hasKind k ≡ true → onSource k w ≡ withoutValue w
+source-kind (Source.At at) w e f = true-false e
+source-kind Source.Alone w e f = true-false e
+source-kind Source.Missing w e f = apart f
+source-kind Source.Wrong w e f = apart f
+source-kind Source.Outside w e f = refl
+
+-- Without the value, a source of known kind counts for nothing more.
+kind-passes : (k : Source) (w : Evaluation Value) → hasKind k ≡ true → withoutValue (onSource k w) ≡ withoutValue w
+kind-passes (Source.At at) w e = refl
+kind-passes Source.Alone w e = refl
+kind-passes Source.Missing w e = apart e
+kind-passes Source.Wrong w e = apart e
+kind-passes Source.Outside missing e = refl
+kind-passes Source.Outside wrongKind e = refl
+kind-passes Source.Outside (beyond b) e = refl
+kind-passes Source.Outside (given v) e = refl
+
+-- A source of known kind lets the other's answer stay.
+kind-stays : (k j : Source) (w : Evaluation Value) → hasKind k ≡ true → hasKind j ≡ false → onSource k (onSource j w) ≡ onSource j w
+kind-stays (Source.At at) j w e f = refl
+kind-stays Source.Alone j w e f = refl
+kind-stays Source.Missing j w e f = apart e
+kind-stays Source.Wrong j w e f = apart e
+kind-stays Source.Outside (Source.At at) w e f = true-false f
+kind-stays Source.Outside Source.Alone w e f = true-false f
+kind-stays Source.Outside Source.Missing w e f = refl
+kind-stays Source.Outside Source.Wrong w e f = refl
+kind-stays Source.Outside Source.Outside w e f = true-false f
+
+-- Two sources of known kinds that are not both given.
+kinds-alone : (k j : Source) (w : Evaluation Value) → (isGiven k && isGiven j) ≡ false → hasKind k ≡ true → hasKind j ≡ true
+    → onSource k (onSource j w) ≡ withoutValue w
+kinds-alone (Source.At at) j w e f g = source-kind j w e g
+kinds-alone Source.Alone j w e f g = source-kind j w e g
+kinds-alone Source.Missing j w e f g = apart f
+kinds-alone Source.Wrong j w e f g = apart f
+kinds-alone Source.Outside j w e f g = kind-passes j w g
+
+answer-stays : (x : Evaluated) (w : Evaluation Value) {t : Bool} → t ≡ hasKind (x .source) → not t ≡ true → Computes x (onSource (x .source) w)
 answer-stays x w e f = record { gives = source-stays (x .source) (x .root) w (untold e f) }
 
-answer-follows : (x : Evaluated) (w : Evaluation Value) {t : Bool} → t ≡ isGiven (x .source) → not t ≡ false → onSource (x .source) w ≡ w
-answer-follows x w e f = source-gives (x .source) w (told e f)
-
 module _ (o : UnaryOperator) (x : Evaluated) {t : Bool} (e : t ≡ isGiven (x .source)) where
-  pub unary-stays : not t ≡ true → Computes x (unaryOn o x)
-  unfolding unaryOn
-  unary-stays f = answer-stays x _ e f
-
-  pub unary-gives : {z : Evaluated} (c : Computed) → not t ≡ false → answered (answerOf c) ≡ applyUnary (unaryOf o) (valueOf (x .root))
+  pub unary-gives : {z : Evaluated} (c : Computed) → t ≡ true → answered (answerOf c) ≡ applyUnary (unaryOf o) (valueOf (x .root))
       → Computes z (answered (answerOf c)) → Computes z (unaryOn o x)
   unfolding unaryOn
-  unary-gives c f g h = computes-as (g ∙ sym (answer-follows x _ e f)) h
+  unary-gives c f g h = computes-as (g ∙ sym (source-gives (x .source) _ (sym e ∙ f))) h
 
-module _ (o : BinaryOperator) (x y : Evaluated) {t : Bool} (e : t ≡ isGiven (x .source)) where
-  pub left-stays : not t ≡ true → Computes x (binaryOn o x y)
+  module _ {u : Bool} (f : t ≡ false) (d : u ≡ hasKind (x .source)) where
+    pub unary-stays : not u ≡ true → Computes x (unaryOn o x)
+    unfolding unaryOn
+    unary-stays g = answer-stays x _ d g
+
+    pub unary-kind : {z : Evaluated} (c : Computed) → not u ≡ false → answered (answerOf c) ≡ applyUnary (unaryOf o) (valueOf (x .root))
+        → Computes z (withoutValue (answered (answerOf c))) → Computes z (unaryOn o x)
+    unfolding unaryOn
+    unary-kind c q g h = computes-as (ap withoutValue g ∙ sym (source-kind (x .source) _ (sym e ∙ f) (told d q))) h
+
+module _ (o : BinaryOperator) (x y : Evaluated) {t : Bool} (e : t ≡ (isGiven (x .source) && isGiven (y .source))) where
+  pub binary-gives : {z : Evaluated} (c : Computed) → t ≡ true → answered (answerOf c) ≡ applyBinary (binaryOf o) (valueOf (x .root)) (valueOf (y .root))
+      → Computes z (answered (answerOf c)) → Computes z (binaryOn o x y)
   unfolding binaryOn
-  left-stays f = answer-stays x _ e f
+  binary-gives c f g h =
+      let b = and-of (isGiven (x .source)) (isGiven (y .source)) (sym e ∙ f) in
+      computes-as (g ∙ sym (source-gives (x .source) _ (b .0) ∙ source-gives (y .source) _ (b .1))) h
 
-  module _ {u : Bool} (g : not t ≡ false) (d : u ≡ isGiven (y .source)) where
-    pub right-stays : not u ≡ true → Computes y (binaryOn o x y)
+  module _ {u : Bool} (f : t ≡ false) (d : u ≡ hasKind (x .source)) where
+    pub left-stays : not u ≡ true → Computes x (binaryOn o x y)
     unfolding binaryOn
-    right-stays f = computes-as (sym (answer-follows x _ e g)) (answer-stays y _ d f)
+    left-stays g = answer-stays x _ d g
 
-    pub binary-gives : {z : Evaluated} (c : Computed) → not u ≡ false → answered (answerOf c) ≡ applyBinary (binaryOf o) (valueOf (x .root)) (valueOf (y .root))
-        → Computes z (answered (answerOf c)) → Computes z (binaryOn o x y)
-    unfolding binaryOn
-    binary-gives c f i h = computes-as (i ∙ sym (answer-follows x _ e g ∙ answer-follows y _ d f)) h
+    module _ {v : Bool} (g : not u ≡ false) (i : v ≡ hasKind (y .source)) where
+      pub right-stays : not v ≡ true → Computes y (binaryOn o x y)
+      unfolding binaryOn
+      right-stays j = computes-as (sym (kind-stays (x .source) (y .source) _ (told d g) (untold i j))) (answer-stays y _ i j)
 
-pub ruleset operand-laws = (unary-stays, unary-gives, left-stays, right-stays, binary-gives)
+      pub binary-kind : {z : Evaluated} (c : Computed) → not v ≡ false
+          → answered (answerOf c) ≡ applyBinary (binaryOf o) (valueOf (x .root)) (valueOf (y .root))
+          → Computes z (withoutValue (answered (answerOf c))) → Computes z (binaryOn o x y)
+      unfolding binaryOn
+      binary-kind c j k h = computes-as (ap withoutValue k ∙ sym (kinds-alone (x .source) (y .source) _ (sym e ∙ f) (told d g) (told i j))) h
+
+pub ruleset operand-laws = (unary-gives, unary-stays, unary-kind, binary-gives, left-stays, right-stays, binary-kind)
 
 -- ---- constants: the bytes of D, as far as there are so many
 
@@ -161,17 +245,6 @@ pub ruleset constant-laws = (from-inside, part-inside, constant-value, constant-
 
 -- ---- conditions
 
-pub decided-true : {t : Truth} → t ≡ Truth.True → Decision.True ≡ decisionBy t
-decided-true e = ap decisionBy (sym e)
-
-pub decided-false : {t : Truth} → t ≡ Truth.False → Decision.False ≡ decisionBy t
-decided-false e = ap decisionBy (sym e)
-
-pub decided-wrong : {t : Truth} → t ≡ Truth.Wrong → Decision.Wrong ≡ decisionBy t
-decided-wrong e = ap decisionBy (sym e)
-
-pub ruleset decided-laws = (decided-true, decided-false, decided-wrong)
-
 decides-as : (x : Evaluated) {k : Source} {d : Decision} → x .source ≡ k → d ≡ decisionOf k (truthOf (valueOf (x .root))) → d ≡ conditionOf x
 unfolding conditionOf
 decides-as x e f = f ∙ ap (λ (k : Source). decisionOf k (truthOf (valueOf (x .root)))) (sym e)
@@ -188,4 +261,8 @@ condition-missing x e = decides-as x e refl
 pub condition-wrong : (x : Evaluated) → x .source ≡ Source.Wrong → Decision.Wrong ≡ conditionOf x
 condition-wrong x e = decides-as x e refl
 
-pub ruleset condition-laws = (condition-at, condition-alone, condition-missing, condition-wrong)
+pub condition-outside : (x : Evaluated) {t : Truth} {d : Decision} → x .source ≡ Source.Outside → t ≡ truthOf (valueOf (x .root)) → d ≡ withoutTruth t
+    → d ≡ conditionOf x
+condition-outside x e f g = decides-as x e (g ∙ ap withoutTruth f)
+
+pub ruleset condition-laws = (condition-at, condition-alone, condition-missing, condition-wrong, condition-outside)

@@ -133,6 +133,9 @@ module _ (s : List ℕ) (x : Evaluated) {o : List ℕ} (l : 1024 ≤ length o) w
   pub source-wrong : x .source ≡ Source.Wrong → Writes s x o o Written.Wrong
   source-wrong e = record { inside = omega arith; rest = refl; tells = λ F f m h. stood s x e f h }
 
+  pub source-outside : x .source ≡ Source.Outside → Writes s x o o Written.Outside
+  source-outside e = record { inside = omega arith; rest = refl; tells = λ F f m h. (basicOf (valueOf (x .root)), stood s x e f h) }
+
 pub ruleset tree-laws = (tree-past, tree-before, tree-short, tree-long, tree-written)
 
-pub ruleset source-laws = (source-at, source-alone, source-missing, source-wrong)
+pub ruleset source-laws = (source-at, source-alone, source-missing, source-wrong, source-outside)

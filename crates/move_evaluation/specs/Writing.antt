@@ -12,7 +12,7 @@ use Rattle.tree.specs.Encode.{encode, rooted, empty, Proper, Encodes}
 use Rattle.tree_forest.specs.Limits.{sessionLevels, sessionNodes}
 use Rattle.tree.specs.Standing.{Root}
 use Rattle.tree_edit.specs.Wrote.{Wrote}
-use Rattle.move_rules.specs.Evaluation.{Evaluation, missing, wrongKind, given, leaf}
+use Rattle.move_rules.specs.Evaluation.{Evaluation, missing, wrongKind, beyond, given, leaf}
 use Rattle.move_evaluation.specs.declared.Evaluated.{Evaluated}
 use Rattle.move_evaluation.specs.declared.Written.{Written}
 use Rattle.move_evaluation.specs.Evaluated.{StandsFor}
@@ -33,11 +33,13 @@ abbrev pub WrittenAs : List ℕ → Written → Evaluation (Tree Value) → Type
 WrittenAs o (Written.Tree n) f = (t : Tree Value) × (f ≡ given t) × Encodes sessionLevels sessionNodes (take n o) t
 WrittenAs o Written.Missing f = f ≡ missing
 WrittenAs o Written.Wrong f = f ≡ wrongKind
+WrittenAs o Written.Outside f = (b : ℕ) × (f ≡ beyond b)
 
 abbrev pub bytesWritten : Written → ℕ
 bytesWritten (Written.Tree n) = n
 bytesWritten Written.Missing = 0
 bytesWritten Written.Wrong = 0
+bytesWritten Written.Outside = 0
 
 -- What x stands for in the session's tree F is written to the start of o′; the other bytes are as in o.
 pub record Writes (s : List ℕ) (x : Evaluated) (o o′ : List ℕ) (w : Written) : Type 0 where

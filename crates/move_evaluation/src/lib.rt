@@ -1,16 +1,18 @@
 // The value of an expression, given by its E row, in a session's tree. Operands are earlier rows: the row number falls, so the walk ends
 // on any bytes.
 ghost use mathlib.Core.Path.{_≡_};
+ghost use mathlib.Core.Bool.{_&&_};
 ghost use Prim.Native.Nat.{_≤_};
 ghost use lib.ListN.{length};
-ghost use Rattle.scalar.specs.Scalar.{answerOf, valueOf};
+ghost use Rattle.scalar.specs.Scalar.{answerOf, valueOf, kindOf};
 ghost use Rattle.scalar.specs.Operator.{ofBool};
 ghost use Rattle.network_row_parts.specs.Parts.{unaryOf, binaryOf};
-ghost use Rattle.move_rules.specs.Evaluation.{missing, wrongKind, given, answered, applyUnary, applyBinary};
+ghost use Rattle.move_rules.specs.Evaluation.{missing, wrongKind, beyond, given, answered, applyUnary, applyBinary};
+ghost use Rattle.move_rules.specs.OperatorLaws.{withoutValue};
 ghost use Rattle.network.specs.Layout.{dataPart};
-ghost use Rattle.move_evaluation.specs.Condition.{decisionBy, conditionOf};
+ghost use Rattle.move_evaluation.specs.Condition.{decisionBy, withoutTruth, conditionOf};
 ghost use Rattle.move_evaluation.specs.Writing.{WritesLeaf, WritesTree, Writes};
-ghost use Rattle.move_evaluation.specs.Evaluated.{isGiven, literal, unaryOn, binaryOn, Computes, StandsAt, Reads, Presents, Evaluates};
+ghost use Rattle.move_evaluation.specs.Evaluated.{isGiven, hasKind, literal, unaryOn, binaryOn, Computes, StandsAt, Reads, Presents, Evaluates};
 use network_row_parts::BinaryOperator;
 use network_row_parts::Part;
 use network_row_parts::UnaryOperator;
@@ -19,34 +21,39 @@ use scalar::Operand;
 use scalar::Scalar;
 use scalar::Truth;
 
-// Where the value of an expression is: a tree at a place of the session's tree, or a value alone. Or a value read is missing, or an operand
-// is of the wrong kind.
+// Where the value of an expression is: a tree at a place of the session's tree, or a value alone. Or a value read is missing, an operand is
+// of the wrong kind, or a result is outside its width.
 pub enum Source {
     At(usize),
     Alone,
     Missing,
     Wrong,
+    Outside,
 }
 
-// What evaluation answers: the source, and the root value beside it, which says nothing where no value is given.
+// What evaluation answers: the source, and the root value beside it. Of an outside one only the root's kind counts; where a value is missing
+// or an operand of the wrong kind, the root says nothing.
 pub struct Evaluated {
     pub source: Source,
     pub root: Operand,
 }
 
-// What a condition says; or a value read is missing, or an operand or the condition itself is of the wrong kind.
+// What a condition says; or a value read is missing, an operand or the condition itself is of the wrong kind, or a result is outside its
+// width.
 pub enum Decision {
     True,
     False,
     Missing,
     Wrong,
+    Outside,
 }
 
-// The length of a tree that was written; or a value read is missing, or an operand is of the wrong kind.
+// The length of a tree that was written; or a value read is missing, an operand is of the wrong kind, or a result is outside its width.
 pub enum Written {
     Tree(usize),
     Missing,
     Wrong,
+    Outside,
 }
 
 fn is_given(p: Source) -> bool
@@ -57,6 +64,29 @@ fn is_given(p: Source) -> bool
         Source::Alone => true,
         Source::Missing => false,
         Source::Wrong => false,
+        Source::Outside => false,
+    }
+}
+
+fn both_given(p: Source, q: Source) -> bool
+    ensures { λ t. ⌜ t ≡ (isGiven p && isGiven q) ⌝ }
+{
+    if is_given(p) {
+        return is_given(q);
+    }
+    false
+}
+
+// Is the value given, or is its kind known at least?
+fn has_kind(p: Source) -> bool
+    ensures { λ t. ⌜ t ≡ hasKind p ⌝ }
+{
+    match p {
+        Source::At(_) => true,
+        Source::Alone => true,
+        Source::Missing => false,
+        Source::Wrong => false,
+        Source::Outside => true,
     }
 }
 
@@ -91,6 +121,17 @@ fn alone(v: Operand) -> Evaluated
     }
 }
 
+// A result outside its width, of the scalar's kind.
+fn outside(x: Scalar) -> Evaluated
+    ensures { λ e. ⌜ Computes e (beyond (kindOf x)) ⌝ }
+{
+    let v = scalar::plain(x);
+    Evaluated {
+        source: Source::Outside,
+        root: v,
+    }
+}
+
 // Presence "gives bool".
 fn flag(p: bool) -> Evaluated
     ensures { λ x. ⌜ Computes x (given (ofBool p)) ⌝ }
@@ -104,7 +145,19 @@ fn computed(c: Computed) -> Evaluated
 {
     match c {
         Computed::Wrong => wrong(),
-        Computed::Gives(v) => alone(scalar::plain(v)),
+        Computed::Outside(x) => outside(x),
+        Computed::Gives(x) => alone(scalar::plain(x)),
+    }
+}
+
+// What an operator gives where an operand is outside its width: its kind alone.
+fn without_value(c: Computed) -> Evaluated
+    ensures { λ x. ⌜ Computes x (withoutValue (answered (answerOf c))) ⌝ }
+{
+    match c {
+        Computed::Wrong => wrong(),
+        Computed::Outside(x) => outside(x),
+        Computed::Gives(x) => outside(x),
     }
 }
 
@@ -129,19 +182,22 @@ fn binary_value(o: BinaryOperator, v: Operand, w: Operand) -> Computed
     }
 }
 
-// An operator on an operand's root value; where none is given, the answer stays.
+// An operator on an operand's root value. An operand outside its width has its kind, so the operator says whether that is the wrong one.
 fn unary(o: UnaryOperator, x: Evaluated) -> Evaluated
     ensures { λ z. ⌜ Computes z (unaryOn o x) ⌝ }
 {
     let p = x.source;
     let v = x.root;
-    if !is_given(p) {
+    if is_given(p) {
+        return computed(unary_value(o, v));
+    }
+    if !has_kind(p) {
         return x;
     }
-    computed(unary_value(o, v))
+    without_value(unary_value(o, v))
 }
 
-// The left operand's answer comes first, then the right one's, then the operator's.
+// Where a value is missing or a kind is wrong, the left operand's answer comes first, then the right one's, then the operator's.
 fn binary(o: BinaryOperator, x: Evaluated, y: Evaluated) -> Evaluated
     ensures { λ z. ⌜ Computes z (binaryOn o x y) ⌝ }
 {
@@ -149,13 +205,16 @@ fn binary(o: BinaryOperator, x: Evaluated, y: Evaluated) -> Evaluated
     let q = y.source;
     let v = x.root;
     let w = y.root;
-    if !is_given(p) {
+    if both_given(p, q) {
+        return computed(binary_value(o, v, w));
+    }
+    if !has_kind(p) {
         return x;
     }
-    if !is_given(q) {
+    if !has_kind(q) {
         return y;
     }
-    computed(binary_value(o, v, w))
+    without_value(binary_value(o, v, w))
 }
 
 // The constant of the basic type b in the n bytes of D from v on.
@@ -236,6 +295,17 @@ fn decided(t: Truth) -> Decision
     }
 }
 
+// The same of a value outside its width: 18 where it is no bool.
+fn undecided(t: Truth) -> Decision
+    ensures { λ d. ⌜ d ≡ withoutTruth t ⌝ }
+{
+    match t {
+        Truth::True => Decision::Outside,
+        Truth::False => Decision::Outside,
+        Truth::Wrong => Decision::Wrong,
+    }
+}
+
 // The condition of an if or a while: "as an operand its root value counts", and so here.
 pub fn condition(x: Evaluated) -> Decision
     ensures { λ c. ⌜ c ≡ conditionOf x ⌝ }
@@ -247,6 +317,7 @@ pub fn condition(x: Evaluated) -> Decision
         Source::Alone => decided(scalar::truth_of(v)),
         Source::Missing => Decision::Missing,
         Source::Wrong => Decision::Wrong,
+        Source::Outside => undecided(scalar::truth_of(v)),
     }
 }
 
@@ -297,5 +368,6 @@ pub fn write_value(out: &mut [u8], s: &[u8], x: Evaluated) -> Written
         Source::Alone => Written::Tree(write_leaf(out, v)),
         Source::Missing => Written::Missing,
         Source::Wrong => Written::Wrong,
+        Source::Outside => Written::Outside,
     }
 }

@@ -15,7 +15,7 @@ use Rattle.scalar.specs.Scalar.{valueOf}
 use Rattle.scalar.specs.declared.Operand.{Operand}
 use Rattle.network_syntax.specs.Syntax.{Behaviour}
 use Rattle.refusal.specs.declared.Refusal.{Refusal}
-use Rattle.refusal.specs.declared.Refusal.the-variants.{MoveNotAllowed, Stuck}
+use Rattle.refusal.specs.declared.Refusal.the-variants.{MoveNotAllowed, Stuck, OutOfRange}
 use Rattle.refusal.specs.declared.Outcome.{Outcome}
 use Rattle.refusal.specs.Refusal.{doneWith, refusedBy}
 use Rattle.check_typing.specs.Environment.{within}
@@ -43,7 +43,8 @@ use Rattle.state.specs.ChangeLaws.{change-rows}
 use Rattle.state.specs.KeepLaws.{reopen-past, made-tree, made-row, made-progress}
 use Rattle.move_rules.specs.Readiness.{isDone, Reached, reach}
 use Rattle.move_rules.specs.Evaluation.{leaf, evaluate}
-use Rattle.move_rules.specs.Moves.{Result, refused, moved, notAllowed, require, onTree, onBool, rootValue, assigned, decided, repeated}
+use Rattle.move_rules.specs.Moves.{Result, refused, moved, notAllowed, outOfRange, require, onEvaluation, onTruth, assigned, unassigned, decided, repeated}
+use Rattle.move_rules.specs.AssignLaws.{within-payload}
 use Rattle.scalar.specs.Value.{voidValue}
 use Rattle.move_rules.specs.Moves.{localAt, localReached, localMove}
 use Rattle.move_rules.specs.Step.{Step, finish}
@@ -66,7 +67,7 @@ use Rattle.state_trees.specs.Changing.{KeptTree, ChangedTo}
 use Rattle.move_frame.specs.declared.Running.{Running}
 use Rattle.move_frame.specs.Made.{StateOf, Made, InSession, Runs, RunsAt}
 use Rattle.move_frame.specs.MadeLaws.{in-session, refused-step}
-use Rattle.move_local.specs.Local.{readyWhile, Decides, SetsRoot, AssignsValue, MadeBy, RowMade}
+use Rattle.move_local.specs.Local.{readyWhile, Decides, SetsRoot, AssignsValue, RefusesValue, MadeBy, RowMade}
 use Rattle.move_frame.specs.UndoneLaws.{if-undone}
 use Rattle.move_local.proofs.MarkLaws.{if-ready-while}
 use Rattle.state_progress.specs.Stored.{rowStored}
@@ -77,7 +78,7 @@ pub condition-decides : (file s : List ℕ) (slot e : ℕ) {t : List ℕ} {x : E
     → d ≡ conditionOf x → Decides file s slot e d
 condition-decides file s slot e {t} {x} {d} q v c = record {
   tells = λ w S h l f.
-      on-condition t x (evaluate (S .tree) (expressionOf file e)) f (v .tells (S .tree) (record { bytes = q ∙ living-tree h; good = h .made .bounded }) w l)
+      on-condition f t x (evaluate (S .tree) (expressionOf file e)) (v .tells (S .tree) (record { bytes = q ∙ living-tree h; good = h .made .bounded }) w l)
       ∙ ap (λ (z : Decision). onCondition z f) (sym c);
 }
 
@@ -151,6 +152,26 @@ saved G q n S r F e = ap (λ (b : Bool). require b Stuck (moved (setSlot G q n (
 abbrev rootSet : List ℕ → ℕ → Operand → Session → Forest Value
 rootSet file p v S = setPayloadAt voidValue (pathOf file p) (valueOf v) (S .tree)
 
+-- ---- a value outside its width: whether the tree would keep to its limits does not depend on the value
+
+module _ (file s : List ℕ) (slot p : ℕ) (v : Operand) {c : Change} {o′ : List ℕ} (a : SetsRoot file s slot p v o′ c) where
+  would-be : {y : Change} → c ≡ y → WellFormed file → {G : State} {q n b : ℕ} (h : InSession file s G q n slot b) → p < pathCount file
+      → ChangedTo o′ y (rootSet file p v (h .session))
+  would-be g w h l = subst (λ (z : Change). ChangedTo o′ z (rootSet file p v (h .session))) g (a .tells w (h .session) (h .living) l)
+
+  unassigned-is : {G : State} {q n b : ℕ} (h : InSession file s G q n slot b) {t : Bool} → within (rootSet file p v (h .session)) ≡ t
+      → unassigned G q n (h .session) (pathOf file p) ≡ require t Stuck outOfRange
+  unassigned-is h e =
+      ap (λ (z : Bool). require z Stuck outOfRange) (within-payload voidValue (pathOf file p) voidValue (valueOf v) (h .session .tree) ∙ e)
+
+  pub outside-kept : {o : Outcome} {m : ℕ} → c ≡ Change.Kept m → o ≡ refusedBy OutOfRange → RefusesValue file s slot p o
+  outside-kept g k = record { tells = λ w G q n b h l out. refused-step k (unassigned-is h (would-be g w h l .fits)) }
+
+  pub outside-large : {o : Outcome} → c ≡ Change.TooLarge → o ≡ refusedBy Stuck → RefusesValue file s slot p o
+  outside-large g k = record { tells = λ w G q n b h l out. refused-step k (unassigned-is h (would-be g w h l)) }
+
+pub ruleset outside-laws = (outside-kept, outside-large)
+
 -- ---- a row's move
 
 module _ (file s : List ℕ) (slot r : ℕ) where
@@ -183,20 +204,16 @@ module _ (file s : List ℕ) (slot r : ℕ) where
   -- ---- a value that is assigned
 
   module _ (p : ℕ) (v : Operand) {c : Change} {o′ : List ℕ} (a : SetsRoot file s slot p v o′ c) where
-    told : {y : Change} → c ≡ y → WellFormed file → {G : State} {q n b : ℕ} (h : InSession file s G q n slot b) → p < pathCount file
-        → ChangedTo o′ y (rootSet file p v (h .session))
-    told g w h l = subst (λ (z : Change). ChangedTo o′ z (rootSet file p v (h .session))) g (a .tells w (h .session) (h .living) l)
-
     pub value-large : {o : Outcome} → c ≡ Change.TooLarge → o ≡ refusedBy Stuck → AssignsValue file s s slot r p v o
     value-large g k = record {
       tells = λ w G st q n b h l out.
           let S = h .session in
-          refused-step k (ap (λ (z : Bool). require z Stuck (moved (setSlot G q n (live (withProgress (withTree S (rootSet file p v S)) (advance (S .progress) r done)))) [])) (told g w h l));
+          refused-step k (ap (λ (z : Bool). require z Stuck (moved (setSlot G q n (live (withProgress (withTree S (rootSet file p v S)) (advance (S .progress) r done)))) [])) (would-be file s slot p v a g w h l));
     }
 
     -- A tree that keeps to its limits has 1,013 bytes at most.
     pub value-long : {o : Outcome} {s′ : List ℕ} {m : ℕ} → c ≡ Change.Kept m → 1024 < m → AssignsValue file s s′ slot r p v o
-    value-long g l = record { tells = λ w G st q n b h j out. absurd (omega (arith, l, told g w h j .small)) }
+    value-long g l = record { tells = λ w G st q n b h j out. absurd (omega (arith, l, would-be file s slot p v a g w h j .small)) }
 
     pub value-kept : {o : Outcome} {s′ : List ℕ} {m : ℕ} → c ≡ Change.Kept m → r < 256
         → (s′ ≡ rowStored (treeStored s slot o′ m) slot r done) × (o ≡ doneWith 0)
@@ -205,7 +222,7 @@ module _ (file s : List ℕ) (slot r : ℕ) where
       tells = λ w G st q n b h j out.
           let S = h .session in
           let F = rootSet file p v S in
-          let K : KeptTree o′ m F = told g w h j in
+          let K : KeptTree o′ m F = would-be file s slot p v a g w h j in
           let S₁ = planted S F in
           let w₁ = planted-made S F (K .made) (h .living .made) in
           step-moved st h (planted-done S F r) _ (k .1)
@@ -226,7 +243,7 @@ module _ (file s : List ℕ) (slot r : ℕ) where
       unfolding localAt
       if-not-ready f k = by-refused (BehaviourRow.If e a b) k (λ w G q n _ left h p.
           let S = h .session in
-          let next = onTree (evaluate (S .tree) (expressionOf file e)) (λ t. onBool (rootValue t) (decided G q n S r)) in
+          let next = onTruth (evaluate (S .tree) (expressionOf file e)) (decided G q n S r) in
           if-undone (S .progress r) next ∙ ap (λ (z : Bool). require z MoveNotAllowed next) (undone-is h (failed u f)))
 
       module _ {d : Decision} (f : not x ≡ false) (v : Decides file s slot e d) where
@@ -235,7 +252,7 @@ module _ (file s : List ℕ) (slot r : ℕ) where
         unfolding localAt
         if-decides w G q n c left h p =
             let S = h .session in
-            let next = onTree (evaluate (S .tree) (expressionOf file e)) (λ t. onBool (rootValue t) (decided G q n S r)) in
+            let next = onTruth (evaluate (S .tree) (expressionOf file e)) (decided G q n S r) in
             if-undone (S .progress r) next ∙ (ap (λ (z : Bool). require z MoveNotAllowed next) (undone-is h (held u f))
             ∙ v .tells w S (h .living) (p .0) (decided G q n S r))
 
@@ -245,6 +262,10 @@ module _ (file s : List ℕ) (slot r : ℕ) where
 
         pub if-wrong : {o : Outcome} → d ≡ Decision.Wrong → o ≡ refusedBy Stuck → MadeBy (BehaviourRow.If e a b) file s s slot r o
         if-wrong g k = by-refused (BehaviourRow.If e a b) k (λ w G q n c left h p.
+            if-decides w G q n c left h p ∙ ap (λ (z : Decision). onCondition z (decided G q n (h .session) r)) g)
+
+        pub if-outside : {o : Outcome} → d ≡ Decision.Outside → o ≡ refusedBy OutOfRange → MadeBy (BehaviourRow.If e a b) file s s slot r o
+        if-outside g k = by-refused (BehaviourRow.If e a b) k (λ w G q n c left h p.
             if-decides w G q n c left h p ∙ ap (λ (z : Decision). onCondition z (decided G q n (h .session) r)) g)
 
         pub if-true : {o : Outcome} {s′ : List ℕ} → d ≡ Decision.True → r < 256
@@ -276,43 +297,50 @@ module _ (file s : List ℕ) (slot r : ℕ) where
       unfolding localAt
       assign-not-ready f k = by-refused (BehaviourRow.Assign p e) k (λ w G q n b left h g.
           let S = h .session in
-          let next = onTree (evaluate (S .tree) (expressionOf file e)) (assigned G q n S r (pathOf file p)) in
+          let x = pathOf file p in
+          let next = onEvaluation (evaluate (S .tree) (expressionOf file e)) (λ b. unassigned G q n S x) (assigned G q n S r x) in
           if-undone (S .progress r) next ∙ ap (λ (z : Bool). require z MoveNotAllowed next) (undone-is h (failed u f)))
 
       module _ {t : List ℕ} {y : Evaluated} (f : not x ≡ false) (g : t ≡ treeIn s slot) (v : Evaluates file t e y) where
         assign-is : WellFormed file → (G : State) (q n b left : ℕ) (h : InSession file s G q n slot b) → KeptBy file left (BehaviourRow.Assign p e)
             → {k : Source} → y .source ≡ k → localAt G q n (h .session) (behaviourBy file r (BehaviourRow.Assign p e))
-            ≡ ifGiven k (assigned G q n (h .session) r (pathOf file p) (leaf (valueOf (y .root))))
+            ≡ ifGiven k (unassigned G q n (h .session) (pathOf file p)) (assigned G q n (h .session) r (pathOf file p) (leaf (valueOf (y .root))))
         unfolding localAt
         assign-is w G q n b left h j i =
             let S = h .session in
-            let next = onTree (evaluate (S .tree) (expressionOf file e)) (assigned G q n S r (pathOf file p)) in
+            let none : Result = unassigned G q n S (pathOf file p) in
+            let next = onEvaluation (evaluate (S .tree) (expressionOf file e)) (λ b. none) (assigned G q n S r (pathOf file p)) in
             let set : Value → Result = λ z. assigned G q n S r (pathOf file p) (leaf z) in
             if-undone (S .progress r) next ∙ (ap (λ (z : Bool). require z MoveNotAllowed next) (undone-is h (held u f))
-            ∙ (on-value t y (evaluate (S .tree) (expressionOf file e)) set
+            ∙ (on-value t y (evaluate (S .tree) (expressionOf file e)) (λ b. none) set
             (v .tells (S .tree) (record { bytes = g ∙ living-tree (h .living); good = h .living .made .bounded }) w (j .1))
-            ∙ ap (λ (z : Source). ifGiven z (set (valueOf (y .root)))) i))
+            ∙ ap (λ (z : Source). ifGiven z none (set (valueOf (y .root)))) i))
 
-        assign-by : {k : Source} {s′ : List ℕ} {o : Outcome} → y .source ≡ k → ((z : Result) → ifGiven k z ≡ z)
+        assign-by : {k : Source} {s′ : List ℕ} {o : Outcome} → y .source ≡ k → ((x z : Result) → ifGiven k x z ≡ z)
             → AssignsValue file s s′ slot r p (y .root) o → MadeBy (BehaviourRow.Assign p e) file s s′ slot r o
         assign-by i j a = record {
           tells = λ w G st q n b left h d out.
-              a .tells w G st q n b h (d .0) out ∙ ap (finish s out) (sym (assign-is w G q n b left h d i ∙ j _));
+              a .tells w G st q n b h (d .0) out ∙ ap (finish s out) (sym (assign-is w G q n b left h d i ∙ j _ _));
         }
 
         pub assign-at : {at : ℕ} {s′ : List ℕ} {o : Outcome} → y .source ≡ Source.At at → AssignsValue file s s′ slot r p (y .root) o
             → MadeBy (BehaviourRow.Assign p e) file s s′ slot r o
-        assign-at i a = assign-by i (λ z. refl) a
+        assign-at i a = assign-by i (λ x z. refl) a
 
         pub assign-alone : {s′ : List ℕ} {o : Outcome} → y .source ≡ Source.Alone → AssignsValue file s s′ slot r p (y .root) o
             → MadeBy (BehaviourRow.Assign p e) file s s′ slot r o
-        assign-alone i a = assign-by i (λ z. refl) a
+        assign-alone i a = assign-by i (λ x z. refl) a
 
         pub assign-missing : {o : Outcome} → y .source ≡ Source.Missing → o ≡ refusedBy Stuck → MadeBy (BehaviourRow.Assign p e) file s s slot r o
         assign-missing i k = by-refused (BehaviourRow.Assign p e) k (λ w G q n b left h j. assign-is w G q n b left h j i)
 
         pub assign-wrong : {o : Outcome} → y .source ≡ Source.Wrong → o ≡ refusedBy Stuck → MadeBy (BehaviourRow.Assign p e) file s s slot r o
         assign-wrong i k = by-refused (BehaviourRow.Assign p e) k (λ w G q n b left h j. assign-is w G q n b left h j i)
+
+        pub assign-outside : {o : Outcome} → y .source ≡ Source.Outside → RefusesValue file s slot p o → MadeBy (BehaviourRow.Assign p e) file s s slot r o
+        assign-outside i a = record {
+          tells = λ w G st q n b left h d out. a .tells w G q n b h (d .0) out ∙ ap (finish s out) (sym (assign-is w G q n b left h d i));
+        }
 
   -- ---- while
 
@@ -326,7 +354,7 @@ module _ (file s : List ℕ) (slot r : ℕ) where
     unfolding localAt
     while-not-ready f k = by-refused (BehaviourRow.While e b) k (λ w G q n _ left h p.
         let S = h .session in
-        let next = onTree (evaluate (S .tree) (expressionOf file e)) (λ t. onBool (rootValue t) (repeated G q n S r (behaviourOf file b))) in
+        let next = onTruth (evaluate (S .tree) (expressionOf file e)) (repeated G q n S r (behaviourOf file b)) in
         if-ready-while (S .progress r) (isDone (S .progress) (behaviourOf file b)) next
         ∙ ap (λ (z : Bool). require z MoveNotAllowed next) (ready-is h (failed u f)))
 
@@ -336,7 +364,7 @@ module _ (file s : List ℕ) (slot r : ℕ) where
       unfolding localAt
       while-decides w G q n c left h p =
           let S = h .session in
-          let next = onTree (evaluate (S .tree) (expressionOf file e)) (λ t. onBool (rootValue t) (repeated G q n S r (behaviourOf file b))) in
+          let next = onTruth (evaluate (S .tree) (expressionOf file e)) (repeated G q n S r (behaviourOf file b)) in
           if-ready-while (S .progress r) (isDone (S .progress) (behaviourOf file b)) next
           ∙ (ap (λ (z : Bool). require z MoveNotAllowed next) (ready-is h (held u f))
           ∙ v .tells w S (h .living) (p .0) (repeated G q n S r (behaviourOf file b)))
@@ -347,6 +375,10 @@ module _ (file s : List ℕ) (slot r : ℕ) where
 
       pub while-wrong : {o : Outcome} → d ≡ Decision.Wrong → o ≡ refusedBy Stuck → MadeBy (BehaviourRow.While e b) file s s slot r o
       while-wrong g k = by-refused (BehaviourRow.While e b) k (λ w G q n c left h p.
+          while-decides w G q n c left h p ∙ ap (λ (z : Decision). onCondition z (repeated G q n (h .session) r (behaviourOf file b))) g)
+
+      pub while-outside : {o : Outcome} → d ≡ Decision.Outside → o ≡ refusedBy OutOfRange → MadeBy (BehaviourRow.While e b) file s s slot r o
+      while-outside g k = by-refused (BehaviourRow.While e b) k (λ w G q n c left h p.
           while-decides w G q n c left h p ∙ ap (λ (z : Decision). onCondition z (repeated G q n (h .session) r (behaviourOf file b))) g)
 
       pub while-false : {o : Outcome} {s′ : List ℕ} → d ≡ Decision.False → r < 256
@@ -377,13 +409,13 @@ module _ (file s : List ℕ) (slot r : ℕ) where
             while-decides w G q n c left h p ∙ ap (λ (z : Decision). onCondition z (repeated G q n S r B)) g,
           ))
 
-pub ruleset if-laws = (if-not-ready, if-missing, if-wrong, if-true, if-false)
+pub ruleset if-laws = (if-not-ready, if-missing, if-wrong, if-outside, if-true, if-false)
 
-pub ruleset assign-laws = (assign-not-ready, assign-at, assign-alone, assign-missing, assign-wrong)
+pub ruleset assign-laws = (assign-not-ready, assign-at, assign-alone, assign-missing, assign-wrong, assign-outside)
 
 pub ruleset value-laws = (value-large, value-long, value-kept)
 
-pub ruleset while-laws = (while-not-ready, while-missing, while-wrong, while-false, while-true)
+pub ruleset while-laws = (while-not-ready, while-missing, while-wrong, while-outside, while-false, while-true)
 
 -- ---- any row
 

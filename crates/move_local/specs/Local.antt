@@ -15,7 +15,7 @@ use Rattle.network_rows.specs.declared.BehaviourRow.{BehaviourRow}
 use Rattle.network_row_parts.specs.Behaviours.{behaviourBy, KeptBy}
 use Rattle.state.specs.Session.{Progress, undone, done, waits, received, taken, Session, State}
 use Rattle.move_rules.specs.Evaluation.{leaf, evaluate}
-use Rattle.move_rules.specs.Moves.{Result, onTree, onBool, rootValue, assigned, localAt}
+use Rattle.move_rules.specs.Moves.{Result, onTruth, assigned, unassigned, localAt}
 use Rattle.scalar.specs.Value.{voidValue}
 use Rattle.move_rules.specs.Step.{Step, finish}
 use Rattle.move_evaluation.specs.declared.Decision.{Decision}
@@ -33,10 +33,10 @@ readyWhile waits bodyDone = false
 readyWhile (received to) bodyDone = false
 readyWhile (taken k) bodyDone = bodyDone
 
--- A condition, by its E row: a move goes on as the definition does. 18: "condition .. of the wrong kind".
+-- A condition, by its E row: a move goes on as the definition does. 18: "condition .. of the wrong kind"; 22.
 pub record Decides (file s : List ℕ) (slot e : ℕ) (d : Decision) : Type 0 where
   pub tells : WellFormed file → (S : Session) → Living s slot S → e < expressionCount file → (f : Bool → Result)
-      → onTree (evaluate (S .tree) (expressionOf file e)) (λ t. onBool (rootValue t) f) ≡ onCondition d f
+      → onTruth (evaluate (S .tree) (expressionOf file e)) f ≡ onCondition d f
 
 -- The value v set at P row p: "sets one root value and keeps children".
 pub record SetsRoot (file s : List ℕ) (slot p : ℕ) (v : Operand) (o : List ℕ) (x : Change) : Type 0 where
@@ -48,6 +48,11 @@ pub record AssignsValue (file s s′ : List ℕ) (slot r p : ℕ) (v : Operand) 
   pub tells : WellFormed file → (G : State) → StateOf file s G → (q n b : ℕ) (h : InSession file s G q n slot b) → p < pathCount file
       → (out : List ℕ)
       → _≡_ {A = Step} (record { outcome = o; state = s′; out = out }) (finish s out (assigned G q n (h .session) r (pathOf file p) (leaf (valueOf v))))
+
+-- The value for P row p is outside its width.
+pub record RefusesValue (file s : List ℕ) (slot p : ℕ) (o : Outcome) : Type 0 where
+  pub tells : WellFormed file → (G : State) (q n b : ℕ) (h : InSession file s G q n slot b) → p < pathCount file → (out : List ℕ)
+      → _≡_ {A = Step} (record { outcome = o; state = s; out = out }) (finish s out (unassigned G q n (h .session) (pathOf file p)))
 
 -- A reached B row i that is y, and any reached B row i: outcome and state's bytes are those of the definition, in whatever session the slot
 -- that starts at `slot` has. No local move writes out.

@@ -16,7 +16,7 @@ ghost use Rattle.state_reopening.specs.Reopening.{rowsBelow, withUndone};
 ghost use Rattle.move_rules.specs.Readiness.{isDone};
 ghost use Rattle.move_rules.specs.Moves.{localMove};
 ghost use Rattle.move_frame.specs.Made.{Made};
-ghost use Rattle.move_local.specs.Local.{readyWhile, Decides, SetsRoot, AssignsValue, MadeBy, RowMade};
+ghost use Rattle.move_local.specs.Local.{readyWhile, Decides, SetsRoot, AssignsValue, RefusesValue, MadeBy, RowMade};
 ghost use Rattle.state_slots.specs.Slots.{treeStored};
 use move_evaluation::Decision;
 use move_evaluation::Source;
@@ -85,6 +85,7 @@ fn decide(file: &[u8], state: &mut [u8], slot: usize, r: u16, e: u16, a: u16, b:
         Decision::False => settle(state, slot, r, Progress::Taken(1)),
         Decision::Missing => refusal::refused(Refusal::Stuck),
         Decision::Wrong => refusal::refused(Refusal::Stuck),
+        Decision::Outside => refusal::refused(Refusal::OutOfRange),
     }
 }
 
@@ -110,6 +111,7 @@ fn repeat(file: &[u8], state: &mut [u8], slot: usize, r: u16, e: u16, b: u16) ->
         Decision::False => settle(state, slot, r, Progress::Done),
         Decision::Missing => refusal::refused(Refusal::Stuck),
         Decision::Wrong => refusal::refused(Refusal::Stuck),
+        Decision::Outside => refusal::refused(Refusal::OutOfRange),
     }
 }
 
@@ -156,6 +158,18 @@ fn assign_value(file: &[u8], state: &mut [u8], slot: usize, r: u16, p: u16, v: O
     }
 }
 
+// The value that would be assigned to P row p is outside its width, and v is of its kind: 18 as above, then 22.
+fn refuse_value(file: &[u8], state: &[u8], slot: usize, p: u16, v: Operand) -> Outcome
+    requires { ⌜ slot + slotSize ≤ length (now state) ⌝ }
+    ensures { λ o. ⌜ RefusesValue (now (file .entry)) (now (state .entry)) slot p o ⌝ }
+{
+    let mut tree = [0u8; 2304];
+    match set_root(&mut tree, file, state, slot, p, v) {
+        Change::Kept(_) => refusal::refused(Refusal::OutOfRange),
+        Change::TooLarge => refusal::refused(Refusal::Stuck),
+    }
+}
+
 // A ready assign: the root value of E row e. 18: "A value read is missing, an operand .. is of the wrong kind".
 fn assign(file: &[u8], state: &mut [u8], slot: usize, r: u16, p: u16, e: u16) -> Outcome
     requires { ⌜ (slot + slotSize ≤ length (now state)) × (slot < 65536) × (r < 256) ⌝ }
@@ -172,6 +186,7 @@ fn assign(file: &[u8], state: &mut [u8], slot: usize, r: u16, p: u16, e: u16) ->
         Source::Alone => assign_value(file, state, slot, r, p, v),
         Source::Missing => refusal::refused(Refusal::Stuck),
         Source::Wrong => refusal::refused(Refusal::Stuck),
+        Source::Outside => refuse_value(file, state, slot, p, v),
     }
 }
 

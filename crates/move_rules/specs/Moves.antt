@@ -1,4 +1,4 @@
--- What each move does, on a decoded state. 01, Moves, and refusals 15 to 19. A result is a refusal, or the state after the
+-- What each move does, on a decoded state. 01, Moves, and refusals 15 to 19 and 22. A result is a refusal, or the state after the
 -- move with the bytes written out.
 use mathlib.Core.Bool.{Bool, true, false, _&&_}
 use mathlib.Core.List.{List, [], _∷_, _++_}
@@ -16,7 +16,7 @@ use Rattle.network_syntax.specs.Rows.{isInputOperation}
 use Rattle.state.specs.Session.{receivedBy, Destination, outsider, waitingRow, Progress, undone, done, waits, received, taken, Progresses}
 use Rattle.state.specs.Session.{advance, reopen, Session, withTree, withQueue, withProgress, Slot, free, live, State, setSlot, newSession}
 use Rattle.refusal.specs.declared.Refusal.{Refusal}
-use Rattle.refusal.specs.declared.Refusal.the-variants.{MoveNotAllowed, QueueFull, NoMessage, Stuck, MessageMisfit}
+use Rattle.refusal.specs.declared.Refusal.the-variants.{MoveNotAllowed, QueueFull, NoMessage, Stuck, MessageMisfit, OutOfRange}
 use Rattle.check_subtyping.specs.Own.{fits}
 use Rattle.check_typing.specs.Environment.{within}
 use Rattle.check_typing.specs.Rules.{permits}
@@ -29,7 +29,7 @@ use Rattle.wire.specs.Wire.{u32Bytes}
 use Rattle.move_rules.specs.Readiness.{isDone, Reached, unreached, reached, offered, reach}
 use Rattle.state.specs.Shape.{behaviourIn}
 use Rattle.move_rules.specs.Targets.{Target, noTarget, queueFull, queued, starts, target}
-use Rattle.move_rules.specs.Evaluation.{Evaluation, missing, wrongKind, given, found, evaluate}
+use Rattle.move_rules.specs.Evaluation.{Evaluation, missing, wrongKind, beyond, given, found, evaluate}
 
 pub data Result : Type 0 where
   refused : Refusal → Result
@@ -44,18 +44,31 @@ abbrev pub require : Bool → Refusal → Result → Result
 require true why r = r
 require false why r = refused why
 
--- What evaluation answers, as a move goes on with it. 18: "A value read is missing, an operand or condition is of the wrong kind".
+-- 22: "where the exact result is outside its width, the move is refused".
+abbrev pub outOfRange : Result
+outOfRange = refused OutOfRange
+
+-- What evaluation answers, as a move goes on with it: 18, "A value read is missing, an operand or condition is of the wrong kind"; g of a
+-- basic type beyond which it is; f of its tree.
+abbrev pub onEvaluation : Evaluation (Tree Value) → (ℕ → Result) → (Tree Value → Result) → Result
+onEvaluation missing g f = refused Stuck
+onEvaluation wrongKind g f = refused Stuck
+onEvaluation (beyond b) g f = g b
+onEvaluation (given t) g f = f t
+
+-- The tree, or 18, or 22: "tried between 18 and 19".
 abbrev pub onTree : Evaluation (Tree Value) → (Tree Value → Result) → Result
-onTree missing f = refused Stuck
-onTree wrongKind f = refused Stuck
-onTree (given t) f = f t
+onTree x f = onEvaluation x (λ b. outOfRange) f
 
 abbrev pub rootValue : Tree Value → Value
 rootValue (tree v k) = v
 
--- The condition's value, or 18.
+-- The condition's value, or 18; of one that is beyond, 18 where it is no bool, then 22.
 abbrev pub onBool : Value → (Bool → Result) → Result
 onBool (value b v) f = require (eqb b bool) Stuck (f (eqb (unsignedOf v) 1))
+
+abbrev pub onTruth : Evaluation (Tree Value) → (Bool → Result) → Result
+onTruth x f = onEvaluation x (λ b. require (eqb b bool) Stuck outOfRange) (λ t. onBool (rootValue t) f)
 
 -- What a session is, if it is live.
 abbrev pub onLive : Slot → (Session → Result) → Result
@@ -114,6 +127,10 @@ module _ (G : State) (q n : ℕ) (S : Session) where
       saveWithin G q n
       (withProgress (withTree S (setPayloadAt voidValue x (rootValue t) (S .tree))) (advance (S .progress) r done)) []
 
+  -- Of a value that is beyond, 18 where the assign would take the tree past its limits, then 22.
+  abbrev pub unassigned : Path → Result
+  unassigned x = require (within (setPayloadAt voidValue x voidValue (S .tree))) Stuck outOfRange
+
   abbrev pub decided : ℕ → Bool → Result
   decided r c = moved (setSlot G q n (live (withProgress S (advance (S .progress) r (taken (pick c 0 1)))))) []
 
@@ -126,13 +143,13 @@ module _ (G : State) (q n : ℕ) (S : Session) where
   localBy none = notAllowed
   localBy (some (assigns r x e)) =
       ifUndone (S .progress r)  -- 15
-      (onTree (evaluate (S .tree) e) (assigned r x))  -- 18: the value, then the tree
+      (onEvaluation (evaluate (S .tree) e) (λ b. unassigned x) (assigned r x))  -- 18: the value, then the tree; 22
   localBy (some (decides r e a b)) =
       ifUndone (S .progress r)  -- 15
-      (onTree (evaluate (S .tree) e) (λ t. onBool (rootValue t) (decided r)))  -- 18
+      (onTruth (evaluate (S .tree) e) (decided r))  -- 18, 22
   localBy (some (repeats r e b)) =
       ifReadyWhile (S .progress r) (isDone (S .progress) b)  -- 15
-      (onTree (evaluate (S .tree) e) (λ t. onBool (rootValue t) (repeated r b)))  -- 18
+      (onTruth (evaluate (S .tree) e) (repeated r b))  -- 18, 22
 
   unfoldable pub localAt : Behaviour → Result
   localAt b = localBy (localOf b)
@@ -219,13 +236,13 @@ mustFit m t r = require (isMessageTree m && fits m t) MessageMisfit r
 abbrev pub goneOn : State → ℕ → ℕ → Session → ℕ → Progress → State
 goneOn G q n S r after = setSlot G q n (live (withProgress S (advance (S .progress) r after)))
 
--- A message for the input i, to session n of its service: 15 and 16 by its target, then what the message itself answers (18 of a value, 17 of
--- bytes from outside), 19, and the delivery, in the state in which its sender has gone on.
+-- A message for the input i, to session n of its service: 15 and 16 by its target, then what the message itself answers (18 and 22 of a value, 17
+-- of bytes from outside), 19, and the delivery, in the state in which its sender has gone on.
 abbrev pub admit : Network → State → Operation → ℕ → ((Tree Value → Result) → Result)
     → State → Optional Destination → Result
 admit N G i n answer gone to =
     allowed (i .service) (target N G i n)  -- 15, 16
-    (answer  -- 17 or 18
+    (answer  -- 17, or 18 and 22
     (λ m. mustFit m (i .request)  -- 19
     (deliver gone i n (target N G i n) to m)))  -- 18: the tree
 
@@ -238,7 +255,7 @@ module _ (N : Network) (G : State) (q n : ℕ) (S : Session) (session : ℕ) whe
   abbrev pub sendOutside : ℕ → Operation → Expression → Progress → Result
   sendOutside r o e after =
       require (eqb session 0) MoveNotAllowed  -- 15
-      (onTree (evaluate (S .tree) e)  -- 18
+      (onTree (evaluate (S .tree) e)  -- 18, 22
       (λ m. mustFit m (o .request)  -- 19
       (moved (goneOn G q n S r after) (messageBytes m))))
 

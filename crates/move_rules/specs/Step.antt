@@ -57,5 +57,5 @@ step file state out m outside =
     pick (buffersFit state out)
     (onForm (formOf file) state out  -- 2 to 5
     (onState (decodeState (networkOf file) (behaviourCount file) state) state out  -- 14
-    (λ G. finish state out (move (networkOf file) G m outside))))  -- 15 to 19
+    (λ G. finish state out (move (networkOf file) G m outside))))  -- 15 to 19, 22
     (refuse BufferSize state out)  -- 1

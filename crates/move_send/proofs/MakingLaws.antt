@@ -20,7 +20,7 @@ use Rattle.tree_forest.specs.Limits.{sessionLevels, sessionNodes}
 use Rattle.tree_edit.specs.Wrote.{Wrote}
 use Rattle.tree_edit.specs.WroteLaws.{wrote-all, wrote-all-of}
 use Rattle.refusal.specs.declared.Refusal.{Refusal}
-use Rattle.refusal.specs.declared.Refusal.the-variants.{MoveNotAllowed, Stuck, MessageMisfit}
+use Rattle.refusal.specs.declared.Refusal.the-variants.{MoveNotAllowed, Stuck, MessageMisfit, OutOfRange}
 use Rattle.refusal.specs.declared.Verdict.{Verdict}
 use Rattle.refusal.specs.declared.Verdict.the-variants.{Done, Refused}
 use Rattle.refusal.specs.declared.Outcome.{Outcome}
@@ -100,6 +100,9 @@ length-missing e = ap bytesWritten (sym e)
 pub length-wrong : {w : Written} → w ≡ Written.Wrong → 0 ≡ bytesWritten w
 length-wrong e = ap bytesWritten (sym e)
 
+pub length-outside : {w : Written} → w ≡ Written.Outside → 0 ≡ bytesWritten w
+length-outside e = ap bytesWritten (sym e)
+
 pub verdict-tree : {w : Written} {n : ℕ} → w ≡ Written.Tree n → Done ≡ writtenVerdict w
 verdict-tree e = ap writtenVerdict (sym e)
 
@@ -109,11 +112,15 @@ verdict-missing e = ap writtenVerdict (sym e)
 pub verdict-wrong : {w : Written} → w ≡ Written.Wrong → Refused Stuck ≡ writtenVerdict w
 verdict-wrong e = ap writtenVerdict (sym e)
 
+pub verdict-outside : {w : Written} → w ≡ Written.Outside → Refused OutOfRange ≡ writtenVerdict w
+verdict-outside e = ap writtenVerdict (sym e)
+
 written-offers : (buf : List ℕ) (w : Written) (t : MessageType) (y : Evaluation (Tree Value)) → WrittenAs buf w y
     → MessageOffered (writtenVerdict w) (take (bytesWritten w) buf) MessageMisfit t (fittingTree y t)
 written-offers buf (Written.Tree n) t y h = value-comes (h .0) t y (h .2) (h .1)
 written-offers buf Written.Missing t y h = λ k. ap (λ (z : Evaluation (Tree Value)). fittingTree z t k) h
 written-offers buf Written.Wrong t y h = λ k. ap (λ (z : Evaluation (Tree Value)). fittingTree z t k) h
+written-offers buf Written.Outside t y h = λ k. ap (λ (z : Evaluation (Tree Value)). fittingTree z t k) (h .1)
 
 request-is : (file : List ℕ) (o : ℕ) {r : ℕ} → r ≡ requestType file o → typeOf file r ≡ operationOf file o .request
 unfolding operationOf
@@ -163,19 +170,21 @@ module _ (file s : List ℕ) (slot i o e to : ℕ) (after : Progress) (out : Lis
         ap (λ (x : Bool). require x MoveNotAllowed (onTree (evaluate (S .tree) (expressionOf file e)) (sends G q n S))) (eq-eqb to 0 zero)
         ∙ ap (λ (l : Evaluation (Tree Value)). onTree l (sends G q n S)) f
 
-    pub outside-stuck : {a : Outcome} → OneOf (1 ∷ 2 ∷ []) (tagOf written.the-type x) → a ≡ refusedBy Stuck
-        → SendsOutside file s slot i o e to after s out out a
-    outside-stuck f g = record {
+    pub outside-unwritten : {v : Verdict} {a : Outcome} → OneOf (1 ∷ 2 ∷ 3 ∷ []) (tagOf written.the-type x) → v ≡ writtenVerdict x
+        → a ≡ record { bytes = 0; verdict = v } → SendsOutside file s slot i o e to after s out out a
+    outside-unwritten f d g = record {
       tells = λ w lo le G st q n b h j.
-          refused-step g (evaluated G q n (h .session) (evaluate (h .session .tree) (expressionOf file e)) refl
-          ∙ none x f G q n (h .session) (evaluate (h .session .tree) (expressionOf file e)) (k .tells w le (h .session) (h .living)));
+          let y = evaluate (h .session .tree) (expressionOf file e) in
+          let u = none x f G q n (h .session) y (k .tells w le (h .session) (h .living)) in
+          refused-step (g ∙ ap (λ (z : Verdict). record { bytes = 0; verdict = z }) (d ∙ u .1)) (evaluated G q n (h .session) y refl ∙ u .2);
     }
       where
-        none : (x : Written) → OneOf (1 ∷ 2 ∷ []) (tagOf written.the-type x) → (G : State) (q n : ℕ) (S : Session) (y : Evaluation (Tree Value))
-            → WrittenAs buf x y → onTree y (sends G q n S) ≡ refused Stuck
-        none (Written.Tree n) f G q j S y h = absurd (miss (1 ∷ 2 ∷ []) 0 tt f)
-        none Written.Missing f G q j S y h = ap (λ (z : Evaluation (Tree Value)). onTree z (sends G q j S)) h
-        none Written.Wrong f G q j S y h = ap (λ (z : Evaluation (Tree Value)). onTree z (sends G q j S)) h
+        none : (x : Written) → OneOf (1 ∷ 2 ∷ 3 ∷ []) (tagOf written.the-type x) → (G : State) (q n : ℕ) (S : Session) (y : Evaluation (Tree Value))
+            → WrittenAs buf x y → (why : Refusal) × (writtenVerdict x ≡ Refused why) × (onTree y (sends G q n S) ≡ refused why)
+        none (Written.Tree n) f G q j S y h = absurd (miss (1 ∷ 2 ∷ 3 ∷ []) 0 tt f)
+        none Written.Missing f G q j S y h = (Stuck, refl, ap (λ (z : Evaluation (Tree Value)). onTree z (sends G q j S)) h)
+        none Written.Wrong f G q j S y h = (Stuck, refl, ap (λ (z : Evaluation (Tree Value)). onTree z (sends G q j S)) h)
+        none Written.Outside f G q j S y h = (OutOfRange, refl, ap (λ (z : Evaluation (Tree Value)). onTree z (sends G q j S)) (h .1))
 
     module _ {n : ℕ} (f : x ≡ Written.Tree n) (m : List ℕ) (t : m ≡ take n buf) {y : ℕ} (r : y ≡ requestType file o)
         {v : Verdict} (p : Passes m file y MessageMisfit v) where
@@ -405,6 +414,6 @@ module _ (file s out : List ℕ) (q n r to : ℕ) where
 
 pub ruleset message-laws = (message-inside, prefix-length)
 
-pub ruleset outside-laws = (outside-short, outside-target, outside-stuck, outside-not, outside-long, outside-done)
+pub ruleset outside-laws = (outside-short, outside-target, outside-unwritten, outside-not, outside-long, outside-done)
 
-pub ruleset offer-laws = (length-tree, length-missing, length-wrong, verdict-tree, verdict-missing, verdict-wrong)
+pub ruleset offer-laws = (length-tree, length-missing, length-wrong, length-outside, verdict-tree, verdict-missing, verdict-wrong, verdict-outside)

@@ -5,7 +5,7 @@ use mathlib.Core.List.{List}
 use Prim.Native.Nat.{ℕ, _<_, _≤_}
 use lib.ListN.{length}
 use Rattle.refusal.specs.declared.Outcome.{Outcome}
-use Rattle.refusal.specs.declared.Refusal.the-variants.{MoveNotAllowed, Stuck}
+use Rattle.refusal.specs.declared.Refusal.the-variants.{MoveNotAllowed, Stuck, OutOfRange}
 use Rattle.refusal.specs.declared.Verdict.{Verdict}
 use Rattle.refusal.specs.declared.Verdict.the-variants.{Done, Refused}
 use Rattle.check_typing.specs.Rules.{permits}
@@ -69,11 +69,12 @@ pub record WritesMessage (file s : List ℕ) (slot e : ℕ) (o : List ℕ) (x : 
   pub tells : WellFormed file → e < expressionCount file → (S : Session) → Living s slot S → WrittenAs o x (evaluate (S .tree) (expressionOf file e))
   pub inside : bytesWritten x ≤ length o
 
--- 18: "A value read is missing, an operand .. is of the wrong kind".
+-- 18: "A value read is missing, an operand .. is of the wrong kind"; 22.
 abbrev pub writtenVerdict : Written → Verdict
 writtenVerdict (Written.Tree n) = Done
 writtenVerdict Written.Missing = Refused Stuck
 writtenVerdict Written.Wrong = Refused Stuck
+writtenVerdict Written.Outside = Refused OutOfRange
 
 -- A message of E row e by O row o to a location outside, by row i of the session in the slot.
 pub record SendsOutside (file s : List ℕ) (slot i o e to : ℕ) (after : Progress) (s′ out out′ : List ℕ) (a : Outcome) : Type 0 where

@@ -112,8 +112,12 @@ fn send_outside(
         return refusal::refused(Refusal::MoveNotAllowed);
     }
     let mut m = [0u8; 1024];
-    let Written::Tree(n) = write_message(&mut m, file, state, slot, e) else {
-        return refusal::refused(Refusal::Stuck);
+    let w = write_message(&mut m, file, state, slot, e);
+    let Written::Tree(n) = w else {
+        return Outcome {
+            bytes: 0,
+            verdict: message_verdict(w),
+        };
     };
     let t = network_rows::request_type(file, o);
     let v = move_fitting::passes(&m[..n], file, t, Refusal::MessageMisfit);
@@ -130,7 +134,7 @@ fn send_outside(
     refusal::done(tree_edit::append(out, 0, &m[..n], 0, n))
 }
 
-// The length of the message, 0 where there is none; and what it answers itself, 18 where there is none.
+// The length of the message, 0 where there is none; and what it answers itself, 18 or 22 where there is none.
 fn message_length(w: Written) -> usize
     ensures { λ n. ⌜ n ≡ bytesWritten w ⌝ }
 {
@@ -138,6 +142,7 @@ fn message_length(w: Written) -> usize
         Written::Tree(n) => n,
         Written::Missing => 0,
         Written::Wrong => 0,
+        Written::Outside => 0,
     }
 }
 
@@ -148,6 +153,7 @@ fn message_verdict(w: Written) -> Verdict
         Written::Tree(_) => Verdict::Done,
         Written::Missing => Verdict::Refused(Refusal::Stuck),
         Written::Wrong => Verdict::Refused(Refusal::Stuck),
+        Written::Outside => Verdict::Refused(Refusal::OutOfRange),
     }
 }
 
@@ -216,7 +222,7 @@ fn send_by(
     send_inside(file, state, slot, i, k, e, to, after, back)
 }
 
-// Row r of session n of service q sends, with the target session `to`: 15, 16, 18, 19; a message to a location outside is written out.
+// Row r of session n of service q sends, with the target session `to`: 15, 16, 18, 22, 19; a message to a location outside is written out.
 pub fn send_move(
     file: &[u8],
     state: &mut [u8],

@@ -5,7 +5,8 @@ use Rattle.refusal.specs.declared.Refusal.{Refusal}
 use Rattle.refusal.specs.declared.Refusal.the-variants.{BufferSize, FileLayout, SectionCount, BrokenField, TooLarge}
 use Rattle.refusal.specs.declared.Refusal.the-variants.{WrongOperation, PathNotFirm, OperandType, TypeMisfit}
 use Rattle.refusal.specs.declared.Refusal.the-variants.{EnvironmentsDiffer, SharedRoot, EnvironmentTooLarge, OutputMismatch}
-use Rattle.refusal.specs.declared.Refusal.the-variants.{NoState, MoveNotAllowed, QueueFull, NoMessage, Stuck, MessageMisfit, UnknownByte, BrokenText}
+use Rattle.refusal.specs.declared.Refusal.the-variants.{NoState, MoveNotAllowed, QueueFull, NoMessage, Stuck, MessageMisfit}
+use Rattle.refusal.specs.declared.Refusal.the-variants.{UnknownByte, BrokenText, OutOfRange}
 use Rattle.refusal.specs.declared.Verdict.{Verdict}
 use Rattle.refusal.specs.declared.Verdict.the-variants.{Done, Refused}
 use Rattle.refusal.specs.declared.Outcome.{Outcome}
@@ -33,6 +34,7 @@ numberOf Stuck = 18  -- "A value read is missing, an operand or condition is of 
 numberOf MessageMisfit = 19  -- "A message doesn't fit its input's request type, a reply its waiting row's .."
 numberOf (UnknownByte p) = 20  -- 02: "A byte that the grammar uses nowhere"
 numberOf (BrokenText p) = 21  -- 02: "a broken declaration, duplicate or unknown name"
+numberOf OutOfRange = 22  -- 02: "where the exact result is outside its width, the move is refused"
 
 -- The place of a refusal.
 abbrev pub placeOf : Refusal → ℕ
@@ -57,6 +59,7 @@ placeOf Stuck = 0
 placeOf MessageMisfit = 0
 placeOf (UnknownByte p) = p  -- 02: "both at the text's first offending byte"
 placeOf (BrokenText p) = p
+placeOf OutOfRange = 0
 
 -- 01: "number 0 is done".
 abbrev pub numberIn : Verdict → ℕ

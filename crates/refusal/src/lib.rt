@@ -25,6 +25,7 @@ pub enum Refusal {
     MessageMisfit,
     UnknownByte(usize),
     BrokenText(usize),
+    OutOfRange,
 }
 
 pub enum Verdict {
@@ -80,6 +81,7 @@ pub fn number_of(why: Refusal) -> u8
         Refusal::MessageMisfit => 19,
         Refusal::UnknownByte(_) => 20,
         Refusal::BrokenText(_) => 21,
+        Refusal::OutOfRange => 22,
     }
 }
 
@@ -114,6 +116,7 @@ pub fn place_of(why: Refusal) -> usize
         Refusal::MessageMisfit => 0,
         Refusal::UnknownByte(at) => at,
         Refusal::BrokenText(at) => at,
+        Refusal::OutOfRange => 0,
     }
 }
 

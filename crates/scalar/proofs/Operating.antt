@@ -12,26 +12,30 @@ use lib.Ieee as Ieee
 use types.Run.{OneOf, miss}
 use denote.Enum.Declared.{tagOf}
 use borrow.Author.Tests.{ne-eqb, eq-eqb}
-use mir.Syntax.{Width}
+use mir.Syntax.{Width, w32, w64}
 use mir.Val.{SFits, ofZ}
-use Rattle.integer.specs.Wrap.{wrap}
+use Rattle.basics.specs.Choice.{pick}
+use Rattle.integer.specs.Range.{inWidth, intSum, longSum}
+use Rattle.integer.specs.declared.IntSum.{IntSum}
+use Rattle.integer.specs.declared.LongSum.{LongSum}
 use Rattle.scalar.specs.declared.Scalar.{Scalar}
 use Rattle.scalar.specs.declared.Scalar.the-variants.{Bool, Int, Double, Long, String, Raw, Void}
 use Rattle.scalar.specs.declared.Pair.{Pair}
 use Rattle.scalar.specs.declared.Pair.the-variants.{Bools, Ints, Doubles, Longs, Strings, Raws, Voids, Unlike}
 use Rattle.scalar.specs.declared.Operand.{Operand}
-use Rattle.scalar.specs.declared.Computed.the-variants.{Wrong, Gives}
-use Rattle.scalar.specs.Basic.{double, string, raw, void}
+use Rattle.scalar.specs.declared.Computed.the-variants.{Wrong, Outside, Gives}
+use Rattle.scalar.specs.Basic.{int, double, long, string, raw, void}
 use Rattle.scalar.specs.Value.{Value, value, basicOf, integral, basicType}
 use Rattle.wire.specs.Wire.{unsignedOf}
-use Rattle.scalar.specs.Operator.{Answer, wrong, gives, ofBool, ofInt, ofLong, ofDouble, wrapped, boolOf, bit, equalBytes, alike, Numeric, numericBy, numericOf, adding, subtracting, comparing, equalBy, andBy, notOf, negateOf, andOf, addOf, subtractOf, lessOf, equalOf}
-use Rattle.scalar.specs.NumberLaws.{exact, wrapped-wrap, double-back}
-use Rattle.scalar.specs.Scalar.{valueBeside, beside, valueOf, answerOf, kindOf, AsPair}
-use Rattle.scalar.proofs.Same.{same-wrapped, same-bit}
+use Rattle.scalar.specs.Operator.{Answer, wrong, outside, gives, ofBool, ofInt, ofLong, ofDouble, integerBytes, exactly, boolOf, bit, equalBytes, alike, Numeric, numericBy, numericOf, adding, subtracting, comparing, equalBy, andBy, notOf, negateOf, andOf, addOf, subtractOf, lessOf, equalOf}
+use Rattle.scalar.specs.NumberLaws.{exact, double-back}
+use Rattle.scalar.specs.Scalar.{valueBeside, beside, valueOf, answerOf, intAnswer, longAnswer, kindOf, AsPair}
+use Rattle.scalar.specs.ScalarLaws.{basic-kind}
+use Rattle.scalar.proofs.Same.{same-integer, same-bit}
 use Rattle.scalar.proofs.Scalar as S
 use Rattle.scalar.proofs.Pair as P
 
--- ---- the kind of a scalar is its tag and its value's basic type
+-- ---- the kind of a scalar is its tag
 
 tag-kind : (x : Scalar) → tagOf S.the-type x ≡ kindOf x
 tag-kind (Bool b) = refl
@@ -41,15 +45,6 @@ tag-kind (Long z) = refl
 tag-kind String = refl
 tag-kind Raw = refl
 tag-kind Void = refl
-
-basic-kind : (x : Scalar) (t : List ℕ) → basicOf (valueBeside x t) ≡ kindOf x
-basic-kind (Bool b) t = refl
-basic-kind (Int z) t = refl
-basic-kind (Double x) t = refl
-basic-kind (Long z) t = refl
-basic-kind String t = refl
-basic-kind Raw t = refl
-basic-kind Void t = refl
 
 -- The arm of `paired` where the second scalar is of none of the kinds that the first is of.
 pub kinds-differ : (k : ℕ) (ks : List ℕ) (x y : Scalar) → (OneOf ks k → ⊥) → kindOf x ≡ k → OneOf ks (tagOf S.the-type y) → eqb (kindOf x) (kindOf y) ≡ false
@@ -83,16 +78,49 @@ pub not-other : (a : Operand) → OneOf (1 ∷ 2 ∷ 3 ∷ 4 ∷ 5 ∷ 6 ∷ [])
 unfolding answerOf valueOf
 not-other a h = not-other-by (a .scalar) (beside a) h
 
+-- What sums are as answers, in the code and by definition.
+pub int-given : {s : IntSum} {x z : ℤ} → s ≡ IntSum.Exact z → x ≡ z → answerOf (Gives (Int x)) ≡ intAnswer s
+unfolding answerOf
+int-given {x = x} e q = ap (λ (y : ℤ). gives (ofInt y)) q ∙ ap intAnswer (sym e)
+
+pub int-left : {s : IntSum} (z : ℤ) → s ≡ IntSum.Outside → answerOf (Outside (Int z)) ≡ intAnswer s
+unfolding answerOf
+int-left z e = ap intAnswer (sym e)
+
+pub long-given : {s : LongSum} {x z : ℤ} → s ≡ LongSum.Exact z → x ≡ z → answerOf (Gives (Long x)) ≡ longAnswer s
+unfolding answerOf
+long-given {x = x} e q = ap (λ (y : ℤ). gives (ofLong y)) q ∙ ap longAnswer (sym e)
+
+pub long-left : {s : LongSum} (z : ℤ) → s ≡ LongSum.Outside → answerOf (Outside (Long z)) ≡ longAnswer s
+unfolding answerOf
+long-left z e = ap longAnswer (sym e)
+
+pub int-answers : (z : ℤ) → intAnswer (intSum z) ≡ exactly int w32 z
+unfolding intSum
+int-answers z = go (inWidth w32 z)
+  where
+    go : (t : B.Bool) → intAnswer (pick t (IntSum.Exact z) IntSum.Outside) ≡ pick t (gives (ofInt z)) (outside int)
+    go true = refl
+    go false = refl
+
+pub long-answers : (z : ℤ) → longAnswer (longSum z) ≡ exactly long w64 z
+unfolding longSum
+long-answers z = go (inWidth w64 z)
+  where
+    go : (t : B.Bool) → longAnswer (pick t (LongSum.Exact z) LongSum.Outside) ≡ pick t (gives (ofLong z)) (outside long)
+    go true = refl
+    go false = refl
+
 -- What an operator's code gives, as an answer.
 pub answer : (x : Scalar) → answerOf (Gives x) ≡ gives (valueBeside x [])
 unfolding answerOf
 answer x = refl
 
 -- One law for int and long, over the basic type n and its width.
-pub negate-integer : (a : Operand) (n : ℕ) (u : Width) → basicType n .arithmetic ≡ integral u → {p r : ℤ} → valueOf a ≡ value n (wrapped u p) → SFits u p
-    → r ≡ wrap u (negℤ p) → gives (value n (wrapped u r)) ≡ negateOf (valueOf a)
+pub negate-integer : (a : Operand) (n : ℕ) (u : Width) → basicType n .arithmetic ≡ integral u → {p : ℤ} → valueOf a ≡ value n (integerBytes u p) → SFits u p
+    → exactly n u (negℤ p) ≡ negateOf (valueOf a)
 unfolding negateOf
-negate-integer a n u k {p} e f q = rw (e, k, exact u p f, q, wrapped-wrap u (negℤ p)) refl
+negate-integer a n u k {p} e f = rw (e, k, exact u p f) refl
 
 pub negate-double : (a : Operand) {p : Float} → a .scalar ≡ Double p → T (fits binary64 p) → answerOf (Gives (Double (Ieee.neg p))) ≡ negateOf (valueOf a)
 unfolding answerOf negateOf
@@ -144,8 +172,8 @@ unlike f x y s t e = alike-differ f (valueBeside x s) (valueBeside y t) (rw (bas
 -- ---- add, subtract, less
 
 module _ (o : Numeric) (a b : Operand) where
-  on-integers : (n : ℕ) (u : Width) → basicType n .arithmetic ≡ integral u → {p q : ℤ} → (valueOf a ≡ value n (wrapped u p)) × (valueOf b ≡ value n (wrapped u q))
-      → SFits u p → SFits u q → gives (o .integers n u p q) ≡ numericOf o (valueOf a) (valueOf b)
+  on-integers : (n : ℕ) (u : Width) → basicType n .arithmetic ≡ integral u → {p q : ℤ} → (valueOf a ≡ value n (integerBytes u p)) × (valueOf b ≡ value n (integerBytes u q))
+      → SFits u p → SFits u q → o .integers n u p q ≡ numericOf o (valueOf a) (valueOf b)
   on-integers n u k {p} {q} v f g = rw (v .0, v .1, eq-eqb n n refl, k, exact u p f, exact u q g) refl
 
   on-doubles : {p q : Float} → (valueOf a ≡ ofDouble p) × (valueOf b ≡ ofDouble q) → T (fits binary64 p) → T (fits binary64 q)
@@ -169,27 +197,27 @@ module _ (a b : Operand) where
   abbrev Both : Value → Value → Type 0
   Both x y = (valueOf a ≡ x) × (valueOf b ≡ y)
 
-  pub add-integers : (n : ℕ) (u : Width) → basicType n .arithmetic ≡ integral u → {p q r : ℤ} → Both (value n (wrapped u p)) (value n (wrapped u q))
-      → SFits u p → SFits u q → r ≡ wrap u (p +ℤ q) → gives (value n (wrapped u r)) ≡ addOf (valueOf a) (valueOf b)
+  pub add-integers : (n : ℕ) (u : Width) → basicType n .arithmetic ≡ integral u → {p q : ℤ} → Both (value n (integerBytes u p)) (value n (integerBytes u q))
+      → SFits u p → SFits u q → exactly n u (p +ℤ q) ≡ addOf (valueOf a) (valueOf b)
   unfolding addOf
-  add-integers n u k {p} {q} v f g e = rw (e, wrapped-wrap u (p +ℤ q)) (on-integers adding a b n u k v f g)
+  add-integers n u k v f g = on-integers adding a b n u k v f g
 
   pub add-doubles : (p q : Float) → Both (ofDouble p) (ofDouble q) → T (fits binary64 p) → T (fits binary64 q)
       → gives (ofDouble (Ieee.add binary64 p q)) ≡ addOf (valueOf a) (valueOf b)
   unfolding addOf
   add-doubles p q v f g = on-doubles adding a b v f g
 
-  pub subtract-integers : (n : ℕ) (u : Width) → basicType n .arithmetic ≡ integral u → {p q r : ℤ} → Both (value n (wrapped u p)) (value n (wrapped u q))
-      → SFits u p → SFits u q → r ≡ wrap u (p -ℤ q) → gives (value n (wrapped u r)) ≡ subtractOf (valueOf a) (valueOf b)
+  pub subtract-integers : (n : ℕ) (u : Width) → basicType n .arithmetic ≡ integral u → {p q : ℤ} → Both (value n (integerBytes u p)) (value n (integerBytes u q))
+      → SFits u p → SFits u q → exactly n u (p -ℤ q) ≡ subtractOf (valueOf a) (valueOf b)
   unfolding subtractOf
-  subtract-integers n u k {p} {q} v f g e = rw (e, wrapped-wrap u (p -ℤ q)) (on-integers subtracting a b n u k v f g)
+  subtract-integers n u k v f g = on-integers subtracting a b n u k v f g
 
   pub subtract-doubles : (p q : Float) → Both (ofDouble p) (ofDouble q) → T (fits binary64 p) → T (fits binary64 q)
       → gives (ofDouble (Ieee.sub binary64 p q)) ≡ subtractOf (valueOf a) (valueOf b)
   unfolding subtractOf
   subtract-doubles p q v f g = on-doubles subtracting a b v f g
 
-  pub less-integers : (n : ℕ) (u : Width) → basicType n .arithmetic ≡ integral u → {p q : ℤ} {t : B.Bool} → Both (value n (wrapped u p)) (value n (wrapped u q))
+  pub less-integers : (n : ℕ) (u : Width) → basicType n .arithmetic ≡ integral u → {p q : ℤ} {t : B.Bool} → Both (value n (integerBytes u p)) (value n (integerBytes u q))
       → SFits u p → SFits u q → t ≡ ltZ p q → gives (ofBool t) ≡ lessOf (valueOf a) (valueOf b)
   unfolding lessOf
   less-integers n u k v f g e = rw e (on-integers comparing a b n u k v f g)
@@ -254,10 +282,10 @@ no-equals-by x y s t Voids h k = rw (h .0, h .1) refl
 no-equals-by x y s t Unlike h k = unlike equalBy x y s t h
 
 module _ (a b : Operand) where
-  pub equal-integers : (n : ℕ) (u : Width) → eqb n void ≡ false → eqb n double ≡ false → {p q : ℤ} → (valueOf a ≡ value n (wrapped u p)) × (valueOf b ≡ value n (wrapped u q))
+  pub equal-integers : (n : ℕ) (u : Width) → eqb n void ≡ false → eqb n double ≡ false → {p q : ℤ} → (valueOf a ≡ value n (integerBytes u p)) × (valueOf b ≡ value n (integerBytes u q))
       → SFits u p → SFits u q → gives (ofBool (eqb (ofZ u p) (ofZ u q))) ≡ equalOf (valueOf a) (valueOf b)
   unfolding equalOf
-  equal-integers n u o d {p} {q} v f g = rw (v .0, v .1, eq-eqb n n refl, o, d, same-wrapped u p q f g) refl
+  equal-integers n u o d {p} {q} v f g = rw (v .0, v .1, eq-eqb n n refl, o, d, same-integer u p q f g) refl
 
 module _ (a b : Operand) (m : Pair) (h : AsPair (a .scalar) (b .scalar) m) where
   pub and-bools : {p q t : B.Bool} → m ≡ Bools p q → t ≡ (p && q) → answerOf (Gives (Bool t)) ≡ andOf (valueOf a) (valueOf b)

@@ -13,7 +13,6 @@ use lib.IntN.{ℤ}
 use lib.Ieee.{Float, binary64, ofBits, toBits}
 use mir.Syntax.{Width, w32, w64}
 use mir.Val.{bits, SFits, toZ, ofZ}
-use Rattle.integer.specs.WrapLaws.{pattern-exact}
 use Rattle.wire.specs.Wire.{byteAt, u32At, u64At, putU32, putU64, part, withPart}
 use Rattle.wire.specs.WireLaws.{length-part, put-32, put-64}
 use Rattle.scalar.specs.declared.Scalar.{Scalar}
@@ -23,9 +22,9 @@ use Rattle.scalar.specs.Value.{Value, value, bytesOf, isValue, integral,
 use Rattle.wire.specs.Wire.{unsignedOf}
 use Rattle.scalar.specs.Basic.{bool, int, double, long, string, raw, void}
 use Rattle.scalar.specs.ValueLaws.{number-8, number-32, number-64, bool-bytes, integer-bytes, double-bytes, string-bytes, raw-bytes, void-bytes}
-use Rattle.scalar.specs.Operator.{bit, signed, wrapped, doubleOf}
+use Rattle.scalar.specs.Operator.{bit, signed, integerBytes, doubleOf}
 use Rattle.wire.specs.Wire.{littleEndian}
-use Rattle.scalar.specs.NumberLaws.{part-bytes, wrapped-signed, double-same, length-littleEndian, little-32, little-64}
+use Rattle.scalar.specs.NumberLaws.{part-bytes, bytes-signed, double-same, length-littleEndian, little-32, little-64}
 use Rattle.scalar.specs.Scalar.{valueBeside, valueOf, beside}
 
 -- ---- read
@@ -57,10 +56,10 @@ module _ (s : List ℕ) (at b n : ℕ) (l : at + n ≤ length s) (h : isValue b 
 
   -- One law for int and long: x is the number of the value's bytes, of which there are as many as the width has.
   pub read-integer : (u : Width) {x : ℕ} {z : ℤ} {v : Value} → basicType b .arithmetic ≡ integral u → (n ≡ bits u / 8 → x ≡ unsignedOf (part s at n)) → z ≡ toZ u x
-      → v ≡ value b (wrapped u z) → v ≡ value b (part s at n)
+      → v ≡ value b (integerBytes u z) → v ≡ value b (part s at n)
   read-integer u e q f r =
       let k = integer-bytes b u (part s at n) e h in
-      let w : wrapped u (signed u (part s at n)) ≡ part s at n = wrapped-signed u (part-bytes s at n bytes l) k in
+      let w : integerBytes u (signed u (part s at n)) ≡ part s at n = bytes-signed u (part-bytes s at n bytes l) k in
       r ∙ rw (f, q (sym long-enough ∙ k), w) refl
 
   pub read-int : {x : ℕ} {z : ℤ} {v : Value} → b ≡ int → x ≡ u32At s at → z ≡ toZ w32 x → v ≡ valueBeside (Int z) [] → v ≡ value b (part s at n)
@@ -106,9 +105,9 @@ module _ (x : Operand) where
   bool-written e = ap bytesOf (value-is e)
 
   -- One law for int and long.
-  pub integer-written : (n : ℕ) (u : Width) {k : Scalar} (p : ℤ) → x .scalar ≡ k → valueBeside k (beside x) ≡ value n (wrapped u p) → SFits u p
+  pub integer-written : (n : ℕ) (u : Width) {k : Scalar} (p : ℤ) → x .scalar ≡ k → valueBeside k (beside x) ≡ value n (integerBytes u p) → SFits u p
       → bytesOf (valueOf x) ≡ littleEndian (bits u / 8) (ofZ u p)
-  integer-written n u p e q f = ap bytesOf (value-is e ∙ q) ∙ ap (littleEndian (bits u / 8)) (pattern-exact u p f)
+  integer-written n u p e q f = ap bytesOf (value-is e ∙ q)
 
   pub double-written : {p : Float} → x .scalar ≡ Double p → bytesOf (valueOf x) ≡ littleEndian 8 (toBits binary64 p)
   double-written e = ap bytesOf (value-is e)

@@ -13,11 +13,9 @@ use mir.Syntax.{Width}
 use mir.Val.{ofZ, SFits}
 use lib.IntN.{ℤ}
 use Rattle.basics.specs.TestLaws.{agree, and-of}
-use Rattle.integer.specs.WrapLaws.{pattern-exact}
-use Rattle.integer.specs.Wrap.{pattern}
 use Rattle.wire.specs.Wire.{unsignedOf}
-use Rattle.scalar.specs.Operator.{wrapped, equalBytes, bit}
-use Rattle.scalar.specs.NumberLaws.{number-wrapped}
+use Rattle.scalar.specs.Operator.{integerBytes, equalBytes, bit}
+use Rattle.scalar.specs.NumberLaws.{number-bytes}
 
 pub same-refl : (v : List ℕ) → equalBytes v v ≡ true
 same-refl [] = refl
@@ -29,15 +27,15 @@ same-eq [] (b ∷ w) e = let z : _≡_ {A = ℕ} 0 1 = cc in absurd (omega arith
 same-eq (a ∷ v) [] e = let z : _≡_ {A = ℕ} 0 1 = cc in absurd (omega arith)
 same-eq (a ∷ v) (b ∷ w) e = let t = and-of (eqb a b) (equalBytes v w) e in rw (eqb-true a b (t .0), same-eq v w (t .1)) refl
 
-pub same-wrapped : (w : Width) (x y : ℤ) → SFits w x → SFits w y → equalBytes (wrapped w x) (wrapped w y) ≡ eqb (ofZ w x) (ofZ w y)
-same-wrapped w x y f g =
-    let ex = number-wrapped w x ∙ pattern-exact w x f in
-    let ey = number-wrapped w y ∙ pattern-exact w y g in
-    agree (equalBytes (wrapped w x) (wrapped w y)) (eqb (ofZ w x) (ofZ w y))
-    (λ e. eq-eqb (ofZ w x) (ofZ w y) (sym ex ∙ ap unsignedOf (same-eq (wrapped w x) (wrapped w y) e) ∙ ey))
+pub same-integer : (w : Width) (x y : ℤ) → SFits w x → SFits w y → equalBytes (integerBytes w x) (integerBytes w y) ≡ eqb (ofZ w x) (ofZ w y)
+same-integer w x y f g =
+    let ex = number-bytes w x f in
+    let ey = number-bytes w y g in
+    agree (equalBytes (integerBytes w x) (integerBytes w y)) (eqb (ofZ w x) (ofZ w y))
+    (λ e. eq-eqb (ofZ w x) (ofZ w y) (sym ex ∙ ap unsignedOf (same-eq (integerBytes w x) (integerBytes w y) e) ∙ ey))
     (λ e.
-    let p : pattern w x ≡ pattern w y = pattern-exact w x f ∙ eqb-true (ofZ w x) (ofZ w y) e ∙ sym (pattern-exact w y g) in
-    rw p (same-refl (wrapped w y)))
+    let p : ofZ w x ≡ ofZ w y = eqb-true (ofZ w x) (ofZ w y) e in
+    rw p (same-refl (integerBytes w y)))
 
 pub same-bit : (p q : Bool) → equalBytes (bit p ∷ []) (bit q ∷ []) ≡ Bool·beq p q
 same-bit true true = refl

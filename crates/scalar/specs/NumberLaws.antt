@@ -12,16 +12,14 @@ use lib.Ieee.{Float, nan, inf, fin, binary64, isNan, nanBits, fits, ofBits, toBi
 use lib.Ieee.Bits.{ofBits-toBits, toBits-ofBits, toBits-lt, nanBits-is, nanBits-above}
 use borrow.Author.Tests.{le-leb, le-ltb, ltb-false, leb-true, leb-false, eqb-true, eq-eqb}
 use mir.Syntax.{Width, w8, w16, w32, w64, w128}
-use mir.Val.{bits, toZ, SFits, Fits}
-use mir.ValLaws.{ofZ-toZ, toZ-fits}
+use mir.Val.{bits, toZ, ofZ, SFits}
+use mir.ValLaws.{toZ-ofZ, ofZ-toZ, ofZ-fits}
 use Rattle.wire.specs.Wire.{byteAt, part, u32Bytes}
 use Rattle.wire.specs.WireLaws.{agree-byte, part-agrees, byte-past, length-part}
-use Rattle.integer.specs.Wrap.{pattern, wrap}
-use Rattle.integer.specs.WrapLaws.{pattern-fits, pattern-exact, wrap-exact, wrap-fits, wrap-pattern}
 use Rattle.scalar.specs.Basic.{bool}
 use Rattle.scalar.specs.Value.{value, isValue, isDouble, theNan, SoundValue, integral, floating, noArithmetic, basicType}
 use Rattle.wire.specs.Wire.{unsignedOf}
-use Rattle.scalar.specs.Operator.{bit, signed, wrapped, rounded, ofBool, doubleOf}
+use Rattle.scalar.specs.Operator.{bit, signed, integerBytes, rounded, ofBool, doubleOf}
 use Rattle.wire.specs.Wire.{littleEndian}
 use Rattle.scalar.specs.ValueLaws.{every, integer-rule}
 
@@ -82,28 +80,18 @@ whole-bytes w32 = refl
 whole-bytes w64 = refl
 whole-bytes w128 = refl
 
-pub number-wrapped : (w : Width) (z : ℤ) → unsignedOf (wrapped w z) ≡ pattern w z
-number-wrapped w z = number-littleEndian (bits w / 8) (pattern w z) (rw (whole-bytes w) at (pattern-fits w z .fits))
+pub number-bytes : (w : Width) (z : ℤ) → SFits w z → unsignedOf (integerBytes w z) ≡ ofZ w z
+number-bytes w z f = number-littleEndian (bits w / 8) (ofZ w z) (rw (whole-bytes w) at (ofZ-fits w z f .fits))
 
-pub signed-wrapped : (w : Width) (z : ℤ) → signed w (wrapped w z) ≡ wrap w z
-unfolding wrap
-signed-wrapped w z = ap (toZ w) (number-wrapped w z)
-
--- 01: "exact at the ends of their ranges": an exact result z that fits its width is what the written bytes stand for. Over the
--- width, so for int and long, and for sums, differences and opposites alike.
-pub exact : (w : Width) (z : ℤ) → SFits w z → signed w (wrapped w z) ≡ z
-exact w z f = signed-wrapped w z ∙ wrap-exact w z f
-
--- Wrapping first changes nothing.
-pub wrapped-wrap : (w : Width) (z : ℤ) → wrapped w (wrap w z) ≡ wrapped w z
-wrapped-wrap w z = ap (littleEndian (bits w / 8)) (pattern-exact w (wrap w z) (wrap-fits w z) ∙ wrap-pattern w z)
+-- 01: "exact at the ends of their ranges": the bytes of an integer of a width stand for it. Over the width, so for int and long.
+pub exact : (w : Width) (z : ℤ) → SFits w z → signed w (integerBytes w z) ≡ z
+exact w z f = ap (toZ w) (number-bytes w z f) ∙ toZ-ofZ w z f
 
 -- Bytes of the width that are read and written again are the same bytes.
-pub wrapped-signed : (w : Width) {v : List ℕ} → Bytes v → length v ≡ bits w / 8 → wrapped w (signed w v) ≡ v
-wrapped-signed w {v} h e =
+pub bytes-signed : (w : Width) {v : List ℕ} → Bytes v → length v ≡ bits w / 8 → integerBytes w (signed w v) ≡ v
+bytes-signed w {v} h e =
     let l : unsignedOf v < 2 ^ bits w = rw (e, ← whole-bytes w) at (number-below h) in
-    let f : Fits w (unsignedOf v) = record { fits = l } in
-    ap (littleEndian (bits w / 8)) (pattern-exact w (toZ w (unsignedOf v)) (toZ-fits w (unsignedOf v) f) ∙ ofZ-toZ w (unsignedOf v) f)
+    ap (littleEndian (bits w / 8)) (ofZ-toZ w (unsignedOf v) (record { fits = l }))
     ∙ ap (λ (n : ℕ). littleEndian n (unsignedOf v)) (sym e) ∙ littleEndian-number h
 
 -- ---- doubles
@@ -157,10 +145,10 @@ sound-bool true = record { basic = refl; rule = refl }
 sound-bool false = record { basic = refl; rule = refl }
 
 -- An integer written at the width of its basic type is a value of it.
-pub sound-integer : (b : ℕ) (u : Width) (z : ℤ) → basicType b .arithmetic ≡ integral u → SoundValue b (value b (wrapped u z))
+pub sound-integer : (b : ℕ) (u : Width) (z : ℤ) → basicType b .arithmetic ≡ integral u → SoundValue b (value b (integerBytes u z))
 sound-integer b u z e = record {
   basic = refl;
-  rule = integer-rule b u (wrapped u z) e ∙ eq-eqb _ _ (length-littleEndian (bits u / 8) (pattern u z));
+  rule = integer-rule b u (integerBytes u z) e ∙ eq-eqb _ _ (length-littleEndian (bits u / 8) (ofZ u z));
 }
 
 -- A double written is a value of the basic type of doubles.

@@ -1,6 +1,6 @@
 -- The operators of expressions on values. 01, Typing: "Not, and: bool; both operands are worked out. Negate, add, subtract,
--- less: int, long or double, both alike. Equal: alike, not void; doubles by IEEE equality. Int and long arithmetic wraps at its
--- width; a double sum is rounded once." Operands of another kind are wrong; a move then refuses with 18.
+-- less: int, long or double, both alike. Equal: alike, not void; doubles by IEEE equality .. a double sum is rounded once." 02: "Int and
+-- long add, subtract and negate no longer wrap". Operands of another kind are wrong; a move then refuses with 18.
 use mathlib.Core.List.{List, [], _∷_}
 use mathlib.Core.Bool.{Bool, true, false, not, _&&_}
 use Prim.Native.Nat.{ℕ, zero, _/_}
@@ -10,16 +10,18 @@ use lib.Signed.{ltZ}
 use lib.Ieee.{Float, binary64, ofBits, toBits}
 use lib.Ieee as Ieee
 use mir.Syntax.{Width, w32, w64}
-use mir.Val.{bits, toZ}
-use Rattle.integer.specs.Wrap.{pattern}
+use mir.Val.{bits, toZ, ofZ}
+use Rattle.integer.specs.Range.{inWidth}
 use Rattle.scalar.specs.Basic.{bool, int, double, long, void}
 use Rattle.scalar.specs.Value.{Value, value, Arithmetic, integral, floating, noArithmetic, basicType}
 use Rattle.wire.specs.Wire.{unsignedOf, littleEndian}
 use Rattle.basics.specs.Choice.{pick}
 
--- What an operator gives: a value, or that its operands are of the wrong kind.
+-- What an operator gives: that its operands are of the wrong kind; that its "exact result is outside its width", of which only the basic
+-- type is known; or a value.
 pub data Answer : Type 0 where
   wrong : Answer
+  outside : ℕ → Answer
   gives : Value → Answer
 
 -- ---- what the bytes of a value stand for, and the value of what they stand for
@@ -35,19 +37,18 @@ bit true = 1
 abbrev pub ofBool : Bool → Value
 ofBool b = value bool (bit b ∷ [])
 
--- "int 4 bytes and long 8 (two's complement)": the integer that bytes of a width stand for, and the bytes of an integer at a
--- width. `pattern` keeps what the width holds, so an exact result "wraps at its width".
+-- "int 4 bytes and long 8 (two's complement)": the integer that bytes of a width stand for, and the bytes of an integer of the width.
 abbrev pub signed : Width → List ℕ → ℤ
 signed w v = toZ w (unsignedOf v)
 
-abbrev pub wrapped : Width → ℤ → List ℕ
-wrapped w z = littleEndian (bits w / 8) (pattern w z)
+abbrev pub integerBytes : Width → ℤ → List ℕ
+integerBytes w z = littleEndian (bits w / 8) (ofZ w z)
 
 abbrev pub ofInt : ℤ → Value
-ofInt z = value int (wrapped w32 z)
+ofInt z = value int (integerBytes w32 z)
 
 abbrev pub ofLong : ℤ → Value
-ofLong z = value long (wrapped w64 z)
+ofLong z = value long (integerBytes w64 z)
 
 -- "double 8 (IEEE 754; the only NaN is 7FF8000000000000 hexadecimal)": `toBits` writes that one.
 abbrev pub doubleOf : List ℕ → Float
@@ -77,9 +78,13 @@ notBy b v = pick (eqb b bool) (gives (ofBool (not (boolOf v)))) wrong
 unfoldable pub notOf : Value → Answer
 notOf (value b v) = notBy b v
 
+-- 02: "where the exact result is outside its width, the move is refused": the exact result z, of the basic type b of that width.
+abbrev pub exactly : ℕ → Width → ℤ → Answer
+exactly b u z = pick (inWidth u z) (gives (value b (integerBytes u z))) (outside b)
+
 -- "Negate .. : int, long or double": said once for every width. A double's sign is turned, also of a zero; a NaN stays the one NaN.
 abbrev pub negateBy : Arithmetic → ℕ → List ℕ → Answer
-negateBy (integral u) b v = gives (value b (wrapped u (negℤ (signed u v))))
+negateBy (integral u) b v = exactly b u (negℤ (signed u v))
 negateBy floating b v = gives (value b (rounded (Ieee.neg (doubleOf v))))
 negateBy noArithmetic b v = wrong
 
@@ -101,21 +106,21 @@ andOf = alike andBy
 -- "add, subtract, less: int, long or double": an operator by what it does to two integers of a width and to two doubles, of the basic
 -- type b.
 pub record Numeric : Type 0 where
-  pub integers : ℕ → Width → ℤ → ℤ → Value
+  pub integers : ℕ → Width → ℤ → ℤ → Answer
   pub doubles : ℕ → Float → Float → Value
 
 abbrev pub numericBy : Numeric → Arithmetic → ℕ → List ℕ → List ℕ → Answer
-numericBy o (integral u) b v w = gives (o .integers b u (signed u v) (signed u w))
+numericBy o (integral u) b v w = o .integers b u (signed u v) (signed u w)
 numericBy o floating b v w = gives (o .doubles b (doubleOf v) (doubleOf w))
 numericBy o noArithmetic b v w = wrong
 
 abbrev pub numericOf : Numeric → Value → Value → Answer
 numericOf o = alike (λ b. numericBy o (basicType b .arithmetic) b)
 
--- Exact sums, wrapped; "a double sum is rounded once".
+-- Exact sums; "a double sum is rounded once".
 abbrev pub adding : Numeric
 adding = record {
-  integers = λ b u x y. value b (wrapped u (x +ℤ y));
+  integers = λ b u x y. exactly b u (x +ℤ y);
   doubles = λ b x y. value b (rounded (Ieee.add binary64 x y));
 }
 
@@ -124,7 +129,7 @@ addOf = numericOf adding
 
 abbrev pub subtracting : Numeric
 subtracting = record {
-  integers = λ b u x y. value b (wrapped u (x -ℤ y));
+  integers = λ b u x y. exactly b u (x -ℤ y);
   doubles = λ b x y. value b (rounded (Ieee.sub binary64 x y));
 }
 
@@ -133,7 +138,7 @@ subtractOf = numericOf subtracting
 
 -- No double is less than a NaN, and no NaN than a double.
 abbrev pub comparing : Numeric
-comparing = record { integers = λ b u x y. ofBool (ltZ x y); doubles = λ b x y. ofBool (Ieee.lt x y) }
+comparing = record { integers = λ b u x y. gives (ofBool (ltZ x y)); doubles = λ b x y. ofBool (Ieee.lt x y) }
 
 unfoldable pub lessOf : Value → Value → Answer
 lessOf = numericOf comparing

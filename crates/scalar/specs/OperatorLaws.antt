@@ -1,5 +1,5 @@
--- Laws of the operators: on operands of the right basic types each gives a value of the right basic type, on others it is wrong;
--- and 01's proved cases h and i. That an exact result which fits its width is the result is `exact` of NumberLaws.
+-- Laws of the operators: on operands of the right basic types each gives a value of the right basic type or is outside it, on others it is
+-- wrong; sums, differences and opposites of integers are exact or outside; and 01's proved cases h and i.
 use mathlib.Core.Path.{_≡_, refl, sym, ap, _∙_}
 use mathlib.Core.List.{List}
 use mathlib.Core.Bool.{Bool, true, false, not, _&&_, _||_}
@@ -13,22 +13,24 @@ use lib.Ieee.{Float, binary64, fits, neg, add, sub, lt, eq, ofBits, toBits, ofFi
 use lib.Ieee.Fits.{add-fits, sub-fits, neg-fits}
 use lib.Ieee.Bits.{ofBits-fits}
 use lib.Count.{trailingZeros}
-use borrow.Author.Tests.{ne-eqb}
+use borrow.Author.Tests.{ne-eqb, eq-eqb}
 use mir.Syntax.{Width}
-use mir.Val.{bits}
+use mir.Val.{bits, ofZ}
 use Rattle.wire.specs.Wire.{byteAt}
-use Rattle.integer.specs.Wrap.{pattern, modulo}
+use Rattle.integer.specs.Range.{inWidth}
+use Rattle.integer.specs.RangeLaws.{width-fits}
 use Rattle.scalar.specs.Basic.{bool, int, double, long, void, lastBasic}
 use Rattle.scalar.specs.Value.{Value, value, basicOf, bytesOf, SoundValue, Arithmetic, integral}
 use Rattle.scalar.specs.Value.{floating, noArithmetic, BasicType, basicTypes, noType, basicType}
 use Rattle.wire.specs.Wire.{unsignedOf}
 use Rattle.basics.specs.Choice.{pick}
 use Rattle.basics.specs.TestLaws.{and-left, and-right}
-use Rattle.scalar.specs.Operator.{Answer, wrong, gives, boolOf, ofBool, signed, wrapped, rounded, ofInt, doubleOf, equalBytes, isNumeric, isNumber}
+use Rattle.scalar.specs.Operator.{Answer, wrong, outside, gives, boolOf, ofBool, signed, integerBytes, rounded, ofInt, doubleOf}
+use Rattle.scalar.specs.Operator.{equalBytes, isNumeric, isNumber, exactly}
 use Rattle.wire.specs.Wire.{littleEndian}
 use Rattle.scalar.specs.Operator.{alike, negateBy, Numeric, numericBy, numericOf, adding, subtracting, comparing, andBy, equalBy}
 use Rattle.scalar.specs.Operator.{notOf, negateOf, andOf, addOf, subtractOf, lessOf, equalOf}
-use Rattle.scalar.specs.NumberLaws.{sound-bool, sound-integer, sound-floating, small-littleEndian, small-bit}
+use Rattle.scalar.specs.NumberLaws.{exact, sound-bool, sound-integer, sound-floating, small-littleEndian, small-bit}
 
 number-past : (b : ℕ) → lastBasic < b → isNumber b ≡ (eqb b int || (eqb b long || eqb b double))
 number-past b h =
@@ -46,31 +48,29 @@ number-is (suc (suc (suc (suc (suc zero))))) = refl
 number-is (suc (suc (suc (suc (suc (suc zero)))))) = refl
 number-is (suc (suc (suc (suc (suc (suc (suc b))))))) = number-past (suc (suc (suc (suc (suc (suc (suc b))))))) (omega arith)
 
--- The answer is a value, of the basic type b, by the value rule and of bytes.
-pub record Gives (b : ℕ) (a : Answer) : Type 0 where
-  pub result : Value
-  pub is : a ≡ gives result
-  pub sound : SoundValue b result
-  pub octets : (k : ℕ) → byteAt (bytesOf result) k < 256
+-- The value is of the basic type b, by the value rule and of bytes.
+pub record OfBasic (b : ℕ) (v : Value) : Type 0 where
+  pub sound : SoundValue b v
+  pub octets : (k : ℕ) → byteAt (bytesOf v) k < 256
+
+-- The answer is a value of the basic type b, or is outside it.
+abbrev pub Gives : ℕ → Answer → Type 0
+Gives b wrong = ⊥
+Gives b (outside c) = c ≡ b
+Gives b (gives v) = OfBasic b v
 
 gives-bool : (t : Bool) → Gives bool (gives (ofBool t))
-gives-bool t = record { result = ofBool t; is = refl; sound = sound-bool t; octets = small-bit t }
+gives-bool t = record { sound = sound-bool t; octets = small-bit t }
 
-gives-integer : (b : ℕ) (u : Width) (z : ℤ) → basicType b .arithmetic ≡ integral u → Gives b (gives (value b (wrapped u z)))
-gives-integer b u z e = record {
-  result = value b (wrapped u z);
-  is = refl;
-  sound = sound-integer b u z e;
-  octets = small-littleEndian (bits u / 8) (pattern u z);
-}
+gives-integer : (b : ℕ) (u : Width) (z : ℤ) → basicType b .arithmetic ≡ integral u → Gives b (exactly b u z)
+gives-integer b u z e = go (inWidth u z)
+  where
+    go : (t : Bool) → Gives b (pick t (gives (value b (integerBytes u z))) (outside b))
+    go true = record { sound = sound-integer b u z e; octets = small-littleEndian (bits u / 8) (ofZ u z) }
+    go false = refl
 
 gives-double : (b : ℕ) (x : Float) → basicType b .arithmetic ≡ floating → T (fits binary64 x) → Gives b (gives (value b (rounded x)))
-gives-double b x e f = record {
-  result = value b (rounded x);
-  is = refl;
-  sound = sound-floating b x e f;
-  octets = small-littleEndian 8 (toBits binary64 x);
-}
+gives-double b x e f = record { sound = sound-floating b x e f; octets = small-littleEndian 8 (toBits binary64 x) }
 
 -- What holds of what is picked.
 pick-yes : (P : Answer → Type 0) (t : Bool) (x y : Answer) → t ≡ true → P x → P (pick t x y)
@@ -145,7 +145,7 @@ negate-wrong (value b v) e = negate-wrong-by (basicType b .arithmetic) b v e
 
 -- An operator that gives a value of the basic type k b, on integers of a width and on doubles.
 pub record GivesNumbers (o : Numeric) (k : ℕ → ℕ) : Type 0 where
-  pub integers : (b : ℕ) (u : Width) (x y : ℤ) → basicType b .arithmetic ≡ integral u → Gives (k b) (gives (o .integers b u x y))
+  pub integers : (b : ℕ) (u : Width) (x y : ℤ) → basicType b .arithmetic ≡ integral u → Gives (k b) (o .integers b u x y)
   pub doubles : (b : ℕ) (x y : Float) → basicType b .arithmetic ≡ floating → Gives (k b) (gives (o .doubles b x y))
 
 module _ (o : Numeric) where
@@ -200,6 +200,33 @@ pub less-wrong : (x y : Value) → (isNumber (basicOf x) && eqb (basicOf x) (bas
 unfolding lessOf
 less-wrong = numeric-wrong comparing
 
+-- ---- integers: exact, or outside their width
+
+-- The answer for the exact result z of the basic type b: the value whose integer is z, or outside b, as `inWidth` says.
+pub record Exactly (b : ℕ) (u : Width) (z : ℤ) (a : Answer) : Type 0 where
+  pub inside : inWidth u z ≡ true → (v : List ℕ) × (a ≡ gives (value b v)) × (signed u v ≡ z)
+  pub past : inWidth u z ≡ false → a ≡ outside b
+
+exact-by : (b : ℕ) (u : Width) (z : ℤ) → Exactly b u z (exactly b u z)
+exact-by b u z = record {
+  inside = λ e. (integerBytes u z, rw e refl, exact u z (width-fits u z e));
+  past = λ e. rw e refl;
+}
+
+-- One law over the width for int and long.
+module _ (b : ℕ) (u : Width) (e : basicType b .arithmetic ≡ integral u) (v w : List ℕ) where
+  pub add-exact : Exactly b u (signed u v +ℤ signed u w) (addOf (value b v) (value b w))
+  unfolding addOf
+  add-exact = rw (eq-eqb b b refl, e) (exact-by b u (signed u v +ℤ signed u w))
+
+  pub subtract-exact : Exactly b u (signed u v -ℤ signed u w) (subtractOf (value b v) (value b w))
+  unfolding subtractOf
+  subtract-exact = rw (eq-eqb b b refl, e) (exact-by b u (signed u v -ℤ signed u w))
+
+  pub negate-exact : Exactly b u (negℤ (signed u v)) (negateOf (value b v))
+  unfolding negateOf
+  negate-exact = rw e (exact-by b u (negℤ (signed u v)))
+
 -- ---- equal: alike, not void
 
 equal-by : (p q : Bool) (s t : Bool) → p ≡ false → Gives bool (pick p wrong (pick q (gives (ofBool s)) (gives (ofBool t))))
@@ -226,13 +253,13 @@ equal-wrong = alike-wrong equalBy (λ b. not (eqb b void)) (λ b v w e. pick-voi
 
 -- ---- proved cases of 01, by computation
 
--- h: "int 2147483647 + 1 = -2147483648; -2147483648 negated is itself"
-pub case-h-sum : addOf (ofInt (pos 2147483647)) (ofInt (pos 1)) ≡ gives (ofInt (negsuc 2147483647))
-unfolding addOf littleEndian pattern modulo unsignedOf
+-- h, by 02: "01's case h becomes two refusals"
+pub case-h-sum : addOf (ofInt (pos 2147483647)) (ofInt (pos 1)) ≡ outside int
+unfolding addOf littleEndian inWidth unsignedOf
 case-h-sum = refl
 
-pub case-h-negated : negateOf (ofInt (negsuc 2147483647)) ≡ gives (ofInt (negsuc 2147483647))
-unfolding negateOf littleEndian pattern modulo unsignedOf
+pub case-h-negated : negateOf (ofInt (negsuc 2147483647)) ≡ outside int
+unfolding negateOf littleEndian inWidth unsignedOf
 case-h-negated = refl
 
 -- i: "0.1 + 0.2 has bits 3FD3333333333334"

@@ -10,7 +10,9 @@ use Rattle.scalar.specs.Basic.{bool, int, double, long, string, raw, voi
 use Rattle.scalar.specs.Value.{Value, value}
 use Rattle.wire.specs.Wire.{unsignedOf}
 use Rattle.basics.specs.Choice.{pick}
-use Rattle.scalar.specs.Operator.{Answer, wrong, gives, ofBool, ofInt, ofLong, ofDouble}
+use Rattle.scalar.specs.Operator.{Answer, wrong, outside, gives, ofBool, ofInt, ofLong, ofDouble}
+use Rattle.integer.specs.declared.IntSum.{IntSum}
+use Rattle.integer.specs.declared.LongSum.{LongSum}
 use Rattle.scalar.specs.declared.Scalar.{Scalar}
 use Rattle.scalar.specs.declared.Scalar.the-variants.{Bool, Int, Double, Long, String, Raw, Void}
 use Rattle.scalar.specs.declared.Operand.{Operand}
@@ -18,7 +20,7 @@ use Rattle.scalar.specs.declared.Pair.{Pair}
 use Rattle.scalar.specs.declared.Pair.the-variants.{Bools, Ints, Doubles, Longs, Strings, Raws, Voids, Unlike}
 use Rattle.scalar.specs.declared.Truth.{Truth}
 use Rattle.scalar.specs.declared.Computed.{Computed}
-use Rattle.scalar.specs.declared.Computed.the-variants.{Wrong, Gives}
+use Rattle.scalar.specs.declared.Computed.the-variants.{Wrong, Outside, Gives}
 
 -- The value of a scalar with the bytes beside it, which only a string and a raw use.
 abbrev pub valueBeside : Scalar → List ℕ → Value
@@ -38,11 +40,6 @@ beside o = take (o .len) (o .bytes)
 unfoldable pub valueOf : Operand → Value
 valueOf o = valueBeside (o .scalar) (beside o)
 
--- What an operator's code gives. A result is never a string, a raw or void, so no bytes stand beside it.
-unfoldable pub answerOf : Computed → Answer
-answerOf Wrong = wrong
-answerOf (Gives s) = gives (valueBeside s [])
-
 -- The number of a scalar's basic type.
 abbrev pub kindOf : Scalar → ℕ
 kindOf (Bool b) = bool
@@ -52,6 +49,22 @@ kindOf (Long z) = long
 kindOf String = string
 kindOf Raw = raw
 kindOf Void = void
+
+-- What an operator's code gives. A result is never a string, a raw or void, so no bytes stand beside it; of one that is outside, the scalar's
+-- kind alone counts.
+unfoldable pub answerOf : Computed → Answer
+answerOf Wrong = wrong
+answerOf (Outside s) = outside (kindOf s)
+answerOf (Gives s) = gives (valueBeside s [])
+
+-- What a sum of ints, and of longs, is as an answer.
+abbrev pub intAnswer : IntSum → Answer
+intAnswer (IntSum.Exact z) = gives (ofInt z)
+intAnswer IntSum.Outside = outside int
+
+abbrev pub longAnswer : LongSum → Answer
+longAnswer (LongSum.Exact z) = gives (ofLong z)
+longAnswer LongSum.Outside = outside long
 
 -- What `paired` finds of two scalars.
 abbrev pub AsPair : Scalar → Scalar → Pair → Type 0

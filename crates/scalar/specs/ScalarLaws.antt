@@ -7,7 +7,7 @@ use mathlib.Core.List.{List, _++_}
 use lib.ListN.{length, take, drop, length-take}
 use lib.Ieee.{binary64, toBits}
 use mir.Syntax.{w32, w64}
-use Rattle.integer.specs.Wrap.{pattern}
+use mir.Val.{ofZ}
 use lib.Seq.{take-at, drop-at, length-take-le}
 use Rattle.wire.specs.Wire.{part, withPart}
 use Rattle.wire.specs.WireLaws.{through-start, through-whole}
@@ -16,7 +16,17 @@ use Rattle.scalar.specs.declared.Scalar.{Scalar}
 use Rattle.scalar.specs.declared.Scalar.the-variants.{Bool, Int, Double, Long, String, Raw, Void}
 use Rattle.scalar.specs.NumberLaws.{length-littleEndian}
 use Rattle.scalar.specs.Value.{Value, value, basicOf, bytesOf}
-use Rattle.scalar.specs.Scalar.{valueBeside, valueOf, beside}
+use Rattle.scalar.specs.Scalar.{valueBeside, valueOf, beside, kindOf}
+
+-- The kind of a scalar is its value's basic type.
+pub basic-kind : (x : Scalar) (t : List ℕ) → basicOf (valueBeside x t) ≡ kindOf x
+basic-kind (Bool b) t = refl
+basic-kind (Int z) t = refl
+basic-kind (Double x) t = refl
+basic-kind (Long z) t = refl
+basic-kind String t = refl
+basic-kind Raw t = refl
+basic-kind Void t = refl
 
 -- What `read` gives of the bytes of a value, written to their own place, leaves the slice as it is.
 pub written-back : (s : List ℕ) (at b n : ℕ) (x : Operand) → at + n ≤ length s → valueOf x ≡ value b (part s at n) → withPart s at (bytesOf (valueOf x)) ≡ s
@@ -36,9 +46,9 @@ short-value x e = by (x .scalar)
   where
     by : (k : Scalar) → length (bytesOf (valueBeside k (beside x))) ≤ 16
     by (Bool b) = omega arith
-    by (Int z) = omega (arith, length-littleEndian 4 (pattern w32 z))
+    by (Int z) = omega (arith, length-littleEndian 4 (ofZ w32 z))
     by (Double d) = omega (arith, length-littleEndian 8 (toBits binary64 d))
-    by (Long z) = omega (arith, length-littleEndian 8 (pattern w64 z))
+    by (Long z) = omega (arith, length-littleEndian 8 (ofZ w64 z))
     by String = omega (arith, length-take (x .len) (x .bytes))
     by Raw = omega (arith, length-take (x .len) (x .bytes))
     by Void = omega arith

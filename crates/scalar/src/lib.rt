@@ -8,7 +8,9 @@ ghost use lib.Ieee.{binary64, ofBits, toBits, nanBits, lt, eq};
 ghost use Rattle.scalar.specs.Value.{value, bytesOf, isValue, wordOf, SoundValue};
 ghost use Rattle.wire.specs.Wire.{part, withPart};
 ghost use Rattle.scalar.specs.Operator.{notOf, negateOf, andOf, addOf, subtractOf, lessOf, equalOf, equalBytes, bit, isNumber};
-ghost use Rattle.scalar.specs.Scalar.{valueOf, valueBeside, answerOf, beside, AsPair, truthOf};
+ghost use Rattle.scalar.specs.Scalar.{valueOf, valueBeside, answerOf, intAnswer, longAnswer, beside, AsPair, truthOf};
+use integer::IntSum;
+use integer::LongSum;
 
 // The numbers of the basic types.
 pub const BOOL: u8 = 0;
@@ -58,9 +60,11 @@ enum Pair {
     Unlike,
 }
 
-// What an operator gives: a scalar, or that its operands are of the wrong kind.
+// What an operator gives: that its operands are of the wrong kind; that its result is outside its width, with a scalar of the result's kind;
+// or a scalar.
 pub enum Computed {
     Wrong,
+    Outside(Scalar),
     Gives(Scalar),
 }
 
@@ -217,13 +221,31 @@ pub fn logical_not(a: Operand) -> Computed
     }
 }
 
+fn int_computed(s: IntSum) -> Computed
+    ensures { λ r. ⌜ answerOf r ≡ intAnswer s ⌝ }
+{
+    match s {
+        IntSum::Exact(z) => Computed::Gives(Scalar::Int(z)),
+        IntSum::Outside => Computed::Outside(Scalar::Int(0)),
+    }
+}
+
+fn long_computed(s: LongSum) -> Computed
+    ensures { λ r. ⌜ answerOf r ≡ longAnswer s ⌝ }
+{
+    match s {
+        LongSum::Exact(z) => Computed::Gives(Scalar::Long(z)),
+        LongSum::Outside => Computed::Outside(Scalar::Long(0)),
+    }
+}
+
 pub fn negate(a: Operand) -> Computed
     ensures { λ r. ⌜ answerOf r ≡ negateOf (valueOf a) ⌝ }
 {
     let x = a.scalar;
     match x {
-        Scalar::Int(p) => Computed::Gives(Scalar::Int(integer::int_negate(p))),
-        Scalar::Long(p) => Computed::Gives(Scalar::Long(integer::long_negate(p))),
+        Scalar::Int(p) => int_computed(integer::int_negate(p)),
+        Scalar::Long(p) => long_computed(integer::long_negate(p)),
         Scalar::Double(p) => Computed::Gives(Scalar::Double(-p)),
         _ => Computed::Wrong,
     }
@@ -252,8 +274,8 @@ pub fn add(a: Operand, b: Operand) -> Computed
     let x = a.scalar;
     let y = b.scalar;
     match paired(x, y) {
-        Pair::Ints(p, q) => Computed::Gives(Scalar::Int(integer::int_add(p, q))),
-        Pair::Longs(p, q) => Computed::Gives(Scalar::Long(integer::long_add(p, q))),
+        Pair::Ints(p, q) => int_computed(integer::int_add(p, q)),
+        Pair::Longs(p, q) => long_computed(integer::long_add(p, q)),
         Pair::Doubles(p, q) => Computed::Gives(Scalar::Double(p + q)),
         _ => Computed::Wrong,
     }
@@ -265,8 +287,8 @@ pub fn subtract(a: Operand, b: Operand) -> Computed
     let x = a.scalar;
     let y = b.scalar;
     match paired(x, y) {
-        Pair::Ints(p, q) => Computed::Gives(Scalar::Int(integer::int_subtract(p, q))),
-        Pair::Longs(p, q) => Computed::Gives(Scalar::Long(integer::long_subtract(p, q))),
+        Pair::Ints(p, q) => int_computed(integer::int_subtract(p, q)),
+        Pair::Longs(p, q) => long_computed(integer::long_subtract(p, q)),
         Pair::Doubles(p, q) => Computed::Gives(Scalar::Double(p - q)),
         _ => Computed::Wrong,
     }

@@ -46,6 +46,7 @@ fn show_result(r: Computed) {
     say(b" =");
     match r {
         Computed::Wrong => say(b" wrong"),
+        Computed::Outside(_) => say(b" outside"),
         Computed::Gives(x) => show(scalar::plain(x)),
     }
     say(b"\n");

@@ -1,19 +1,18 @@
 -- Property 3 at a call of the stepper. 01, Moves: "after it live sessions are well typed, no next move, on the same file and the state so
 -- left, gives 18, no send or reply gives 19, one to an outsider included, and a ready assign, if or while gives 0, or 1 for its out buffer."
+-- 02: it "moves, has such a result or gives 1 for its out buffer".
 use mathlib.Core.Path.{_≡_}
 use mathlib.Core.List.{List, [], _∷_, _++_}
 use Prim.Native.Nat.{ℕ}
-use lib.Dec.{T, leb}
-use lib.ListN.{length}
-use Rattle.basics.specs.Choice.{pick}
+use lib.Dec.{T}
+use Rattle.network_syntax.specs.Syntax.{Expression}
 use Rattle.network.specs.Layout.{behaviourCount}
 use Rattle.network.specs.Decode.{networkOf}
-use Rattle.state.specs.Places.{outRoom}
-use Rattle.state.specs.Session.{State}
+use Rattle.state.specs.Session.{Session, State}
 use Rattle.state.specs.Shape.{Stands}
 use Rattle.move_rules.specs.Moves.{local}
 use Rattle.move_rules.specs.Fresh.{freshBytes}
-use Rattle.soundness.specs.Property3.{Ready, Turn, AllGiven, after, sendsOrReplies, AllWellTyped, AcceptedFile}
+use Rattle.soundness.specs.Property3.{Ready, Causes22, readyNumber, Turn, AllGiven, after, sendsOrReplies, AllWellTyped, AcceptedFile}
 
 -- The file is accepted, and the bytes s are those after the list l of moves from its fresh state.
 pub record FromFresh (file s : List ℕ) (l : List Turn) : Type 0 where
@@ -27,8 +26,10 @@ pub record KeepsPromise (file s : List ℕ) (l : List Turn) (t : Turn) (n : ℕ)
   pub never18 : n ≡ 18 → ⊥
   pub never19 : T (sendsOrReplies (t .move)) → n ≡ 19 → ⊥
   pub readyMoves : (G : State) → Stands (networkOf file) (behaviourCount file) s G → (service session row : ℕ)
-      → t .move ≡ local service session row
-      → Ready (networkOf file) G service session row → n ≡ pick (leb outRoom (length (t .out))) 0 1
+      → t .move ≡ local service session row → (S : Session) (e : Expression)
+      → Ready (networkOf file) G service session row S e → n ≡ readyNumber (t .out) S e
+  pub only22 : (G : State) → Stands (networkOf file) (behaviourCount file) s G → n ≡ 22
+      → Causes22 (networkOf file) G (t .move)
   pub leaves : left ≡ after file (freshBytes file) (l ++ (t ∷ []))
   pub state : State
   pub stands : Stands (networkOf file) (behaviourCount file) left state

@@ -36,7 +36,7 @@ use Rattle.network_syntax.specs.ViewLaws.{own-row, some-inj}
 use Rattle.soundness.specs.Invariant.{ReplyFits, RepliesFit, AnswersAt, QueuedSound, AllQueued, SessionSound, Sound}
 use Rattle.soundness.specs.SessionLaws.{advance-here, advance-below-branches, once-of, made-of, oneWay-sound, request-sound, queue-sound}
 use Rattle.soundness.specs.StartLaws.{StartedBy, FoundStart, startFrom-found, start-sound}
-use Rattle.soundness.specs.ResultLaws.{Keeps, goes-keeps, keeps-15, allowed-16, by-require, by-live, sound-set, live-inj}
+use Rattle.soundness.specs.ResultLaws.{Claims, Keeps, goes-keeps, keeps-15, allowed-16, by-require, by-live, sound-set, live-inj}
 use Rattle.soundness.specs.LocalLaws.{permits-one, permits-two, save-goes, suits-destination, suits-none}
 
 -- What fits a type of the file is a message.
@@ -248,11 +248,11 @@ module _ (N : Network) (rows : ℕ) (acc : Accepted N rows) where
   LetsPass q queued = Unit {0}
   LetsPass q (starts c k a) = T (permitsInput q a)
 
-  pub allowed-keeps : (strict : Bool) (q : ℕ) (t : Target) (R : Result) → (LetsPass q t → Keeps N rows strict R) → Keeps N rows strict (allowed q t R)
-  allowed-keeps strict q noTarget R f = keeps-15 N rows strict
-  allowed-keeps strict q queueFull R f = allowed-16 strict
-  allowed-keeps strict q queued R f = f tt
-  allowed-keeps strict q (starts c k a) R f = by-require N rows strict (permitsInput q a) R f
+  pub allowed-keeps : (claims : Claims) (q : ℕ) (t : Target) (R : Result) → (LetsPass q t → Keeps N rows claims R) → Keeps N rows claims (allowed q t R)
+  allowed-keeps claims q noTarget R f = keeps-15 N rows claims
+  allowed-keeps claims q queueFull R f = allowed-16 claims
+  allowed-keeps claims q queued R f = f tt
+  allowed-keeps claims q (starts c k a) R f = by-require N rows claims (permitsInput q a) R f
 
   started-sound : (i : Operation) (n : ℕ) (c k : ℕ) (a : Input) (x : Tree Value) (back : Optional Destination) → Arriving i x back
       → Starting N (i .service) n (i .row) c k a
@@ -273,15 +273,15 @@ module _ (N : Network) (rows : ℕ) (acc : Accepted N rows) where
       sym-zero : (j : ℕ) → k ≡ 0 + j → j ≡ k
       sym-zero j e = omega arith
 
-  pub deliver-keeps : (strict : Bool) (G : State) → Sound N rows G → (i : Operation) (n : ℕ) (x : Tree Value) (back : Optional Destination) → Arriving i x back
-      → (t : Target) → TargetInfo N G i n t → LetsPass (i .service) t → Keeps N rows strict (deliver G i n t back x)
-  deliver-keeps strict G hG i n x back arr noTarget f a = absurd a
-  deliver-keeps strict G hG i n x back arr queueFull f a = absurd a
-  deliver-keeps strict G hG i n x back arr queued f a =
+  pub deliver-keeps : (claims : Claims) (G : State) → Sound N rows G → (i : Operation) (n : ℕ) (x : Tree Value) (back : Optional Destination)
+      → Arriving i x back → (t : Target) → TargetInfo N G i n t → LetsPass (i .service) t → Keeps N rows claims (deliver G i n t back x)
+  deliver-keeps claims G hG i n x back arr noTarget f a = absurd a
+  deliver-keeps claims G hG i n x back arr queueFull f a = absurd a
+  deliver-keeps claims G hG i n x back arr queued f a =
       let msg : Queued = record { operation = i .row; message = x; replyTo = back } in
-      by-live N rows strict (G (i .service) n) (λ S. moved (setSlot G (i .service) n (live (withQueue S (S .queue ++ (msg ∷ []))))) [])
+      by-live N rows claims (G (i .service) n) (λ S. moved (setSlot G (i .service) n (live (withQueue S (S .queue ++ (msg ∷ []))))) [])
       (λ S e. sound-set N rows G (i .service) n (live (withQueue S (S .queue ++ (msg ∷ [])))) hG
       (queue-sound N rows acc (i .service) n S (hG .sessions (i .service) n S e) msg (queued-sound i x back arr) (f S e)))
-  deliver-keeps strict G hG i n x back arr (starts c k a) f ad =
-      goes-keeps N rows strict (saveWithin G (i .service) n (started c k a back x) [])
+  deliver-keeps claims G hG i n x back arr (starts c k a) f ad =
+      goes-keeps N rows claims false (saveWithin G (i .service) n (started c k a back x) []) (λ t. absurd t)
       (save-goes N rows acc G (i .service) n (started c k a back x) [] hG (started-sound i n c k a x back arr f ad))

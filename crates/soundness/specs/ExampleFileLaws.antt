@@ -53,11 +53,11 @@ use Rattle.soundness.specs.Example.{file, inside, withChild, withoutChil
 use Rattle.soundness.specs.ExampleLaws.{runs, child-missing}
 
 -- Every number of the list is below 256.
-unfoldable allSmall : List ℕ → Bool
+unfoldable pub allSmall : List ℕ → Bool
 allSmall [] = true
 allSmall (b ∷ l) = ltb b 256 && allSmall l
 
-small-at : (l : List ℕ) → T (allSmall l) → (k : ℕ) → getD l k 0 < 256
+pub small-at : (l : List ℕ) → T (allSmall l) → (k : ℕ) → getD l k 0 < 256
 unfolding allSmall
 small-at [] t k = omega arith
 small-at (b ∷ l) t zero = ltb→lt b 256 (and-l (ltb b 256) (allSmall l) t)
@@ -98,7 +98,7 @@ file-property3 l g = property3 file accepted-file l g
 
 -- The example's runs on bytes ------------------------------------------------------------------------------------------------------------
 
-given-inside : (m : Move) → NumberFits m → Given (inside m)
+pub given-inside : (m : Move) → NumberFits m → Given (inside m)
 given-inside m k = record { octets = record { small = λ i. omega arith }; replyNumber = k }
 
 given-outside : (bytes : List ℕ) → T (allSmall bytes) → Given (outsiderSends bytes)

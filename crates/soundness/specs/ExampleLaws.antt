@@ -6,6 +6,7 @@ use Rattle.tree_forest.specs.Forest.{find, set, measure, mapForest}
 use Rattle.tree_forest.specs.Path.{readSteps, writeSteps}
 use Rattle.scalar.specs.Value.{isValue}
 use Rattle.wire.specs.Wire.{unsignedOf}
+use Rattle.integer.specs.Range.{inWidth}
 use Rattle.scalar.specs.Operator.{addOf}
 use Rattle.wire.specs.Wire.{littleEndian}
 use Rattle.network_syntax.specs.Rows.{rowOf, hasRow, atRow, entry}
@@ -37,8 +38,8 @@ computed :
     × (numbers (networkOf file) (freshState (networkOf file)) (asks ++ (outsiderSends withoutChild ∷ [])) ≡ 0 ∷ 0 ∷ 19 ∷ [])
     × (reachedBy (networkOf file) (freshState (networkOf file)) (asks ++ (outsiderSends withoutChild ∷ []))
     ≡ reachedBy (networkOf file) (freshState (networkOf file)) asks)
-unfolding u16At find set measure mapForest readSteps writeSteps unsignedOf isValue littleEndian addOf rowOf hasRow atRow headOk parseSiblings parse decode
-    rootCount encode areSubtypes permits untilZero pathOf markOf typeSiblings writtenOut expressionFrom expressionTo operationOf branchesFrom
+unfolding u16At find set measure mapForest readSteps writeSteps unsignedOf isValue littleEndian inWidth addOf rowOf hasRow atRow headOk parseSiblings parse
+    decode rootCount encode areSubtypes permits untilZero pathOf markOf typeSiblings writtenOut expressionFrom expressionTo operationOf branchesFrom
     behaviourFrom behaviourTo behaviourOf serviceOf rowsFrom networkOf expressionKind behaviourKind expressionFields behaviourFields trailer start
     sectionCount pathAt typeAt expressionAt behaviourAt operationPlace servicePlace dataPart typeId cardinality typeBasic firstChild childCount
     expressionKindAt kindAt operationService operationDirection operationTwoWay operationId operationLocation requestType replyType serviceLocation

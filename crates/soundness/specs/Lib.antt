@@ -1,7 +1,5 @@
 pub mod GoodTrees
 pub mod GoodTreesLaws
-pub mod Operators
-pub mod OperatorsLaws
 pub mod EvaluationLaws
 pub mod ContextLaws
 pub mod Parts
@@ -18,6 +16,7 @@ pub mod SessionLaws
 pub mod FilePartsLaws
 pub mod AcceptedLaws
 pub mod StartLaws
+pub mod Property3
 pub mod ResultLaws
 pub mod LocalLaws
 pub mod DeliverLaws
@@ -25,7 +24,6 @@ pub mod SendLaws
 pub mod ReplyLaws
 pub mod FreshLaws
 pub mod ShapeLaws
-pub mod Property3
 pub mod Property3Laws
 pub mod Calls
 pub mod CallsLaws
@@ -34,3 +32,5 @@ pub mod RunsLaws
 pub mod Example
 pub mod ExampleLaws
 pub mod ExampleFileLaws
+pub mod RangeExample
+pub mod RangeExampleLaws

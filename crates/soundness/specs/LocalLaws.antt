@@ -1,4 +1,4 @@
--- Local moves, receives and closing keep the invariant; a ready assign, if or while moves.
+-- Local moves, receives and closing keep the invariant; a ready assign, if or while moves, or is refused with 22 by its expression's result.
 use mathlib.Core.Path.{_≡_, refl, sym, ap, subst, _∙_}
 use Prim.Native.Nat.{ℕ, _≤_}
 use mathlib.Core.Bool.{Bool, true, false, _&&_}
@@ -7,7 +7,7 @@ use native.Mathlib.Omega.{arith}
 use lib.Dec.{T, eqb, eqb→eq}
 use lib.ListN.{length}
 use Rattle.tree_forest.specs.Forest.{Tree, tree}
-use Rattle.tree_forest.specs.Path.{Path, replaceAt}
+use Rattle.tree_forest.specs.Path.{Path, replaceAt, setPayloadAt}
 use Rattle.scalar.specs.Value.{Value}
 use Rattle.basics.specs.Choice.{pick}
 use Rattle.basics.specs.TestLaws.{and-l, and-r}
@@ -28,9 +28,9 @@ use Rattle.state.specs.Session.{State, setSlot}
 use Rattle.state.specs.Shape.{operationOfRow, isDestination, suitsReply, suitsOperation, undoneOrTaken, branches, suits, suitsBranches}
 use Rattle.move_rules.specs.Readiness.{isDone, Reached, unreached, reached, offered, reach}
 use Rattle.move_rules.specs.Evaluation.{evaluate}
-use Rattle.move_rules.specs.Moves.{Result, moved, require, onTree, onBool, rootValue, ifReadyWhile}
+use Rattle.move_rules.specs.Moves.{Result, moved, require, outOfRange, onEvaluation, onTruth, ifReadyWhile}
 use Rattle.scalar.specs.Value.{voidValue}
-use Rattle.move_rules.specs.Moves.{saveWithin, assigned, decided, repeated, localBy, localAt, localReached, localMove}
+use Rattle.move_rules.specs.Moves.{saveWithin, assigned, unassigned, decided, repeated, localBy, localAt, localReached, localMove, local}
 use Rattle.state.specs.Queue.{QueueSplit, nothing, message, keeping, oldest}
 use Rattle.move_rules.specs.Moves.{receiveMessage, receiveBy, receiveAt, receiveReached, receiveMove, closeMove}
 use Rattle.state.specs.Session.{receivedBy}
@@ -45,8 +45,9 @@ use Rattle.network_syntax.specs.ViewLaws.{own-row, some-inj, input-is, local-is
 use Rattle.soundness.specs.Invariant.{ReplyFits, RepliesFit, AnswersAt, QueuedSound, AllQueued, SessionSound, Sound}
 use Rattle.soundness.specs.SessionLaws.{advance-here, advance-below-branches, advance-apart, once-of, made-of, tree-limit, assign-sound, oneWay-sound}
 use Rattle.soundness.specs.SessionLaws.{request-sound, if-sound, while-sound, again-sound, select-sound}
-use Rattle.soundness.specs.ResultLaws.{Keeps, Goes, goes-keeps, keeps-15, by-require, by-undone, by-session, at-tree, at-require, at-bool}
-use Rattle.soundness.specs.ResultLaws.{sound-set}
+use Rattle.soundness.specs.ResultLaws.{Claims, claimsOf, Keeps, Goes, goes-keeps, keeps-15, by-require, by-undone, by-session, at-evaluation}
+use Rattle.soundness.specs.ResultLaws.{at-require, at-truth, sound-set}
+use Rattle.soundness.specs.Property3.{localExpression, isBeyond, LeavesRange}
 
 -- A message taken from a queue.
 pub record TakenSound (N : Network) (rows q w : ℕ) (m : Queued) (l before : List Queued) : Type 0 where
@@ -136,89 +137,117 @@ suits-none N rows q to o t e = go to (suits-reply N rows q to o t false e)
 
 module _ (N : Network) (rows : ℕ) (acc : Accepted N rows) where
   -- A session changed and kept within the limits.
-  pub save-goes : (G : State) (q n : ℕ) (S : Session) (out : List ℕ) → Sound N rows G → SessionSound N rows q n S → Goes N rows (saveWithin G q n S out)
+  pub save-goes : (G : State) (q n : ℕ) (S : Session) (out : List ℕ) → Sound N rows G → SessionSound N rows q n S
+      → Goes N rows false (saveWithin G q n S out)
   save-goes G q n S out h s =
-      at-require N rows (within (S .tree)) Stuck (moved (setSlot G q n (live S)) out) (tree-limit N rows acc q n S s) (sound-set N rows G q n (live S) h s)
+      at-require N rows false (within (S .tree)) Stuck (moved (setSlot G q n (live S)) out) (tree-limit N rows acc q n S s)
+      (sound-set N rows G q n (live S) h s)
 
   module _ (G : State) (hG : Sound N rows G) (q n : ℕ) (S : Session) (h : SessionSound N rows q n S) where
     abbrev p : Progresses
     p = S .progress
 
-    -- Ready rows move.
+    -- Ready rows move, or are refused with 22 if their expression's result is beyond.
     pub assign-goes : (r : ℕ) (x : Path) (e : Expression) → Reaches p (assign r x e) (h .what) → p r ≡ undone
-        → Goes N rows (onTree (evaluate (S .tree) e) (assigned G q n S r x))
+        → Goes N rows (isBeyond (evaluate (S .tree) e)) (onEvaluation (evaluate (S .tree) e) (λ b. unassigned G q n S x) (assigned G q n S r x))
     assign-goes r x e a t =
-        let u = assign-sound N rows acc q n S h r x e a t in
-        at-tree N rows (evaluate (S .tree) e) (u .0) (assigned G q n S r x) (u .1) (save-goes G q n _ [] hG (u .2))
+        at-evaluation N rows (evaluate (S .tree) e) (λ b. unassigned G q n S x) (assigned G q n S r x) (assign-sound N rows acc q n S h r x e a t)
+        (λ b u. at-require N rows true (within (setPayloadAt voidValue x voidValue (S .tree))) Stuck outOfRange u refl)
+        (λ y u. save-goes G q n _ [] hG u)
 
     pub if-goes : (r : ℕ) (e : Expression) (x y : Behaviour) → Reaches p (ifThenElse r e x y) (h .what) → p r ≡ undone
-        → Goes N rows (onTree (evaluate (S .tree) e) (λ t. onBool (rootValue t) (decided G q n S r)))
+        → Goes N rows (isBeyond (evaluate (S .tree) e)) (onTruth (evaluate (S .tree) e) (decided G q n S r))
     if-goes r e x y a t =
         let u = if-sound N rows acc q n S h r e x y a t in
-        at-tree N rows (evaluate (S .tree) e) (u .0) (λ t. onBool (rootValue t) (decided G q n S r)) (u .1)
-        (at-bool N rows (rootValue (u .0)) (decided G q n S r) (u .2) (λ c. go c (u .3) (u .4)))
+        at-truth N rows (evaluate (S .tree) e) (decided G q n S r) (u .0) (λ c. go c (u .1) (u .2))
       where
         go : (c : Bool) → SessionSound N rows q n (withProgress S (advance p r (taken 0))) → SessionSound N rows q n (withProgress S (advance p r (taken 1)))
-            → Goes N rows (decided G q n S r c)
+            → Goes N rows false (decided G q n S r c)
         go true x y = sound-set N rows G q n (live (withProgress S (advance p r (taken 0)))) hG x
         go false x y = sound-set N rows G q n (live (withProgress S (advance p r (taken 1)))) hG y
 
     repeated-goes : (r : ℕ) (b : Behaviour) (c : Bool) → SessionSound N rows q n (withProgress S (advance (reopen p b) r (taken 0)))
-        → SessionSound N rows q n (withProgress S (advance p r done)) → Goes N rows (repeated G q n S r b c)
+        → SessionSound N rows q n (withProgress S (advance p r done)) → Goes N rows false (repeated G q n S r b c)
     repeated-goes r b true x y = sound-set N rows G q n (live (withProgress S (advance (reopen p b) r (taken 0)))) hG x
     repeated-goes r b false x y = sound-set N rows G q n (live (withProgress S (advance p r done))) hG y
 
     pub while-goes : (r : ℕ) (e : Expression) (b : Behaviour) → Reaches p (whileDo r e b) (h .what) → p r ≡ undone
-        → Goes N rows (onTree (evaluate (S .tree) e) (λ t. onBool (rootValue t) (repeated G q n S r b)))
+        → Goes N rows (isBeyond (evaluate (S .tree) e)) (onTruth (evaluate (S .tree) e) (repeated G q n S r b))
     while-goes r e b a t =
         let u = while-sound N rows acc q n S h r e b a t in
-        at-tree N rows (evaluate (S .tree) e) (u .0) (λ t. onBool (rootValue t) (repeated G q n S r b)) (u .1)
-        (at-bool N rows (rootValue (u .0)) (repeated G q n S r b) (u .2) (λ c. repeated-goes r b c (u .3) (u .4)))
+        at-truth N rows (evaluate (S .tree) e) (repeated G q n S r b) (u .0) (λ c. repeated-goes r b c (u .1) (u .2))
 
     pub again-goes : (r : ℕ) (e : Expression) (b : Behaviour) (j : ℕ) → Reaches p (whileDo r e b) (h .what) → p r ≡ taken j → T (isDone p b)
-        → Goes N rows (onTree (evaluate (S .tree) e) (λ t. onBool (rootValue t) (repeated G q n S r b)))
+        → Goes N rows (isBeyond (evaluate (S .tree) e)) (onTruth (evaluate (S .tree) e) (repeated G q n S r b))
     again-goes r e b j a t d =
         let u = again-sound N rows acc q n S h r e b j a t d in
-        at-tree N rows (evaluate (S .tree) e) (u .0) (λ t. onBool (rootValue t) (repeated G q n S r b)) (u .1)
-        (at-bool N rows (rootValue (u .0)) (repeated G q n S r b) (u .2) (λ c. repeated-goes r b c (u .3) (u .4)))
+        at-truth N rows (evaluate (S .tree) e) (repeated G q n S r b) (u .0) (λ c. repeated-goes r b c (u .1) (u .2))
 
-    local-by : (strict : Bool) (l : Local) → Reaches p (fromLocal l) (h .what) → Keeps N rows strict (localBy G q n S (some l))
-    local-by strict (assigns r x e) a =
-        let R = onTree (evaluate (S .tree) e) (assigned G q n S r x) in
-        by-undone N rows strict (p r) R (λ t. goes-keeps N rows strict R (assign-goes r x e a t))
-    local-by strict (decides r e x y) a =
-        let R = onTree (evaluate (S .tree) e) (λ t. onBool (rootValue t) (decided G q n S r)) in
-        by-undone N rows strict (p r) R (λ t. goes-keeps N rows strict R (if-goes r e x y a t))
-    local-by strict (repeats r e b) a = go (p r) refl
+    local-by : (claims : Claims) (l : Local) → Reaches p (fromLocal l) (h .what)
+        → ((e : Expression) → localExpression (some l) ≡ some e → T (isBeyond (evaluate (S .tree) e)) → claims .cause)
+        → Keeps N rows claims (localBy G q n S (some l))
+    local-by claims (assigns r x e) a f =
+        let R = onEvaluation (evaluate (S .tree) e) (λ b. unassigned G q n S x) (assigned G q n S r x) in
+        by-undone N rows claims (p r) R (λ t. goes-keeps N rows claims (isBeyond (evaluate (S .tree) e)) R (f e refl) (assign-goes r x e a t))
+    local-by claims (decides r e x y) a f =
+        let R = onTruth (evaluate (S .tree) e) (decided G q n S r) in
+        by-undone N rows claims (p r) R (λ t. goes-keeps N rows claims (isBeyond (evaluate (S .tree) e)) R (f e refl) (if-goes r e x y a t))
+    local-by claims (repeats r e b) a f = go (p r) refl
       where
+        past : Bool
+        past = isBeyond (evaluate (S .tree) e)
+
         R : Result
-        R = onTree (evaluate (S .tree) e) (λ t. onBool (rootValue t) (repeated G q n S r b))
+        R = onTruth (evaluate (S .tree) e) (repeated G q n S r b)
 
-        again : (c : Bool) → (T c → Goes N rows R) → Keeps N rows strict (require c MoveNotAllowed R)
-        again c f = by-require N rows strict c R (λ t. goes-keeps N rows strict R (f t))
+        again : (c : Bool) → (T c → Goes N rows past R) → Keeps N rows claims (require c MoveNotAllowed R)
+        again c g = by-require N rows claims c R (λ t. goes-keeps N rows claims past R (f e refl) (g t))
 
-        go : (s : Progress) → p r ≡ s → Keeps N rows strict (ifReadyWhile s (isDone p b) R)
-        go undone t = goes-keeps N rows strict R (while-goes r e b a t)
-        go done t = keeps-15 N rows strict
-        go waits t = keeps-15 N rows strict
-        go (received to) t = keeps-15 N rows strict
+        go : (s : Progress) → p r ≡ s → Keeps N rows claims (ifReadyWhile s (isDone p b) R)
+        go undone t = goes-keeps N rows claims past R (f e refl) (while-goes r e b a t)
+        go done t = keeps-15 N rows claims
+        go waits t = keeps-15 N rows claims
+        go (received to) t = keeps-15 N rows claims
         go (taken j) t = again (isDone p b) (λ d. again-goes r e b j a t d)
 
-    local-at : (strict : Bool) (X : Behaviour) → Reaches p X (h .what) → Keeps N rows strict (localAt G q n S X)
+    local-at : (claims : Claims) (X : Behaviour) → Reaches p X (h .what)
+        → ((e : Expression) → localExpression (localOf X) ≡ some e → T (isBeyond (evaluate (S .tree) e)) → claims .cause)
+        → Keeps N rows claims (localAt G q n S X)
     unfolding localAt
-    local-at strict X a = seen (localOf X) refl
+    local-at claims X a f = seen (localOf X) refl
       where
-        seen : (l : Optional Local) → localOf X ≡ l → Keeps N rows strict (localBy G q n S l)
-        seen none e = keeps-15 N rows strict
-        seen (some l) e = local-by strict l (subst (λ (z : Behaviour). Reaches p z (h .what)) (local-is X l e) a)
+        seen : (l : Optional Local) → localOf X ≡ l → Keeps N rows claims (localBy G q n S l)
+        seen none e = keeps-15 N rows claims
+        seen (some l) e =
+            local-by claims l (subst (λ (z : Behaviour). Reaches p z (h .what)) (local-is X l e) a) (λ w i. f w (ap localExpression e ∙ i))
 
-    local-reached : (strict : Bool) (i : ℕ) (l : Reached) → Found p i (h .what) l → Keeps N rows strict (localReached G q n S l)
-    local-reached strict i unreached f = keeps-15 N rows strict
-    local-reached strict i (reached X) f = local-at strict X (f .0)
-    local-reached strict i (offered c k b) f = keeps-15 N rows strict
+    -- A reached row whose expression has a result that is beyond.
+    pub leaves-range : (eS : G q n ≡ live S) (i : ℕ) (expression : Behaviour → Optional Expression) (X : Behaviour) → Found p i (h .what) (reached X)
+        → (e : Expression) → expression X ≡ some e → T (isBeyond (evaluate (S .tree) e)) → LeavesRange N G q n i expression
+    leaves-range eS i expression X f e its t =
+        record {
+          session = S;
+          alive = eS;
+          what = h .what;
+          runs = h .runs;
+          row = X;
+          number = f .1;
+          way = f .0;
+          works = e;
+          its = its;
+          leaves = t;
+        }
 
-    pub local-keeps : (strict : Bool) (r : ℕ) → Keeps N rows strict (localReached G q n S (reach p r (h .what)))
-    local-keeps strict r = local-reached strict r (reach p r (h .what)) (reach-found p r (h .what) (once-of N rows acc q n (h .what) (h .runs)) (h .clean))
+    local-reached : (claims : Claims) (eS : G q n ≡ live S) (i : ℕ) → (LeavesRange N G q n i (λ b. localExpression (localOf b)) → claims .cause)
+        → (l : Reached) → Found p i (h .what) l → Keeps N rows claims (localReached G q n S l)
+    local-reached claims eS i c unreached f = keeps-15 N rows claims
+    local-reached claims eS i c (reached X) f = local-at claims X (f .0) (λ e its t. c (leaves-range eS i (λ b. localExpression (localOf b)) X f e its t))
+    local-reached claims eS i c (offered d k b) f = keeps-15 N rows claims
+
+    pub local-keeps : (claims : Claims) → G q n ≡ live S → (r : ℕ) → (LeavesRange N G q n r (λ b. localExpression (localOf b)) → claims .cause)
+        → Keeps N rows claims (localReached G q n S (reach p r (h .what)))
+    local-keeps claims eS r c =
+        local-reached claims eS r c (reach p r (h .what)) (reach-found p r (h .what) (once-of N rows acc q n (h .what) (h .runs)) (h .clean))
 
     -- Receive, in the session with `settled` for its progress.
     module _ (settled : Progresses) (hs : SessionSound N rows q n (withProgress S settled)) where
@@ -230,25 +259,25 @@ module _ (N : Network) (rows : ℕ) (acc : Accepted N rows) where
       after x r m l to = withQueue (withProgress (withTree S (replaceAt voidValue x (m .message) (S .tree))) (advance settled r (receivedBy to))) l
 
       one-takes : (r : ℕ) (o : Operation) (x : Path) → Reaches settled (oneWay r o x) (hs .what) → settled r ≡ undone → o .twoWay ≡ false
-          → (strict : Bool) (t : QueueSplit) → AnyTaken N rows q (o .row) (S .queue) t → Keeps N rows strict (receiveMessage G q n S x settled r t)
+          → (claims : Claims) (t : QueueSplit) → AnyTaken N rows q (o .row) (S .queue) t → Keeps N rows claims (receiveMessage G q n S x settled r t)
       unfolding MadeOf
-      one-takes r o x a u tw strict nothing f = keeps-15 N rows strict
-      one-takes r o x a u tw strict (message m l) f =
+      one-takes r o x a u tw claims nothing f = keeps-15 N rows claims
+      one-takes r o x a u tw claims (message m l) f =
           let k = f .sound in
           let made = made-at N rows a (made-of N rows acc q n (hs .what) (hs .runs)) in
           let eo = same-operation m o k (f .named) (made .1) in
           let no = suits-none N rows q (m .replyTo) (k .operation) (k .suit) (ap (λ (z : Operation). z .twoWay) eo ∙ tw) in
-          goes-keeps N rows strict (receiveMessage G q n S x settled r (message m l))
-          (subst (λ (z : Optional Destination). Goes N rows (saveWithin G q n (after x r m l z) [])) (sym no) (save-goes G q n (after x r m l none) [] hG
+          goes-keeps N rows claims false (receiveMessage G q n S x settled r (message m l)) (λ t. absurd t)
+          (subst (λ (z : Optional Destination). Goes N rows false (saveWithin G q n (after x r m l z) [])) (sym no) (save-goes G q n (after x r m l none) [] hG
           (oneWay-sound N rows acc q n (withProgress S settled) hs r o x (m .message) a u (message-good (m .message) (k .good))
           (subst (λ (z : Operation). Fits (m .message) (z .request)) eo (k .fit)) l (let z = f .fewer in let w = h .few in omega arith) (f .others))))
 
       two-takes : (r : ℕ) (o : Operation) (x c : Path) (d : Behaviour) → Reaches settled (requestResponse r o x c d) (hs .what) → settled r ≡ undone
           → o .twoWay ≡ true
-          → (strict : Bool) (t : QueueSplit) → AnyTaken N rows q (o .row) (S .queue) t → Keeps N rows strict (receiveMessage G q n S x settled r t)
+          → (claims : Claims) (t : QueueSplit) → AnyTaken N rows q (o .row) (S .queue) t → Keeps N rows claims (receiveMessage G q n S x settled r t)
       unfolding MadeOf rowOf
-      two-takes r o x c d a u tw strict nothing f = keeps-15 N rows strict
-      two-takes r o x c d a u tw strict (message m l) f =
+      two-takes r o x c d a u tw claims nothing f = keeps-15 N rows claims
+      two-takes r o x c d a u tw claims (message m l) f =
           let k = f .sound in
           let on = once-of N rows acc q n (hs .what) (hs .runs) in
           let made = made-at N rows a (made-of N rows acc q n (hs .what) (hs .runs)) in
@@ -257,8 +286,8 @@ module _ (N : Network) (rows : ℕ) (acc : Accepted N rows) where
           let ans : AnswersAt N (hs .what) r (to .0) = λ r2 o2 x2 c2 d2 e.
           let same = some-inj (sym (reaches-atRow settled (requestResponse r o x c d) (hs .what) (plain-request r o x c d) on a) ∙ e) in
           subst (λ (z : Operation). ReplyFits N z (to .0)) (eo ∙ request-operation same) (subst (RepliesFit N (k .operation)) (to .1) (k .destination)) in
-          goes-keeps N rows strict (receiveMessage G q n S x settled r (message m l))
-          (subst (λ (z : Optional Destination). Goes N rows (saveWithin G q n (after x r m l z) [])) (sym (to .1))
+          goes-keeps N rows claims false (receiveMessage G q n S x settled r (message m l)) (λ t. absurd t)
+          (subst (λ (z : Optional Destination). Goes N rows false (saveWithin G q n (after x r m l z) [])) (sym (to .1))
           (save-goes G q n (after x r m l (some (to .0))) [] hG
           (request-sound N rows acc q n (withProgress S settled) hs r o x c d (m .message) (to .0) a u (message-good (m .message) (k .good))
           (subst (λ (z : Operation). Fits (m .message) (z .request)) eo (k .fit)) (to .2) ans l
@@ -268,20 +297,20 @@ module _ (N : Network) (rows : ℕ) (acc : Accepted N rows) where
               → requestResponse r o x c d ≡ requestResponse r2 o2 x2 c2 d2 → o ≡ o2
           request-operation e = cc
 
-      receive-by : (strict : Bool) (r : ℕ) (o : Operation) (x : Path) (k : Optional Response)
+      receive-by : (claims : Claims) (r : ℕ) (o : Operation) (x : Path) (k : Optional Response)
           → Reaches settled (fromInput (record { row = r; operation = o; into = x; response = k })) (hs .what) → p r ≡ settled r
-          → Keeps N rows strict (receiveBy G q n S settled (some (record { row = r; operation = o; into = x; response = k })))
-      receive-by strict r o x none a e =
+          → Keeps N rows claims (receiveBy G q n S settled (some (record { row = r; operation = o; into = x; response = k })))
+      receive-by claims r o x none a e =
           let R = receiveMessage G q n S x settled r (oldest (o .row) (S .queue)) in
-          by-undone N rows strict (p r) (require (permits q input false o) MoveNotAllowed R)
-          (λ t. by-require N rows strict (permits q input false o) R
-          (λ w. one-takes r o x a (sym e ∙ t) (permits-one q input o w) strict (oldest (o .row) (S .queue))
+          by-undone N rows claims (p r) (require (permits q input false o) MoveNotAllowed R)
+          (λ t. by-require N rows claims (permits q input false o) R
+          (λ w. one-takes r o x a (sym e ∙ t) (permits-one q input o w) claims (oldest (o .row) (S .queue))
           (oldest-sound N rows q (o .row) (S .queue) (h .queued))))
-      receive-by strict r o x (some k) a e =
+      receive-by claims r o x (some k) a e =
           let R = receiveMessage G q n S x settled r (oldest (o .row) (S .queue)) in
-          by-undone N rows strict (p r) (require (permits q input true o) MoveNotAllowed R)
-          (λ t. by-require N rows strict (permits q input true o) R
-          (λ w. two-takes r o x (k .path) (k .body) a (sym e ∙ t) (permits-two q input o w) strict (oldest (o .row) (S .queue))
+          by-undone N rows claims (p r) (require (permits q input true o) MoveNotAllowed R)
+          (λ t. by-require N rows claims (permits q input true o) R
+          (λ w. two-takes r o x (k .path) (k .body) a (sym e ∙ t) (permits-two q input o w) claims (oldest (o .row) (S .queue))
           (oldest-sound N rows q (o .row) (S .queue) (h .queued))))
 
       input-row : (r : ℕ) (o : Operation) (x : Path) (k : Optional Response)
@@ -290,17 +319,17 @@ module _ (N : Network) (rows : ℕ) (acc : Accepted N rows) where
       input-row r o x none = refl
       input-row r o x (some k) = refl
 
-      receive-at : (strict : Bool) (X : Behaviour) → Reaches settled X (hs .what) → p (rowOf X) ≡ settled (rowOf X)
-          → Keeps N rows strict (receiveAt G q n S settled X)
+      receive-at : (claims : Claims) (X : Behaviour) → Reaches settled X (hs .what) → p (rowOf X) ≡ settled (rowOf X)
+          → Keeps N rows claims (receiveAt G q n S settled X)
       unfolding receiveAt
-      receive-at strict X a e = seen (inputOf X) refl
+      receive-at claims X a e = seen (inputOf X) refl
         where
-          seen : (i : Optional Input) → inputOf X ≡ i → Keeps N rows strict (receiveBy G q n S settled i)
-          seen none f = keeps-15 N rows strict
+          seen : (i : Optional Input) → inputOf X ≡ i → Keeps N rows claims (receiveBy G q n S settled i)
+          seen none f = keeps-15 N rows claims
           seen (some i) f =
               let g = input-is X i f in
               let er : rowOf X ≡ i .row = ap rowOf g ∙ input-row (i .row) (i .operation) (i .into) (i .response) in
-              receive-by strict (i .row) (i .operation) (i .into) (i .response) (subst (λ (z : Behaviour). Reaches settled z (hs .what)) g a)
+              receive-by claims (i .row) (i .operation) (i .into) (i .response) (subst (λ (z : Behaviour). Reaches settled z (hs .what)) g a)
               (subst (λ (z : ℕ). p z ≡ settled z) er e)
 
     untaken-undone : (s : Progress) (k : ℕ) → T (undoneOrTaken k s) → T (notTaken s) → s ≡ undone
@@ -314,10 +343,10 @@ module _ (N : Network) (rows : ℕ) (acc : Accepted N rows) where
     unfolding hasRow
     branch-input m k l a b e = branch-rows m k (rowOf a) (subst (λ (z : Behaviour). T (hasRow (rowOf a) z)) (sym e) (in-first (rowOf a) l a b (own-row a)))
 
-    receive-offered : (strict : Bool) (i c k : ℕ) (a : Behaviour) → Offered p c k a i (h .what)
-        → Keeps N rows strict (receiveAt G q n S (advance p c (taken k)) a)
+    receive-offered : (claims : Claims) (i c k : ℕ) (a : Behaviour) → Offered p c k a i (h .what)
+        → Keeps N rows claims (receiveAt G q n S (advance p c (taken k)) a)
     unfolding suits EachRowOnce hasRow
-    receive-offered strict i c k a f =
+    receive-offered claims i c k a f =
         let B = h .what in
         let m = f .options in
         let X = choice c m in
@@ -330,33 +359,34 @@ module _ (N : Network) (rows : ℕ) (acc : Accepted N rows) where
         atBranch k (advance-here p c (taken k)) (subst (λ (z : Behaviour). Reaches settled a z) (sym (f .isBranch)) (atFirst atSelf)) in
         let way : Reaches settled a B =
         reaches-trans inner (reaches-stay p settled X B (λ j g. advance-apart p c (taken k) j (λ t. g (in-own j c (hasRowIn j m) t))) on (f .way)) in
-        receive-at settled hs strict a (subst (λ (z : Behaviour). Reaches settled a z) (some-inj (sym (h .runs) ∙ hs .runs)) way)
+        receive-at settled hs claims a (subst (λ (z : Behaviour). Reaches settled a z) (some-inj (sym (h .runs) ∙ hs .runs)) way)
         (advance-below-branches p c (taken k) m (ox .0) (rowOf a) (branch-input m k (f .label) a (f .after) (f .isBranch)))
 
-    receive-reached : (strict : Bool) (i : ℕ) (l : Reached) → Found p i (h .what) l → Keeps N rows strict (receiveReached G q n S l)
-    receive-reached strict i unreached f = keeps-15 N rows strict
-    receive-reached strict i (reached X) f = receive-at p h strict X (f .0) refl
-    receive-reached strict i (offered c k a) f = receive-offered strict i c k a f
+    receive-reached : (claims : Claims) (i : ℕ) (l : Reached) → Found p i (h .what) l → Keeps N rows claims (receiveReached G q n S l)
+    receive-reached claims i unreached f = keeps-15 N rows claims
+    receive-reached claims i (reached X) f = receive-at p h claims X (f .0) refl
+    receive-reached claims i (offered c k a) f = receive-offered claims i c k a f
 
-    pub receive-keeps : (strict : Bool) (r : ℕ) → Keeps N rows strict (receiveReached G q n S (reach p r (h .what)))
-    receive-keeps strict r = receive-reached strict r (reach p r (h .what)) (reach-found p r (h .what) (once-of N rows acc q n (h .what) (h .runs)) (h .clean))
+    pub receive-keeps : (claims : Claims) (r : ℕ) → Keeps N rows claims (receiveReached G q n S (reach p r (h .what)))
+    receive-keeps claims r = receive-reached claims r (reach p r (h .what)) (reach-found p r (h .what) (once-of N rows acc q n (h .what) (h .runs)) (h .clean))
 
   -- The moves.
-  pub local-move : (strict : Bool) (G : State) → Sound N rows G → (q n r : ℕ) → Keeps N rows strict (localMove N G q n r)
-  local-move strict G hG q n r =
-      by-session N rows strict G q n (λ B S. localReached G q n S (reach (S .progress) r B))
+  pub local-move : (G : State) → Sound N rows G → (q n r : ℕ) → Keeps N rows (claimsOf N G (local q n r)) (localMove N G q n r)
+  local-move G hG q n r =
+      let claims = claimsOf N G (local q n r) in
+      by-session N rows claims G q n (λ B S. localReached G q n S (reach (S .progress) r B))
       (λ B S e eS. let h = hG .sessions q n S eS in
-      subst (λ (z : Behaviour). Keeps N rows strict (localReached G q n S (reach (S .progress) r z))) (some-inj (sym (h .runs) ∙ e))
-      (local-keeps G hG q n S h strict r))
+      subst (λ (z : Behaviour). Keeps N rows claims (localReached G q n S (reach (S .progress) r z))) (some-inj (sym (h .runs) ∙ e))
+      (local-keeps G hG q n S h claims eS r (λ c. c)))
 
-  pub receive-move : (strict : Bool) (G : State) → Sound N rows G → (q n r : ℕ) → Keeps N rows strict (receiveMove N G q n r)
-  receive-move strict G hG q n r =
-      by-session N rows strict G q n (λ B S. receiveReached G q n S (reach (S .progress) r B))
+  pub receive-move : (claims : Claims) (G : State) → Sound N rows G → (q n r : ℕ) → Keeps N rows claims (receiveMove N G q n r)
+  receive-move claims G hG q n r =
+      by-session N rows claims G q n (λ B S. receiveReached G q n S (reach (S .progress) r B))
       (λ B S e eS. let h = hG .sessions q n S eS in
-      subst (λ (z : Behaviour). Keeps N rows strict (receiveReached G q n S (reach (S .progress) r z))) (some-inj (sym (h .runs) ∙ e))
-      (receive-keeps G hG q n S h strict r))
+      subst (λ (z : Behaviour). Keeps N rows claims (receiveReached G q n S (reach (S .progress) r z))) (some-inj (sym (h .runs) ∙ e))
+      (receive-keeps G hG q n S h claims r))
 
-  pub close-move : (strict : Bool) (G : State) → Sound N rows G → (q n : ℕ) → Keeps N rows strict (closeMove N G q n)
-  close-move strict G hG q n =
-      by-session N rows strict G q n (λ B S. require (isDone (S .progress) B) MoveNotAllowed (moved (setSlot G q n free) []))
-      (λ B S e eS. by-require N rows strict (isDone (S .progress) B) (moved (setSlot G q n free) []) (λ t. sound-set N rows G q n free hG tt))
+  pub close-move : (claims : Claims) (G : State) → Sound N rows G → (q n : ℕ) → Keeps N rows claims (closeMove N G q n)
+  close-move claims G hG q n =
+      by-session N rows claims G q n (λ B S. require (isDone (S .progress) B) MoveNotAllowed (moved (setSlot G q n free) []))
+      (λ B S e eS. by-require N rows claims (isDone (S .progress) B) (moved (setSlot G q n free) []) (λ t. sound-set N rows G q n free hG tt))

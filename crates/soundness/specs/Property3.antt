@@ -1,7 +1,8 @@
 -- Property 3, type soundness over every list of moves. 01, Moves: "*From fresh* is a state after a list as in property 3; the list may be
 -- empty, and each move in it has any numbers, outside bytes and out buffer. Property 3 is a single claim about the list, not one per move:
 -- after it live sessions are well typed, no next move, on the same file and the state so left, gives 18, no send or reply gives 19, one
--- to an outsider included, and a ready assign, if or while gives 0, or 1 for its out buffer."
+-- to an outsider included, and a ready assign, if or while gives 0, or 1 for its out buffer." 02: "From fresh, a ready local row of an
+-- accepted network therefore moves, has such a result or gives 1 for its out buffer".
 use mathlib.Core.Path.{_≡_}
 use mathlib.Core.Bool.{Bool, true, false, _&&_, _||_}
 use mathlib.Core.List.{List, [], _∷_}
@@ -10,8 +11,8 @@ use lib.Dec.{T, leb}
 use lib.ListN.{length}
 use Rattle.tree_forest.specs.Forest.{Rising}
 use Rattle.basics.specs.Choice.{pick}
-use Rattle.network_syntax.specs.Syntax.{Types, Optional, none, some, Network, Operation, Behaviour}
-use Rattle.network_syntax.specs.Rows.{rowOf, Local, assigns, decides, repeats, localOf}
+use Rattle.network_syntax.specs.Syntax.{Types, Optional, none, some, Network, Operation, Expression, Behaviour}
+use Rattle.network_syntax.specs.Rows.{rowOf, Output, outputOf, Local, assigns, decides, repeats, localOf}
 use Rattle.check_subtyping.specs.Subtype.{Subtypes}
 use Rattle.check_subtyping.specs.Own.{ownTypes, Fits}
 use Rattle.check_typing.specs.Environment.{within}
@@ -28,6 +29,7 @@ use Rattle.state.specs.Session.{Progress, Progresses, undone, done, waits, rece
 use Rattle.state.specs.Bytes.{stateBytes}
 use Rattle.state.specs.Shape.{isUndone, behaviourIn, operationOfRow, Stands}
 use Rattle.move_rules.specs.Readiness.{isDone, rest}
+use Rattle.move_rules.specs.Evaluation.{Evaluation, missing, wrongKind, beyond, given, evaluate}
 use Rattle.move_rules.specs.Moves.{Move, local, receive, send, reply, outerMessage, outerReply, close}
 use Rattle.move_rules.specs.Step.{step}
 use Rattle.move_rules.specs.Fresh.{freshBytes}
@@ -78,8 +80,37 @@ canMove p (some (repeats r e b)) = isUndone (p r) || (isTaken (p r) && isDone p 
 abbrev pub isReadyLocal : Progresses → Behaviour → Bool
 isReadyLocal p b = canMove p (localOf b)
 
--- The row r of the session n of the service q is a ready assign, if or while: it is reached, and can move.
-pub record Ready (N : Network) (G : State) (q n r : ℕ) : Type 0 where
+-- The expression of a row: what a local row assigns or decides by, what an output sends.
+abbrev pub localExpression : Optional Local → Optional Expression
+localExpression none = none
+localExpression (some (assigns r x e)) = some e
+localExpression (some (decides r e a b)) = some e
+localExpression (some (repeats r e b)) = some e
+
+abbrev pub outputExpression : Optional Output → Optional Expression
+outputExpression none = none
+outputExpression (some u) = some (u .message)
+
+-- 02: "where the exact result is outside its width".
+abbrev pub isBeyond : {A : Type 0} → Evaluation A → Bool
+isBeyond missing = false
+isBeyond wrongKind = false
+isBeyond (beyond b) = true
+isBeyond (given x) = false
+
+-- The row r of the session n of the service q, which is S, is a ready assign, if or while with the expression e: it is reached, and can move.
+pub record Ready (N : Network) (G : State) (q n r : ℕ) (S : Session) (e : Expression) : Type 0 where
+  pub alive : G q n ≡ live S
+  pub what : Behaviour
+  pub runs : behaviourIn N q n ≡ some what
+  pub row : Behaviour
+  pub number : rowOf row ≡ r
+  pub way : Reaches (S .progress) row what
+  pub ready : T (isReadyLocal (S .progress) row)
+  pub works : localExpression (localOf row) ≡ some e
+
+-- The row r of the session n of the service q is reached, and its expression has a result outside its width in the session's tree.
+pub record LeavesRange (N : Network) (G : State) (q n r : ℕ) (of : Behaviour → Optional Expression) : Type 0 where
   pub session : Session
   pub alive : G q n ≡ live session
   pub what : Behaviour
@@ -87,7 +118,19 @@ pub record Ready (N : Network) (G : State) (q n r : ℕ) : Type 0 where
   pub row : Behaviour
   pub number : rowOf row ≡ r
   pub way : Reaches (session .progress) row what
-  pub ready : T (isReadyLocal (session .progress) row)
+  pub works : Expression
+  pub its : of row ≡ some works
+  pub leaves : T (isBeyond (evaluate (session .tree) works))
+
+-- Why a move gives 22: a local move or a send whose row's expression has such a result.
+abbrev pub Causes22 : Network → State → Move → Type 0
+Causes22 N G (local q n r) = LeavesRange N G q n r (λ b. localExpression (localOf b))
+Causes22 N G (receive q n r) = ⊥
+Causes22 N G (send q n r to) = LeavesRange N G q n r (λ b. outputExpression (outputOf b))
+Causes22 N G (reply q n r) = ⊥
+Causes22 N G (outerMessage q id n k) = ⊥
+Causes22 N G (outerReply q n r) = ⊥
+Causes22 N G (close q n) = ⊥
 
 -- A move with its outside bytes and its out buffer.
 pub record Turn : Type 0 where
@@ -143,12 +186,18 @@ Never18 file G = (t : Turn) → Given t → numberOfNext file (stateBytes G) t �
 abbrev pub Never19 : List ℕ → State → Type 0
 Never19 file G = (t : Turn) → Given t → T (sendsOrReplies (t .move)) → numberOfNext file (stateBytes G) t ≡ 19 → ⊥
 
--- "a ready assign, if or while gives 0, or 1 for its out buffer"
+-- "a ready assign, if or while" "moves, has such a result or gives 1 for its out buffer": 22 exactly if its expression has such a result.
+abbrev pub readyNumber : List ℕ → Session → Expression → ℕ
+readyNumber out S e = pick (leb outRoom (length out)) (pick (isBeyond (evaluate (S .tree) e)) 22 0) 1
+
 abbrev pub ReadyMoves : List ℕ → State → Type 0
 ReadyMoves file G =
-    (q n r : ℕ) (bytes out : List ℕ) → Ready (networkOf file) G q n r
-    → numberOfNext file (stateBytes G) (record { move = local q n r; bytes = bytes; out = out })
-    ≡ pick (leb outRoom (length out)) 0 1
+    (q n r : ℕ) (S : Session) (e : Expression) (bytes out : List ℕ) → Ready (networkOf file) G q n r S e
+    → numberOfNext file (stateBytes G) (record { move = local q n r; bytes = bytes; out = out }) ≡ readyNumber out S e
+
+-- A next move that gives 22 has its cause.
+abbrev pub Only22 : List ℕ → State → Type 0
+Only22 file G = (t : Turn) → Given t → numberOfNext file (stateBytes G) t ≡ 22 → Causes22 (networkOf file) G (t .move)
 
 -- What holds of a state from fresh.
 pub record Holds (file : List ℕ) (G : State) : Type 0 where
@@ -156,6 +205,7 @@ pub record Holds (file : List ℕ) (G : State) : Type 0 where
   pub never18 : Never18 file G
   pub never19 : Never19 file G
   pub readyMoves : ReadyMoves file G
+  pub only22 : Only22 file G
 
 -- An accepted file: bytes that the checker, which tries 2 to 13, passes.
 pub record AcceptedFile (file : List ℕ) : Type 0 where

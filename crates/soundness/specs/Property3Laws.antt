@@ -8,10 +8,10 @@ use lib.Dec.{T, eqb, leb}
 use lib.ListN.{length}
 use Rattle.basics.specs.Choice.{pick}
 use Rattle.basics.specs.TestLaws.{of-T}
-use Rattle.network_syntax.specs.Syntax.{Optional, none, some, Network, Behaviour}
+use Rattle.network_syntax.specs.Syntax.{Optional, none, some, Network, Expression, Behaviour}
 use Rattle.network_syntax.specs.Rows.{Local, assigns, decides, repeats, localOf, fromLocal}
 use Rattle.refusal.specs.declared.Refusal.the-variants.{BufferSize, MoveNotAllowed}
-use Rattle.refusal.specs.Refusal.{outcomeNumber, doneWith}
+use Rattle.refusal.specs.Refusal.{numberOf, outcomeNumber, doneWith}
 use Rattle.check_typing.specs.TypedLaws.{within-before}
 use Rattle.check_typing.specs.DerivesLaws.{typed-derives}
 use Rattle.tree.specs.Encode.{Octets}
@@ -26,7 +26,7 @@ use Rattle.state.specs.Shape.{isUndone, Stands, freshState}
 use Rattle.state.specs.ShapeLaws.{decode-state-complete, stands-length}
 use Rattle.move_rules.specs.Readiness.{isDone, Reached, reached, reach, rest}
 use Rattle.move_rules.specs.Evaluation.{evaluate}
-use Rattle.move_rules.specs.Moves.{Result, refused, moved, require, onTree, onBool, rootValue, ifUndone, ifReadyWhile, assigned, decided, repeated}
+use Rattle.move_rules.specs.Moves.{Result, refused, moved, require, onEvaluation, onTruth, ifUndone, ifReadyWhile, assigned, unassigned, decided, repeated}
 use Rattle.move_rules.specs.Moves.{localBy, localAt, localReached, onBehaviour, onLive, localMove}
 use Rattle.move_rules.specs.Moves.{Move, local, receive, send, reply, outerMessage, outerReply, close}
 use Rattle.move_rules.specs.Moves.{move}
@@ -38,7 +38,7 @@ use Rattle.soundness.specs.MadeLaws.{made-sorted, rest-sorted}
 use Rattle.network_syntax.specs.ViewLaws.{some-inj, local-is}
 use Rattle.soundness.specs.Invariant.{AllQueued, SessionSound, Sound}
 use Rattle.soundness.specs.SessionLaws.{once-of, made-of}
-use Rattle.soundness.specs.ResultLaws.{Keeps, Goes}
+use Rattle.soundness.specs.ResultLaws.{claimsOf, Keeps, Goes}
 use Rattle.soundness.specs.LocalLaws.{local-move, receive-move, close-move, assign-goes, if-goes, while-goes, again-goes}
 use Rattle.soundness.specs.SendLaws.{send-move, outside-move}
 use Rattle.soundness.specs.ReplyLaws.{reply-move, outside-reply-move}
@@ -46,9 +46,10 @@ use Rattle.check_files.specs.FileCheckerLaws.{accepted-derived}
 use Rattle.soundness.specs.AcceptedLaws.{accepted}
 use Rattle.soundness.specs.FreshLaws.{fresh-sound}
 use Rattle.soundness.specs.ShapeLaws.{sound-shape}
-use Rattle.soundness.specs.Property3.{QueueFits, LiveWellTyped, isTaken, canMove, isReadyLocal, Ready, Turn, NumberFits, Given, AllGiven, after}
+use Rattle.soundness.specs.Property3.{QueueFits, LiveWellTyped, isTaken, canMove, isReadyLocal, localExpression, isBeyond, Ready, Causes22}
+use Rattle.soundness.specs.Property3.{Turn, NumberFits, Given, AllGiven, after}
 use Rattle.move_rules.specs.Fresh.{freshBytes, fresh}
-use Rattle.soundness.specs.Property3.{sendsOrReplies, AllWellTyped, Never18, Never19, ReadyMoves, Holds, AcceptedFile, Property3}
+use Rattle.soundness.specs.Property3.{AllWellTyped, Never18, Never19, ReadyMoves, Only22, Holds, AcceptedFile, Property3}
 
 is-undone : (s : Progress) → T (isUndone s) → s ≡ undone
 is-undone undone t = refl
@@ -63,17 +64,18 @@ queue-fits N rows q [] a = tt
 queue-fits N rows q (m ∷ l) a = (record { operation = a .0 .operation; there = a .0 .there; fit = a .0 .fit }, queue-fits N rows q l (a .1))
 
 module _ (N : Network) (rows : ℕ) (acc : Accepted N rows) where
-  -- Every move keeps the invariant, gives no 18, and gives no 19 if it sends or replies.
+  -- Every move keeps the invariant, gives no 18, no 19 if it sends or replies, and 22 only by its cause.
   pub move-keeps : (G : State) → Sound N rows G → (m : Move) (bytes : List ℕ) → NumberFits m → Octets bytes
-      → Keeps N rows (sendsOrReplies m) (move N G m bytes)
+      → Keeps N rows (claimsOf N G m) (move N G m bytes)
   unfolding move
-  move-keeps G h (local q n r) bytes k oct = local-move N rows acc false G h q n r
-  move-keeps G h (receive q n r) bytes k oct = receive-move N rows acc false G h q n r
+  move-keeps G h (local q n r) bytes k oct = local-move N rows acc G h q n r
+  move-keeps G h (receive q n r) bytes k oct = receive-move N rows acc (claimsOf N G (receive q n r)) G h q n r
   move-keeps G h (send q n r to) bytes k oct = send-move N rows acc G h q n r to
-  move-keeps G h (reply q n r) bytes k oct = reply-move N rows acc G h q n r
-  move-keeps G h (outerMessage q id n number) bytes k oct = outside-move N rows acc G h q id n number bytes k oct
-  move-keeps G h (outerReply q n r) bytes k oct = outside-reply-move N rows acc G h q n r bytes oct
-  move-keeps G h (close q n) bytes k oct = close-move N rows acc false G h q n
+  move-keeps G h (reply q n r) bytes k oct = reply-move N rows acc (claimsOf N G (reply q n r)) G h q n r
+  move-keeps G h (outerMessage q id n number) bytes k oct =
+      outside-move N rows acc (claimsOf N G (outerMessage q id n number)) (λ z. z) G h q id n number bytes k oct
+  move-keeps G h (outerReply q n r) bytes k oct = outside-reply-move N rows acc (claimsOf N G (outerReply q n r)) (λ z. z) G h q n r bytes oct
+  move-keeps G h (close q n) bytes k oct = close-move N rows acc (claimsOf N G (close q n)) G h q n
 
   -- A sound session is well typed.
   session-typed : (q n : ℕ) (S : Session) → SessionSound N rows q n S → LiveWellTyped N q n S
@@ -94,28 +96,36 @@ module _ (N : Network) (rows : ℕ) (acc : Accepted N rows) where
         };
       }
 
-  -- A ready assign, if or while moves.
+  -- A ready assign, if or while moves, or is refused with 22 by its expression's result.
   ready-by : (G : State) → Sound N rows G → (q n : ℕ) (S : Session) (h : SessionSound N rows q n S) (l : Local) → Reaches (S .progress) (fromLocal l) (h .what)
-      → T (canMove (S .progress) (some l)) → Goes N rows (localBy G q n S (some l))
-  ready-by G hG q n S h (assigns r x e) a t =
+      → T (canMove (S .progress) (some l)) → (e : Expression) → localExpression (some l) ≡ some e
+      → Goes N rows (isBeyond (evaluate (S .tree) e)) (localBy G q n S (some l))
+  ready-by G hG q n S h (assigns r x e) a t w its =
       let u = is-undone (S .progress r) t in
-      subst (λ (s : Progress). Goes N rows (ifUndone s (onTree (evaluate (S .tree) e) (assigned G q n S r x)))) (sym u)
-      (assign-goes N rows acc G hG q n S h r x e a u)
-  ready-by G hG q n S h (decides r e x y) a t =
+      let R = onEvaluation (evaluate (S .tree) e) (λ b. unassigned G q n S x) (assigned G q n S r x) in
+      subst (λ (z : Expression). Goes N rows (isBeyond (evaluate (S .tree) z)) (ifUndone (S .progress r) R)) (some-inj its)
+      (subst (λ (s : Progress). Goes N rows (isBeyond (evaluate (S .tree) e)) (ifUndone s R)) (sym u) (assign-goes N rows acc G hG q n S h r x e a u))
+  ready-by G hG q n S h (decides r e x y) a t w its =
       let u = is-undone (S .progress r) t in
-      subst (λ (s : Progress). Goes N rows (ifUndone s (onTree (evaluate (S .tree) e) (λ v. onBool (rootValue v) (decided G q n S r))))) (sym u)
-      (if-goes N rows acc G hG q n S h r e x y a u)
-  ready-by G hG q n S h (repeats r e b) a t = go (S .progress r) refl t
+      let R = onTruth (evaluate (S .tree) e) (decided G q n S r) in
+      subst (λ (z : Expression). Goes N rows (isBeyond (evaluate (S .tree) z)) (ifUndone (S .progress r) R)) (some-inj its)
+      (subst (λ (s : Progress). Goes N rows (isBeyond (evaluate (S .tree) e)) (ifUndone s R)) (sym u) (if-goes N rows acc G hG q n S h r e x y a u))
+  ready-by G hG q n S h (repeats r e b) a t w its =
+      subst (λ (z : Expression). Goes N rows (isBeyond (evaluate (S .tree) z)) (ifReadyWhile (S .progress r) (isDone (S .progress) b) R)) (some-inj its)
+      (go (S .progress r) refl t)
     where
-      R : Result
-      R = onTree (evaluate (S .tree) e) (λ v. onBool (rootValue v) (repeated G q n S r b))
+      past : Bool
+      past = isBeyond (evaluate (S .tree) e)
 
-      when : (c : Bool) → T c → (T c → Goes N rows R) → Goes N rows (require c MoveNotAllowed R)
+      R : Result
+      R = onTruth (evaluate (S .tree) e) (repeated G q n S r b)
+
+      when : (c : Bool) → T c → (T c → Goes N rows past R) → Goes N rows past (require c MoveNotAllowed R)
       when true t f = f tt
       when false t f = absurd t
 
       go : (s : Progress) → S .progress r ≡ s → T (isUndone s || (isTaken s && isDone (S .progress) b))
-          → Goes N rows (ifReadyWhile s (isDone (S .progress) b) R)
+          → Goes N rows past (ifReadyWhile s (isDone (S .progress) b) R)
       go undone u t = while-goes N rows acc G hG q n S h r e b a u
       go done u t = absurd t
       go waits u t = absurd t
@@ -123,13 +133,15 @@ module _ (N : Network) (rows : ℕ) (acc : Accepted N rows) where
       go (taken k) u t = when (isDone (S .progress) b) t (λ d. again-goes N rows acc G hG q n S h r e b k a u d)
 
   ready-at : (G : State) → Sound N rows G → (q n : ℕ) (S : Session) (h : SessionSound N rows q n S) (X : Behaviour) → Reaches (S .progress) X (h .what)
-      → T (isReadyLocal (S .progress) X) → Goes N rows (localAt G q n S X)
+      → T (isReadyLocal (S .progress) X) → (e : Expression) → localExpression (localOf X) ≡ some e
+      → Goes N rows (isBeyond (evaluate (S .tree) e)) (localAt G q n S X)
   unfolding localAt
-  ready-at G hG q n S h X a t = seen (localOf X) refl t
+  ready-at G hG q n S h X a t w its = seen (localOf X) refl t its
     where
-      seen : (l : Optional Local) → localOf X ≡ l → T (canMove (S .progress) l) → Goes N rows (localBy G q n S l)
-      seen none e t = absurd t
-      seen (some l) e t = ready-by G hG q n S h l (subst (λ (z : Behaviour). Reaches (S .progress) z (h .what)) (local-is X l e) a) t
+      seen : (l : Optional Local) → localOf X ≡ l → T (canMove (S .progress) l) → localExpression l ≡ some w
+          → Goes N rows (isBeyond (evaluate (S .tree) w)) (localBy G q n S l)
+      seen none e t i = absurd t
+      seen (some l) e t i = ready-by G hG q n S h l (subst (λ (z : Behaviour). Reaches (S .progress) z (h .what)) (local-is X l e) a) t w i
 
   -- A row that can move is found.
   ready-found : (p : Progresses) (X : Behaviour) → T (isReadyLocal p X) → Findable p X
@@ -139,9 +151,10 @@ module _ (N : Network) (rows : ℕ) (acc : Accepted N rows) where
       seen none e t = absurd t
       seen (some l) e t = subst (Findable p) (sym (local-is X l e)) (local-findable p l)
 
-  pub ready-goes : (G : State) → Sound N rows G → (q n r : ℕ) → Ready N G q n r → Goes N rows (localMove N G q n r)
-  ready-goes G hG q n r k =
-      let S = k .session in
+  pub ready-goes : (G : State) → Sound N rows G → (q n r : ℕ) (S : Session) (e : Expression) → Ready N G q n r S e
+      → Goes N rows (isBeyond (evaluate (S .tree) e)) (localMove N G q n r)
+  ready-goes G hG q n r S e k =
+      let past = isBeyond (evaluate (S .tree) e) in
       let h = hG .sessions q n S (k .alive) in
       let sameB : h .what ≡ k .what = some-inj (sym (h .runs) ∙ k .runs) in
       let way : Reaches (S .progress) (k .row) (h .what) = subst (Reaches (S .progress) (k .row)) (sym sameB) (k .way) in
@@ -150,11 +163,11 @@ module _ (N : Network) (rows : ℕ) (acc : Accepted N rows) where
       (reach-complete (S .progress) (k .row) (h .what) (ready-found (S .progress) (k .row) (k .ready)) (once-of N rows acc q n (h .what) (h .runs))
       (h .clean) way) in
       let there : reach (S .progress) r (k .what) ≡ reached (k .row) = ap (reach (S .progress) r) (sym sameB) ∙ found in
-      let g = ready-at G hG q n S h (k .row) way (k .ready) in
+      let g = ready-at G hG q n S h (k .row) way (k .ready) e (k .works) in
       let f : Behaviour → Slot → Result = λ B x. onLive x (λ S2. localReached G q n S2 (reach (S2 .progress) r B)) in
-      subst (λ (b : Optional Behaviour). Goes N rows (onBehaviour b (λ B. f B (G q n)))) (sym (k .runs))
-      (subst (λ (x : Slot). Goes N rows (f (k .what) x)) (sym (k .alive))
-      (subst (λ (l : Reached). Goes N rows (localReached G q n S l)) (sym there) g))
+      subst (λ (b : Optional Behaviour). Goes N rows past (onBehaviour b (λ B. f B (G q n)))) (sym (k .runs))
+      (subst (λ (x : Slot). Goes N rows past (f (k .what) x)) (sym (k .alive))
+      (subst (λ (l : Reached). Goes N rows past (localReached G q n S l)) (sym there) g))
 
 -- On bytes ----------------------------------------------------------------------------------------------------------------------------
 
@@ -190,7 +203,7 @@ module _ (file : List ℕ) (acc : AcceptedFile file) where
 
     -- What holds of a step by its result.
     step-by : (P : Step → Type 0) (t : Turn) → P (refuse BufferSize (stateBytes G) (t .out))
-        → ((R : Result) → Keeps N rows (sendsOrReplies (t .move)) R → P (finish (stateBytes G) (t .out) R)) → Given t
+        → ((R : Result) → Keeps N rows (claimsOf N G (t .move)) R → P (finish (stateBytes G) (t .out) R)) → Given t
         → P (step file (stateBytes G) (t .out) (t .move) (t .bytes))
     step-by P t f k g = subst P (sym (step-is t)) (go (leb outRoom (length (t .out))))
       where
@@ -207,31 +220,42 @@ module _ (file : List ℕ) (acc : AcceptedFile file) where
     pub sound-never-18 : Never18 file G
     sound-never-18 t = step-by (λ x. outcomeNumber (x .outcome) ≡ 18 → ⊥) t (λ e. omega arith) go
       where
-        go : (R : Result) → Keeps N rows (sendsOrReplies (t .move)) R → outcomeNumber (finish (stateBytes G) (t .out) R .outcome) ≡ 18 → ⊥
+        go : (R : Result) → Keeps N rows (claimsOf N G (t .move)) R → outcomeNumber (finish (stateBytes G) (t .out) R .outcome) ≡ 18 → ⊥
         go (refused why) k e = k .not18 e
         go (moved G2 out) k e = omega arith
 
     pub sound-never-19 : Never19 file G
     sound-never-19 t g b = step-by (λ x. outcomeNumber (x .outcome) ≡ 19 → ⊥) t (λ e. omega arith) go g
       where
-        go : (R : Result) → Keeps N rows (sendsOrReplies (t .move)) R → outcomeNumber (finish (stateBytes G) (t .out) R .outcome) ≡ 19 → ⊥
+        go : (R : Result) → Keeps N rows (claimsOf N G (t .move)) R → outcomeNumber (finish (stateBytes G) (t .out) R .outcome) ≡ 19 → ⊥
         go (refused why) k e = k .not19 b e
         go (moved G2 out) k e = omega arith
 
     pub sound-ready : ReadyMoves file G
     unfolding move
-    sound-ready q n r bytes out k =
+    sound-ready q n r S e bytes out k =
         ap (λ (x : Step). outcomeNumber (x .outcome)) (step-is (record { move = local q n r; bytes = bytes; out = out }))
-        ∙ go (leb outRoom (length out)) (move N G (local q n r) bytes) (ready-goes N rows network G h q n r k)
+        ∙ go (leb outRoom (length out)) (isBeyond (evaluate (S .tree) e)) (move N G (local q n r) bytes) (ready-goes N rows network G h q n r S e k)
       where
-        go : (b : Bool) (R : Result) → Goes N rows R
-            → outcomeNumber (pick b (finish (stateBytes G) out R) (refuse BufferSize (stateBytes G) out) .outcome) ≡ pick b 0 1
-        go true (refused why) g = absurd g
-        go true (moved G2 o) g = refl
-        go false R g = refl
+        go : (b past : Bool) (R : Result) → Goes N rows past R
+            → outcomeNumber (pick b (finish (stateBytes G) out R) (refuse BufferSize (stateBytes G) out) .outcome) ≡ pick b (pick past 22 0) 1
+        go true true (refused why) g = ap numberOf g
+        go true true (moved G2 o) g = absurd g
+        go true false (refused why) g = absurd g
+        go true false (moved G2 o) g = refl
+        go false past R g = refl
+
+    pub sound-only-22 : Only22 file G
+    sound-only-22 t = step-by (λ x. outcomeNumber (x .outcome) ≡ 22 → Causes22 N G (t .move)) t (λ e. absurd (omega arith)) go
+      where
+        go : (R : Result) → Keeps N rows (claimsOf N G (t .move)) R → outcomeNumber (finish (stateBytes G) (t .out) R .outcome) ≡ 22
+            → Causes22 N G (t .move)
+        go (refused why) k e = k .only22 e
+        go (moved G2 out) k e = absurd (omega arith)
 
     pub sound-holds : Holds file G
-    sound-holds = record { wellTyped = sound-typed; never18 = sound-never-18; never19 = sound-never-19; readyMoves = sound-ready }
+    sound-holds =
+        record { wellTyped = sound-typed; never18 = sound-never-18; never19 = sound-never-19; readyMoves = sound-ready; only22 = sound-only-22 }
 
   -- The bytes are those of a sound state.
   pub record SoundBytes (s : List ℕ) : Type 0 where
@@ -245,7 +269,7 @@ module _ (file : List ℕ) (acc : AcceptedFile file) where
       same : SoundBytes (stateBytes G)
       same = record { state = G; sound = h; bytes = refl }
 
-      go : (R : Result) → Keeps N rows (sendsOrReplies (t .move)) R → SoundBytes (finish (stateBytes G) (t .out) R .state)
+      go : (R : Result) → Keeps N rows (claimsOf N G (t .move)) R → SoundBytes (finish (stateBytes G) (t .out) R .state)
       go (refused why) k = same
       go (moved G2 out) k = record { state = G2; sound = k; bytes = refl }
 

@@ -12,7 +12,7 @@ use Rattle.basics.specs.Choice.{pick}
 use Rattle.basics.specs.TestLaws.{and-i, and-r, not-T-false, of-T}
 use Rattle.network_syntax.specs.Syntax.{MessageType, Optional, none, some, Network, Operation, Behaviour}
 use Rattle.refusal.specs.declared.Refusal.{Refusal}
-use Rattle.refusal.specs.declared.Refusal.the-variants.{MoveNotAllowed, QueueFull, NoMessage, Stuck, MessageMisfit}
+use Rattle.refusal.specs.declared.Refusal.the-variants.{MoveNotAllowed, QueueFull, NoMessage, Stuck, MessageMisfit, OutOfRange}
 use Rattle.refusal.specs.Refusal.{numberOf}
 use Rattle.check_subtyping.specs.SubtypeLaws.{subtype-complete}
 use Rattle.check_subtyping.specs.Own.{ownType, Fits, fits}
@@ -22,29 +22,45 @@ use Rattle.check_typing.specs.TypedLaws.{by-bool}
 use Rattle.tree_forest.specs.Limits.{messageLevelsBelow, messageNodesBelow}
 use Rattle.state.specs.Session.{Destination, Progress, undone, done, waits, received, taken, Session, Slot, free, live, State, setSlot}
 use Rattle.state.specs.Shape.{behaviourIn}
-use Rattle.move_rules.specs.Evaluation.{Evaluation, given}
-use Rattle.move_rules.specs.Moves.{Result, refused, moved, notAllowed, require, onTree, onBool, onLive, onBehaviour, onOperation, inSession}
-use Rattle.move_rules.specs.Moves.{ifUndone, ifWaiting, onReceived, onMessage, isMessageTree, mustFit}
+use Rattle.move_rules.specs.Evaluation.{Evaluation, missing, wrongKind, beyond, given}
+use Rattle.move_rules.specs.Moves.{Result, refused, moved, notAllowed, require, outOfRange, onEvaluation, onTree, rootValue, onBool, onTruth, onLive}
+use Rattle.move_rules.specs.Moves.{onBehaviour, onOperation, inSession, ifUndone, ifWaiting, onReceived, onMessage, isMessageTree, mustFit, Move}
+use Rattle.soundness.specs.EvaluationLaws.{GivesBy}
+use Rattle.soundness.specs.LeafLaws.{GivesBool}
+use Rattle.soundness.specs.Property3.{isBeyond, Causes22, sendsOrReplies}
 use Rattle.soundness.specs.GoodTrees.{GoodTree}
 use Rattle.soundness.specs.Accepted.{SmallType}
 use Rattle.soundness.specs.Invariant.{SessionSound, Sound}
 
--- A refusal that may come from fresh: not 18, and, of a send or reply, not 19.
-pub record Tolerated (strict : Bool) (why : Refusal) : Type 0 where
+-- What is claimed of a move's refusals beside that none is 18: of a send or reply (`strict`) none is 19, and 22 has its cause.
+pub record Claims : Type 1 where
+  pub strict : Bool
+  pub cause : Type 0
+
+-- What property 3 claims of a move.
+abbrev pub claimsOf : Network → State → Move → Claims
+claimsOf N G m = record { strict = sendsOrReplies m; cause = Causes22 N G m }
+
+-- A refusal that may come from fresh.
+pub record Tolerated (claims : Claims) (why : Refusal) : Type 0 where
   pub not18 : numberOf why ≡ 18 → ⊥
-  pub not19 : T strict → numberOf why ≡ 19 → ⊥
+  pub not19 : T (claims .strict) → numberOf why ≡ 19 → ⊥
+  pub only22 : numberOf why ≡ 22 → claims .cause
 
-allowed-15 : (strict : Bool) → Tolerated strict MoveNotAllowed
-allowed-15 strict = record { not18 = λ e. omega arith; not19 = λ t e. omega arith }
+allowed-15 : (claims : Claims) → Tolerated claims MoveNotAllowed
+allowed-15 claims = record { not18 = λ e. omega arith; not19 = λ t e. omega arith; only22 = λ e. absurd (omega arith) }
 
-pub allowed-16 : (strict : Bool) → Tolerated strict QueueFull
-allowed-16 strict = record { not18 = λ e. omega arith; not19 = λ t e. omega arith }
+pub allowed-16 : (claims : Claims) → Tolerated claims QueueFull
+allowed-16 claims = record { not18 = λ e. omega arith; not19 = λ t e. omega arith; only22 = λ e. absurd (omega arith) }
 
-allowed-17 : (strict : Bool) → Tolerated strict NoMessage
-allowed-17 strict = record { not18 = λ e. omega arith; not19 = λ t e. omega arith }
+allowed-17 : (claims : Claims) → Tolerated claims NoMessage
+allowed-17 claims = record { not18 = λ e. omega arith; not19 = λ t e. omega arith; only22 = λ e. absurd (omega arith) }
 
-pub allowed-19 : Tolerated false MessageMisfit
-allowed-19 = record { not18 = λ e. omega arith; not19 = λ t e. absurd t }
+allowed-19 : (claims : Claims) → (T (claims .strict) → ⊥) → Tolerated claims MessageMisfit
+allowed-19 claims f = record { not18 = λ e. omega arith; not19 = λ t e. f t; only22 = λ e. absurd (omega arith) }
+
+allowed-22 : (claims : Claims) → claims .cause → Tolerated claims OutOfRange
+allowed-22 claims c = record { not18 = λ e. omega arith; not19 = λ t e. omega arith; only22 = λ e. c }
 
 pub live-inj : {a b : Session} → live a ≡ live b → a ≡ b
 live-inj h = cc
@@ -64,85 +80,107 @@ set-elim G q n x i j y f g e =
     (λ t. g (sym (ap (λ (b : Bool). pick b (pick (eqb j n) x (G i j)) (G i j)) (not-T-false (eqb i q) t)) ∙ e))
 
 module _ (N : Network) (rows : ℕ) where
-  abbrev pub Keeps : Bool → Result → Type 0
-  Keeps strict (refused why) = Tolerated strict why
-  Keeps strict (moved G out) = Sound N rows G
+  abbrev pub Keeps : Claims → Result → Type 0
+  Keeps claims (refused why) = Tolerated claims why
+  Keeps claims (moved G out) = Sound N rows G
 
-  -- It is made, and the state after it is sound.
-  abbrev pub Goes : Result → Type 0
-  Goes (refused why) = ⊥
-  Goes (moved G out) = Sound N rows G
+  -- It is made, and the state after it is sound; with a result that is beyond (`past`) it is refused with 22 instead.
+  abbrev pub Goes : Bool → Result → Type 0
+  Goes true (refused why) = why ≡ OutOfRange
+  Goes true (moved G out) = ⊥
+  Goes false (refused why) = ⊥
+  Goes false (moved G out) = Sound N rows G
 
-  pub goes-keeps : (strict : Bool) (r : Result) → Goes r → Keeps strict r
-  goes-keeps strict (refused why) g = absurd g
-  goes-keeps strict (moved G out) g = g
+  pub goes-keeps : (claims : Claims) (past : Bool) (r : Result) → (T past → claims .cause) → Goes past r → Keeps claims r
+  goes-keeps claims true (refused why) f g = subst (Tolerated claims) (sym g) (allowed-22 claims (f tt))
+  goes-keeps claims true (moved G out) f g = absurd g
+  goes-keeps claims false (refused why) f g = absurd g
+  goes-keeps claims false (moved G out) f g = g
 
-  pub keeps-15 : (strict : Bool) → Keeps strict notAllowed
-  keeps-15 strict = allowed-15 strict
+  pub keeps-15 : (claims : Claims) → Keeps claims notAllowed
+  keeps-15 claims = allowed-15 claims
 
   -- What holds of every way a result can come about.
-  pub by-require : (strict b : Bool) (r : Result) → (T b → Keeps strict r) → Keeps strict (require b MoveNotAllowed r)
-  by-require strict true r f = f tt
-  by-require strict false r f = allowed-15 strict
+  pub by-require : (claims : Claims) (b : Bool) (r : Result) → (T b → Keeps claims r) → Keeps claims (require b MoveNotAllowed r)
+  by-require claims true r f = f tt
+  by-require claims false r f = allowed-15 claims
 
-  pub by-undone : (strict : Bool) (s : Progress) (r : Result) → (s ≡ undone → Keeps strict r) → Keeps strict (ifUndone s r)
-  by-undone strict undone r f = f refl
-  by-undone strict done r f = allowed-15 strict
-  by-undone strict waits r f = allowed-15 strict
-  by-undone strict (received to) r f = allowed-15 strict
-  by-undone strict (taken k) r f = allowed-15 strict
+  pub by-undone : (claims : Claims) (s : Progress) (r : Result) → (s ≡ undone → Keeps claims r) → Keeps claims (ifUndone s r)
+  by-undone claims undone r f = f refl
+  by-undone claims done r f = allowed-15 claims
+  by-undone claims waits r f = allowed-15 claims
+  by-undone claims (received to) r f = allowed-15 claims
+  by-undone claims (taken k) r f = allowed-15 claims
 
-  pub by-waiting : (strict : Bool) (s : Progress) (r : Result) → (s ≡ waits → Keeps strict r) → Keeps strict (ifWaiting s r)
-  by-waiting strict undone r f = allowed-15 strict
-  by-waiting strict done r f = allowed-15 strict
-  by-waiting strict waits r f = f refl
-  by-waiting strict (received to) r f = allowed-15 strict
-  by-waiting strict (taken k) r f = allowed-15 strict
+  pub by-waiting : (claims : Claims) (s : Progress) (r : Result) → (s ≡ waits → Keeps claims r) → Keeps claims (ifWaiting s r)
+  by-waiting claims undone r f = allowed-15 claims
+  by-waiting claims done r f = allowed-15 claims
+  by-waiting claims waits r f = f refl
+  by-waiting claims (received to) r f = allowed-15 claims
+  by-waiting claims (taken k) r f = allowed-15 claims
 
-  pub by-received : (strict : Bool) (s : Progress) (k : Destination → Result) → ((to : Destination) → s ≡ received to → Keeps strict (k to))
-      → Keeps strict (onReceived s k)
-  by-received strict undone k f = allowed-15 strict
-  by-received strict done k f = allowed-15 strict
-  by-received strict waits k f = allowed-15 strict
-  by-received strict (received to) k f = f to refl
-  by-received strict (taken j) k f = allowed-15 strict
+  pub by-received : (claims : Claims) (s : Progress) (k : Destination → Result) → ((to : Destination) → s ≡ received to → Keeps claims (k to))
+      → Keeps claims (onReceived s k)
+  by-received claims undone k f = allowed-15 claims
+  by-received claims done k f = allowed-15 claims
+  by-received claims waits k f = allowed-15 claims
+  by-received claims (received to) k f = f to refl
+  by-received claims (taken j) k f = allowed-15 claims
 
-  pub by-live : (strict : Bool) (x : Slot) (k : Session → Result) → ((S : Session) → x ≡ live S → Keeps strict (k S)) → Keeps strict (onLive x k)
-  by-live strict free k f = allowed-15 strict
-  by-live strict (live S) k f = f S refl
+  pub by-live : (claims : Claims) (x : Slot) (k : Session → Result) → ((S : Session) → x ≡ live S → Keeps claims (k S)) → Keeps claims (onLive x k)
+  by-live claims free k f = allowed-15 claims
+  by-live claims (live S) k f = f S refl
 
-  pub by-operation : (strict : Bool) (o : Optional Operation) (k : Operation → Result) → ((i : Operation) → o ≡ some i → Keeps strict (k i))
-      → Keeps strict (onOperation o k)
-  by-operation strict none k f = allowed-15 strict
-  by-operation strict (some i) k f = f i refl
+  pub by-operation : (claims : Claims) (o : Optional Operation) (k : Operation → Result) → ((i : Operation) → o ≡ some i → Keeps claims (k i))
+      → Keeps claims (onOperation o k)
+  by-operation claims none k f = allowed-15 claims
+  by-operation claims (some i) k f = f i refl
 
-  pub by-message : (strict : Bool) (l : Lookup Value) (k : Tree Value → Result) → ((m : Tree Value) → l ≡ present m → Keeps strict (k m))
-      → Keeps strict (onMessage l k)
-  by-message strict absent k f = allowed-17 strict
-  by-message strict (present m) k f = f m refl
+  pub by-message : (claims : Claims) (l : Lookup Value) (k : Tree Value → Result) → ((m : Tree Value) → l ≡ present m → Keeps claims (k m))
+      → Keeps claims (onMessage l k)
+  by-message claims absent k f = allowed-17 claims
+  by-message claims (present m) k f = f m refl
 
-  pub by-pick : (strict b : Bool) (x y : Result) → (T b → Keeps strict x) → ((T b → ⊥) → Keeps strict y) → Keeps strict (pick b x y)
-  by-pick strict true x y f g = f tt
-  by-pick strict false x y f g = g (λ t. t)
+  pub by-pick : (claims : Claims) (b : Bool) (x y : Result) → (T b → Keeps claims x) → ((T b → ⊥) → Keeps claims y) → Keeps claims (pick b x y)
+  by-pick claims true x y f g = f tt
+  by-pick claims false x y f g = g (λ t. t)
 
-  pub by-session : (strict : Bool) (G : State) (q n : ℕ) (k : Behaviour → Session → Result)
-      → ((B : Behaviour) (S : Session) → behaviourIn N q n ≡ some B → G q n ≡ live S → Keeps strict (k B S)) → Keeps strict (inSession N G q n k)
-  by-session strict G q n k f = go (behaviourIn N q n) refl
+  pub by-session : (claims : Claims) (G : State) (q n : ℕ) (k : Behaviour → Session → Result)
+      → ((B : Behaviour) (S : Session) → behaviourIn N q n ≡ some B → G q n ≡ live S → Keeps claims (k B S)) → Keeps claims (inSession N G q n k)
+  by-session claims G q n k f = go (behaviourIn N q n) refl
     where
-      go : (b : Optional Behaviour) → behaviourIn N q n ≡ b → Keeps strict (onBehaviour b (λ B. onLive (G q n) (λ S. k B S)))
-      go none e = allowed-15 strict
-      go (some B) e = by-live strict (G q n) (λ S. k B S) (λ S eS. f B S e eS)
+      go : (b : Optional Behaviour) → behaviourIn N q n ≡ b → Keeps claims (onBehaviour b (λ B. onLive (G q n) (λ S. k B S)))
+      go none e = allowed-15 claims
+      go (some B) e = by-live claims (G q n) (λ S. k B S) (λ S eS. f B S e eS)
 
-  -- What is there.
-  pub at-tree : (r : Evaluation (Tree Value)) (y : Tree Value) (k : Tree Value → Result) → r ≡ given y → Goes (k y) → Goes (onTree r k)
-  at-tree r y k e g = subst (λ (z : Evaluation (Tree Value)). Goes (onTree z k)) (sym e) g
+  -- What comes of an evaluation.
+  pub at-evaluation : {B : ℕ → Type 0} {P : Tree Value → Type 0} (r : Evaluation (Tree Value)) (g : ℕ → Result) (f : Tree Value → Result) → GivesBy r B P
+      → ((b : ℕ) → B b → Goes true (g b)) → ((y : Tree Value) → P y → Goes false (f y)) → Goes (isBeyond r) (onEvaluation r g f)
+  at-evaluation missing g f c k l = absurd c
+  at-evaluation wrongKind g f c k l = absurd c
+  at-evaluation (beyond b) g f c k l = k b c
+  at-evaluation (given y) g f c k l = l y c
 
-  pub at-require : (b : Bool) (why : Refusal) (r : Result) → T b → Goes r → Goes (require b why r)
-  at-require b why r t g = subst (λ (z : Bool). Goes (require z why r)) (sym (of-T b t)) g
+  pub at-require : (past b : Bool) (why : Refusal) (r : Result) → T b → Goes past r → Goes past (require b why r)
+  at-require past b why r t g = subst (λ (z : Bool). Goes past (require z why r)) (sym (of-T b t)) g
 
-  pub at-bool : (v : Value) (k : Bool → Result) → basicOf v ≡ bool → ((c : Bool) → Goes (k c)) → Goes (onBool v k)
+  at-bool : (v : Value) (k : Bool → Result) → basicOf v ≡ bool → ((c : Bool) → Goes false (k c)) → Goes false (onBool v k)
   at-bool (value b w) k e f =
-      at-require (eqb b bool) Stuck (k (eqb (unsignedOf w) 1)) (subst (λ (z : ℕ). T (eqb z bool)) (sym e) tt) (f (eqb (unsignedOf w) 1))
+      at-require false (eqb b bool) Stuck (k (eqb (unsignedOf w) 1)) (subst (λ (z : ℕ). T (eqb z bool)) (sym e) tt) (f (eqb (unsignedOf w) 1))
+
+  pub at-truth : (r : Evaluation (Tree Value)) (k : Bool → Result) → GivesBool r → ((c : Bool) → Goes false (k c)) → Goes (isBeyond r) (onTruth r k)
+  at-truth r k c f =
+      at-evaluation r (λ b. require (eqb b bool) Stuck outOfRange) (λ t. onBool (rootValue t) k) c
+      (λ b e. at-require true (eqb b bool) Stuck outOfRange (subst (λ (z : ℕ). T (eqb z bool)) (sym e) tt) refl)
+      (λ y e. at-bool (rootValue y) k e f)
+
+  -- The same where the target may refuse.
+  pub keeps-tree : {B : ℕ → Type 0} {P : Tree Value → Type 0} (claims : Claims) (r : Evaluation (Tree Value)) (k : Tree Value → Result) → GivesBy r B P
+      → ((b : ℕ) → r ≡ beyond b → B b → claims .cause) → ((y : Tree Value) → P y → Keeps claims (k y)) → Keeps claims (onTree r k)
+  keeps-tree claims missing k c f g = absurd c
+  keeps-tree claims wrongKind k c f g = absurd c
+  keeps-tree claims (beyond b) k c f g = allowed-22 claims (f b refl c)
+  keeps-tree claims (given y) k c f g = g y c
 
   -- A tree that fits a type of the file is a message, and passes the test.
   fit-test : (m : Tree Value) (t : MessageType) → GoodTree m → RisingTree t → SmallType t → Fits m t → T (isMessageTree m && fits m t)
@@ -154,26 +192,19 @@ module _ (N : Network) (rows : ℕ) where
       (le→leb (nodes k) messageNodesBelow (let z = st .1 in omega arith)))
       (subtype-complete (ownType (tree v k)) (tree a l) (own-rising k (g .1 .0)) rt f)
 
-  pub at-fit : (m : Tree Value) (t : MessageType) (r : Result) → GoodTree m → RisingTree t → SmallType t → Fits m t → Goes r → Goes (mustFit m t r)
-  at-fit m t r g rt st f h = at-require (isMessageTree m && fits m t) MessageMisfit r (fit-test m t g rt st f) h
-
-  -- The same where the target may refuse.
-  pub keeps-tree : (strict : Bool) (r : Evaluation (Tree Value)) (y : Tree Value) (k : Tree Value → Result) → r ≡ given y → Keeps strict (k y)
-      → Keeps strict (onTree r k)
-  keeps-tree strict r y k e g = subst (λ (z : Evaluation (Tree Value)). Keeps strict (onTree z k)) (sym e) g
-
-  pub keeps-fit : (strict : Bool) (m : Tree Value) (t : MessageType) (r : Result) → GoodTree m → RisingTree t → SmallType t → Fits m t
-      → Keeps strict r → Keeps strict (mustFit m t r)
-  keeps-fit strict m t r g rt st f h =
-      subst (λ (z : Bool). Keeps strict (require z MessageMisfit r)) (sym (of-T (isMessageTree m && fits m t) (fit-test m t g rt st f))) h
+  pub keeps-fit : (claims : Claims) (m : Tree Value) (t : MessageType) (r : Result) → GoodTree m → RisingTree t → SmallType t → Fits m t
+      → Keeps claims r → Keeps claims (mustFit m t r)
+  keeps-fit claims m t r g rt st f h =
+      subst (λ (z : Bool). Keeps claims (require z MessageMisfit r)) (sym (of-T (isMessageTree m && fits m t) (fit-test m t g rt st f))) h
 
   -- An outsider's message may be refused with 19.
-  pub outside-fit : (m : Tree Value) (t : MessageType) (r : Result) → (T (fits m t) → Keeps false r) → Keeps false (mustFit m t r)
-  outside-fit m t r f = go (isMessageTree m && fits m t) (λ z. and-r (isMessageTree m) (fits m t) z)
+  pub outside-fit : (claims : Claims) → (T (claims .strict) → ⊥) → (m : Tree Value) (t : MessageType) (r : Result) → (T (fits m t) → Keeps claims r)
+      → Keeps claims (mustFit m t r)
+  outside-fit claims n m t r f = go (isMessageTree m && fits m t) (λ z. and-r (isMessageTree m) (fits m t) z)
     where
-      go : (b : Bool) → (T b → T (fits m t)) → Keeps false (require b MessageMisfit r)
+      go : (b : Bool) → (T b → T (fits m t)) → Keeps claims (require b MessageMisfit r)
       go true g = f (g tt)
-      go false g = allowed-19
+      go false g = allowed-19 claims n
 
   -- A slot changed.
   abbrev pub SlotSound : ℕ → ℕ → Slot → Type 0

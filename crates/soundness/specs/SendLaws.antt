@@ -1,4 +1,4 @@
--- Sends and outside messages keep the invariant; no send gives 18 or 19.
+-- Sends and outside messages keep the invariant; no send gives 18 or 19, and one that gives 22 has its cause.
 use mathlib.Core.Path.{_≡_, refl, sym, ap, subst, _∙_}
 use Prim.Native.Nat.{ℕ, _<_}
 use mathlib.Core.Bool.{Bool, true, false, _&&_}
@@ -29,11 +29,13 @@ use Rattle.state.specs.Session.{setSlot}
 use Rattle.state.specs.Bytes.{messageBytes}
 use Rattle.state.specs.Shape.{operationOfRow, suitsReply, suitsOperation}
 use Rattle.move_rules.specs.Readiness.{Reached, unreached, reached, offered, reach}
-use Rattle.move_rules.specs.Evaluation.{given, evaluate}
+use Rattle.move_rules.specs.Evaluation.{Evaluation, beyond, evaluate}
 use Rattle.move_rules.specs.Targets.{Target, noTarget, queueFull, queued, starts, target}
 use Rattle.move_rules.specs.Moves.{Result, moved, require, onTree, onOperation, onMessage, mustFit, deliver, goneOn, admit, sendInside}
 use Rattle.move_rules.specs.Moves.{sendOutside, sendBy, sendOutput, sendAt, sendReached, sendMove, isInputNamed, inputNamed, outerMessageMove}
+use Rattle.move_rules.specs.Moves.{send}
 use Rattle.soundness.specs.GoodTrees.{GoodTree}
+use Rattle.soundness.specs.LeafLaws.{GivesMessage}
 use Rattle.soundness.specs.Parts.{Reaches}
 use Rattle.soundness.specs.ReachLaws.{Found, reach-found}
 use Rattle.soundness.specs.Accepted.{OfFile, MadeOf, Accepted}
@@ -41,9 +43,10 @@ use Rattle.soundness.specs.MadeLaws.{made-at, plain-solicit, reaches-atR
 use Rattle.network_syntax.specs.ViewLaws.{some-inj, output-is}
 use Rattle.soundness.specs.Invariant.{RepliesFit, SessionSound, Sound}
 use Rattle.soundness.specs.SessionLaws.{once-of, made-of, notification-sound, solicit-sound}
-use Rattle.soundness.specs.ResultLaws.{Keeps, keeps-15, by-require, by-undone, by-session, by-operation, by-message, by-pick, keeps-tree}
-use Rattle.soundness.specs.ResultLaws.{live-inj, set-elim, keeps-fit, outside-fit, sound-set}
-use Rattle.soundness.specs.LocalLaws.{permits-one, permits-two, permits-output, message-good}
+use Rattle.soundness.specs.ResultLaws.{Claims, claimsOf, Keeps, keeps-15, by-require, by-undone, by-session, by-operation, by-message}
+use Rattle.soundness.specs.ResultLaws.{live-inj, set-elim, by-pick, keeps-tree, keeps-fit, outside-fit, sound-set}
+use Rattle.soundness.specs.Property3.{outputExpression, isBeyond, LeavesRange}
+use Rattle.soundness.specs.LocalLaws.{permits-one, permits-two, permits-output, message-good, leaves-range}
 use Rattle.soundness.specs.DeliverLaws.{TargetInfo, target-info, LetsPass, allowed-keeps, deliver-keeps, first-there, behaviour-place}
 
 solicit-same : {r r2 : ℕ} {o o2 : Operation} {e e2 : Expression} {x x2 : Path} → solicitResponse r o e x ≡ solicitResponse r2 o2 e2 x2 → o ≡ o2
@@ -92,49 +95,55 @@ module _ (N : Network) (rows : ℕ) (acc : Accepted N rows) where
     abbrev p : Progresses
     p = S .progress
 
-    send-by : (r : ℕ) (o : Operation) (e : Expression) (after : Progress) (back : Optional Destination) → OfFile N o → o .direction ≡ output
-        → (y : Tree Value) → evaluate (S .tree) e ≡ given y → Fits y (o .request) → GoodTree y → SessionSound N rows q n (withProgress S (advance p r after))
+    send-by : (claims : Claims) (r : ℕ) (o : Operation) (e : Expression) (after : Progress) (back : Optional Destination) → OfFile N o → o .direction ≡ output
+        → GivesMessage (evaluate (S .tree) e) (o .request) → (T (isBeyond (evaluate (S .tree) e)) → claims .cause)
+        → SessionSound N rows q n (withProgress S (advance p r after))
         → ((i : Operation) → MetInput o i → Agrees o i → RepliesFit N i back × T (suitsReply N rows (i .twoWay) back))
-        → Keeps N rows true (sendBy N G q n S to r o e after back)
-    send-by r o e after back fo dir y ev fit gy hs dest =
+        → Keeps N rows claims (sendBy N G q n S to r o e after back)
+    send-by claims r o e after back fo dir g c hs dest =
         let G2 = goneOn G q n S r after in
         let h2 = sound-set N rows G q n (live (withProgress S (advance p r after))) hG hs in
         let fo2 = acc .operations (o .row) o fo in
-        by-pick N rows true (inFile N (o .location)) (onOperation (metInput N o) (sendInside N G q n S to r e after back))
+        by-pick N rows claims (inFile N (o .location)) (onOperation (metInput N o) (sendInside N G q n S to r e after back))
         (sendOutside N G q n S to r o e after)
-        (λ inside. by-operation N rows true (metInput N o) (sendInside N G q n S to r e after back)
+        (λ inside. by-operation N rows claims (metInput N o) (sendInside N G q n S to r e after back)
         (λ i ei.
         let m = met o i ei in
         let ag = acc .outputs (o .row) o i fo dir inside ei in
         let fi = acc .operations (i .row) i (m .ofFile) in
-        let fit2 : Fits y (i .request) = subtype-trans fit (ag .requests) in
         let d = dest i m ag in
         let t = target N G i to in
         let K : Tree Value → Result = λ x. mustFit x (i .request) (deliver G2 i to t back x) in
-        allowed-keeps N rows acc true (i .service) t (onTree (evaluate (S .tree) e) K)
-        (λ ad. keeps-tree N rows true (evaluate (S .tree) e) y K ev
-        (keeps-fit N rows true y (i .request) (deliver G2 i to t back y) gy (fi .rising .0) (fi .smallRequest) fit2
-        (deliver-keeps N rows acc true G2 h2 i to y back
-        (record { ofFile = m .ofFile; suit = suit-of i back (m .isIn) (d .1); good = gy; fit = fit2; destination = d .0 })
+        allowed-keeps N rows acc claims (i .service) t (onTree (evaluate (S .tree) e) K)
+        (λ ad. keeps-tree N rows claims (evaluate (S .tree) e) K g cause
+        (λ y k.
+        let fit2 : Fits y (i .request) = subtype-trans (k .0) (ag .requests) in
+        keeps-fit N rows claims y (i .request) (deliver G2 i to t back y) (k .1) (fi .rising .0) (fi .smallRequest) fit2
+        (deliver-keeps N rows acc claims G2 h2 i to y back
+        (record { ofFile = m .ofFile; suit = suit-of i back (m .isIn) (d .1); good = k .1; fit = fit2; destination = d .0 })
         t (gone-info G q n S (advance p r after) eS i to t (target-info N rows acc G i to)) ad)))))
         (λ outside.
         let K : Tree Value → Result = λ x. mustFit x (o .request) (moved G2 (messageBytes x)) in
-        by-require N rows true (eqb to 0) (onTree (evaluate (S .tree) e) K)
-        (λ t. keeps-tree N rows true (evaluate (S .tree) e) y K ev
-        (keeps-fit N rows true y (o .request) (moved G2 (messageBytes y)) gy (fo2 .rising .0) (fo2 .smallRequest) fit h2)))
+        by-require N rows claims (eqb to 0) (onTree (evaluate (S .tree) e) K)
+        (λ t. keeps-tree N rows claims (evaluate (S .tree) e) K g cause
+        (λ y k. keeps-fit N rows claims y (o .request) (moved G2 (messageBytes y)) (k .1) (fo2 .rising .0) (fo2 .smallRequest) (k .0) h2)))
+      where
+        cause : (b : ℕ) → evaluate (S .tree) e ≡ beyond b → Unit {0} → claims .cause
+        cause b eb u = c (subst (λ (z : Evaluation (Tree Value)). T (isBeyond z)) (sym eb) tt)
 
-    send-by-output : (r : ℕ) (o : Operation) (e : Expression) (x : Optional Path)
+    send-by-output : (claims : Claims) (r : ℕ) (o : Operation) (e : Expression) (x : Optional Path)
         → Reaches p (fromOutput (record { row = r; operation = o; message = e; into = x })) (h .what)
-        → Keeps N rows true (sendOutput N G q n S to (some (record { row = r; operation = o; message = e; into = x })))
+        → (T (isBeyond (evaluate (S .tree) e)) → claims .cause)
+        → Keeps N rows claims (sendOutput N G q n S to (some (record { row = r; operation = o; message = e; into = x })))
     unfolding MadeOf rowOf
-    send-by-output r o e none a =
+    send-by-output claims r o e none a c =
         let made = made-at N rows a (made-of N rows acc q n (h .what) (h .runs)) in
-        by-undone N rows true (p r) (require (permits q output false o) MoveNotAllowed (sendBy N G q n S to r o e done none))
-        (λ t. by-require N rows true (permits q output false o) (sendBy N G q n S to r o e done none)
+        by-undone N rows claims (p r) (require (permits q output false o) MoveNotAllowed (sendBy N G q n S to r o e done none))
+        (λ t. by-require N rows claims (permits q output false o) (sendBy N G q n S to r o e done none)
         (λ k. let u = notification-sound N rows acc q n S h r o e a t in
-        send-by r o e done none (made .1) (permits-output q false o k) (u .0) (u .1) (u .2) (u .3) (u .4)
+        send-by claims r o e done none (made .1) (permits-output q false o k) (u .0) c (u .1)
         (λ i m ag. (tt, subst (λ (b : Bool). T (suitsReply N rows b none)) (sym (m .alike ∙ permits-one q output o k)) tt))))
-    send-by-output r o e (some x) a =
+    send-by-output claims r o e (some x) a c =
         let X = solicitResponse r o e x in
         let mB = made-of N rows acc q n (h .what) (h .runs) in
         let made = made-at N rows a mB in
@@ -142,10 +151,10 @@ module _ (N : Network) (rows : ℕ) (acc : Accepted N rows) where
         let at = reaches-atRow p X (h .what) (plain-solicit r o e x) on a in
         let place = behaviour-place N q n (h .what) (h .runs) in
         let R = sendBy N G q n S to r o e waits (some (waitingRow q n r)) in
-        by-undone N rows true (p r) (require (permits q output true o) MoveNotAllowed R)
-        (λ t. by-require N rows true (permits q output true o) R
+        by-undone N rows claims (p r) (require (permits q output true o) MoveNotAllowed R)
+        (λ t. by-require N rows claims (permits q output true o) R
         (λ k. let u = solicit-sound N rows acc q n S h r o e x a t in
-        send-by r o e waits (some (waitingRow q n r)) (made .1) (permits-output q true o k) (u .0) (u .1) (u .2) (u .3) (u .4)
+        send-by claims r o e waits (some (waitingRow q n r)) (made .1) (permits-output q true o k) (u .0) c (u .1)
         (λ i m ag. (
           (λ B eB r2 o2 e2 x2 e3.
               let sameB : h .what ≡ B = some-inj (sym (h .runs) ∙ eB) in
@@ -156,28 +165,34 @@ module _ (N : Network) (rows : ℕ) (acc : Accepted N rows) where
               (and-i (leb n 3) (ltb r rows) (le→leb n 3 (place .1)) (lt→ltb r rows (made .0)))),
         ))))
 
-    send-at : (X : Behaviour) → Reaches p X (h .what) → Keeps N rows true (sendAt N G q n S to X)
+    send-at : (claims : Claims) (X : Behaviour) → Reaches p X (h .what)
+        → ((e : Expression) → outputExpression (outputOf X) ≡ some e → T (isBeyond (evaluate (S .tree) e)) → claims .cause)
+        → Keeps N rows claims (sendAt N G q n S to X)
     unfolding sendAt
-    send-at X a = seen (outputOf X) refl
+    send-at claims X a f = seen (outputOf X) refl
       where
-        seen : (u : Optional Output) → outputOf X ≡ u → Keeps N rows true (sendOutput N G q n S to u)
-        seen none e = keeps-15 N rows true
+        seen : (u : Optional Output) → outputOf X ≡ u → Keeps N rows claims (sendOutput N G q n S to u)
+        seen none e = keeps-15 N rows claims
         seen (some u) e =
-            send-by-output (u .row) (u .operation) (u .message) (u .into) (subst (λ (z : Behaviour). Reaches p z (h .what)) (output-is X u e) a)
+            send-by-output claims (u .row) (u .operation) (u .message) (u .into) (subst (λ (z : Behaviour). Reaches p z (h .what)) (output-is X u e) a)
+            (f (u .message) (ap outputExpression e))
 
-    send-reached : (i : ℕ) (l : Reached) → Found p i (h .what) l → Keeps N rows true (sendReached N G q n S to l)
-    send-reached i unreached f = keeps-15 N rows true
-    send-reached i (reached X) f = send-at X (f .0)
-    send-reached i (offered c k b) f = keeps-15 N rows true
+    send-reached : (claims : Claims) (i : ℕ) → (LeavesRange N G q n i (λ b. outputExpression (outputOf b)) → claims .cause)
+        → (l : Reached) → Found p i (h .what) l → Keeps N rows claims (sendReached N G q n S to l)
+    send-reached claims i c unreached f = keeps-15 N rows claims
+    send-reached claims i c (reached X) f =
+        send-at claims X (f .0) (λ e its t. c (leaves-range N rows acc G hG q n S h eS i (λ b. outputExpression (outputOf b)) X f e its t))
+    send-reached claims i c (offered d k b) f = keeps-15 N rows claims
 
-  pub send-move : (G : State) → Sound N rows G → (q n r to : ℕ) → Keeps N rows true (sendMove N G q n r to)
+  pub send-move : (G : State) → Sound N rows G → (q n r to : ℕ) → Keeps N rows (claimsOf N G (send q n r to)) (sendMove N G q n r to)
   send-move G hG q n r to =
-      by-session N rows true G q n (λ B S. sendReached N G q n S to (reach (S .progress) r B))
+      let claims = claimsOf N G (send q n r to) in
+      by-session N rows claims G q n (λ B S. sendReached N G q n S to (reach (S .progress) r B))
       (λ B S e eS.
       let h = hG .sessions q n S eS in
       let on = once-of N rows acc q n (h .what) (h .runs) in
-      subst (λ (z : Behaviour). Keeps N rows true (sendReached N G q n S to (reach (S .progress) r z))) (some-inj (sym (h .runs) ∙ e))
-      (send-reached G hG q n S eS h to r (reach (S .progress) r (h .what)) (reach-found (S .progress) r (h .what) on (h .clean))))
+      subst (λ (z : Behaviour). Keeps N rows claims (sendReached N G q n S to (reach (S .progress) r z))) (some-inj (sym (h .runs) ∙ e))
+      (send-reached G hG q n S eS h to claims r (λ c. c) (reach (S .progress) r (h .what)) (reach-found (S .progress) r (h .what) on (h .clean))))
 
   -- A message from outside, of bytes, with a u32 reply number.
   pub decoded-good : (bytes : List ℕ) (m : Tree Value) → Octets bytes → decodeMessage bytes ≡ present m → GoodTree m
@@ -191,11 +206,11 @@ module _ (N : Network) (rows : ℕ) (acc : Accepted N rows) where
   outside-destination i true k = tt
   outside-destination i false k = tt
 
-  pub outside-move : (G : State) → Sound N rows G → (q id n number : ℕ) (bytes : List ℕ) → number < 0x100000000 → Octets bytes
-      → Keeps N rows false (outerMessageMove N G q id n number bytes)
-  outside-move G hG q id n number bytes small oct =
+  pub outside-move : (claims : Claims) → (T (claims .strict) → ⊥) → (G : State) → Sound N rows G → (q id n number : ℕ) (bytes : List ℕ)
+      → number < 0x100000000 → Octets bytes → Keeps N rows claims (outerMessageMove N G q id n number bytes)
+  outside-move claims lax G hG q id n number bytes small oct =
       let K : Operation → Result = λ i. admit N G i n (onMessage (decodeMessage bytes)) G (pick (i .twoWay) (some (outsider number)) none) in
-      by-operation N rows false (inputNamed N q id) K
+      by-operation N rows claims (inputNamed N q id) K
       (λ i ei.
       let u = first-there (isInputNamed q id) (N .operations) i ei in
       let isIn =
@@ -203,10 +218,10 @@ module _ (N : Network) (rows : ℕ) (acc : Accepted N rows) where
       let t = target N G i n in
       let back = pick (i .twoWay) (some (outsider number)) none in
       let D : Tree Value → Result = λ m. mustFit m (i .request) (deliver G i n t back m) in
-      allowed-keeps N rows acc false (i .service) t (onMessage (decodeMessage bytes) D)
-      (λ ad. by-message N rows false (decodeMessage bytes) D
-      (λ m em. outside-fit N rows m (i .request) (deliver G i n t back m)
-      (λ f. deliver-keeps N rows acc false G hG i n m back
+      allowed-keeps N rows acc claims (i .service) t (onMessage (decodeMessage bytes) D)
+      (λ ad. by-message N rows claims (decodeMessage bytes) D
+      (λ m em. outside-fit N rows claims lax m (i .request) (deliver G i n t back m)
+      (λ f. deliver-keeps N rows acc claims G hG i n m back
       (record {
         ofFile = of-file (u .0) i (u .1);
         suit = suit-of i back isIn (outside-pick (i .twoWay) number small);

@@ -6,10 +6,9 @@ use mathlib.Core.List.{List, [], _∷_, _++_}
 use native.Mathlib.Omega.{arith}
 use lib.Dec.{T, eqb, ltb, eqb→eq, eqb-refl}
 use lib.ListN.{length, length-append}
-use Rattle.tree_forest.specs.Forest.{Forest, Tree, tree, present}
+use Rattle.tree_forest.specs.Forest.{Forest, Tree, Rising}
 use Rattle.tree_forest.specs.Path.{Path, read, replaceAt, setPayloadAt}
-use Rattle.scalar.specs.Basic.{bool}
-use Rattle.scalar.specs.Value.{Value, basicOf}
+use Rattle.scalar.specs.Value.{Value, value}
 use Rattle.basics.specs.Choice.{pick}
 use Rattle.basics.specs.TestLaws.{and-i, not-T-false, of-T, or-case, or-l, or-r}
 use Rattle.network_syntax.specs.Syntax.{Types, Expression, some, Network, Operation, Behaviour, nil, oneWay, requestResponse, notification, solicitResponse}
@@ -20,7 +19,7 @@ use Rattle.check_subtyping.specs.Subtype.{Subtypes}
 use Rattle.check_subtyping.specs.Own.{ownTypes, Fits}
 use Rattle.check_subtyping.specs.OwnLaws.{tree-within}
 use Rattle.check_typing.specs.Environment.{within}
-use Rattle.check_typing.specs.EnvironmentLaws.{sums, maxima, within-smaller}
+use Rattle.check_typing.specs.EnvironmentLaws.{sums, maxima, within-smaller, payload-rising}
 use Rattle.check_typing.specs.Rules.{WellSorted}
 use Rattle.check_typing.specs.Typed.{Typed}
 use Rattle.check_typing.specs.TypedLaws.{by-bool, within-before}
@@ -29,12 +28,13 @@ use Rattle.state.specs.Session.{advance, reopen, Queued, Session, withTree, wit
 use Rattle.state.specs.Shape.{behaviourIn, isDestination, undoneOrDone, undoneDoneOrWaits, undoneDoneOrReceived, undoneOrTaken, undoneDoneOrBody}
 use Rattle.state.specs.Shape.{branches, suits, suitsBranches}
 use Rattle.move_rules.specs.Readiness.{unlessDone, unlessWaits, unlessReceived, unlessTaken, thenOrElse, isDone, branchDone, rest, branchRest}
-use Rattle.move_rules.specs.Evaluation.{given, evaluate}
+use Rattle.move_rules.specs.Evaluation.{evaluate}
+use Rattle.move_rules.specs.AssignLaws.{within-payload}
 use Rattle.move_rules.specs.Moves.{rootValue}
 use Rattle.scalar.specs.Value.{voidValue}
 use Rattle.soundness.specs.GoodTrees.{GoodForest, GoodTree}
 use Rattle.soundness.specs.GoodTreesLaws.{replace-good, payload-set-good}
-use Rattle.soundness.specs.EvaluationLaws.{progress, root-proper}
+use Rattle.soundness.specs.EvaluationLaws.{GivesBy, gives-map, progress, beyond-basic, given-basic, root-proper}
 use Rattle.soundness.specs.Parts.{branchAt, Fresh, FreshBranches, Clean, Reaches, atSelf, atServed, atLoop}
 use Rattle.soundness.specs.ContextLaws.{finished-same, Active, hole}
 use Rattle.soundness.specs.RowLaws.{in-own, branch-rows, rest-fresh, rest-then, rest-else, rest-loop, rest-served, rest-branch}
@@ -47,7 +47,9 @@ use Rattle.soundness.specs.Parts.{isOpen, Opens, asking, serving}
 use Rattle.soundness.specs.Accepted.{MadeOf, Accepted}
 use Rattle.soundness.specs.MadeLaws.{made-at, made-sorted, rest-sorted}
 use Rattle.soundness.specs.LeafLaws.{Leaf, assigns, takesThen, takesElse, enters, leaves, reenters, ends, receivesOne, receivesTwo, getsReply}
-use Rattle.soundness.specs.LeafLaws.{notifies, asks, answers, selects, reduction, condition-gives, send-gives, reply-gives}
+use Rattle.soundness.specs.LeafLaws.{notifies, asks, answers, selects, GivesBool, GivesMessage, GivesReply}
+use Rattle.soundness.specs.LeafLaws.{reduction, condition-gives, send-gives, reply-gives}
+use Rattle.soundness.specs.Well.{Well}
 use Rattle.soundness.specs.Invariant.{AnswersAt, QueuedSound, AllQueued, SessionSound}
 
 -- One row advanced ------------------------------------------------------------------------------------------------------------------------
@@ -204,12 +206,19 @@ module _ (N : Network) (rows : ℕ) (acc : Accepted N rows) where
     sorted-at : (X : Behaviour) → Reaches p X B → WellSorted (rest p X)
     sorted-at X a = rest-sorted X p (made-sorted N rows acc X (made-at N rows a madeB))
 
+    -- What is left after a step is typed from the tree after it.
+    changed-well : (X : Behaviour) → Reaches p X B → (F2 : Forest Value) (p2 : Progresses) → Off p p2 X → (L L2 : Behaviour) → rest p X ≡ L
+        → rest p2 X ≡ L2 → Leaf (S .tree) L F2 L2 → Well q F2 (rest p2 B) (h .last)
+    changed-well X a F2 p2 off L L2 e1 e2 lf =
+        let act = row-active p p2 X B a onceB off in
+        let act2 = subst (λ (z : Behaviour). Active z (rest p2 X) (rest p B) (rest p2 B)) e1 act in
+        reduction q lf (subst (λ (z : Behaviour). Active L z (rest p B) (rest p2 B)) e2 act2) (subst WellSorted e1 (sorted-at X a))
+        (rest-sorted B p sortedB) (h .well)
+
     pub changed-sound : (X : Behaviour) → Reaches p X B → (F2 : Forest Value) (p2 : Progresses) → Change B (S .tree) p X F2 p2 → (l : List Queued)
         → length l ≤ 4
         → AllQueued N rows q l → SessionSound N rows q n (withQueue (withProgress (withTree S F2) p2) l)
     changed-sound X a F2 p2 c l few ql =
-        let act = row-active p p2 X B a onceB (c .off) in
-        let act2 = subst (λ (z : Behaviour). Active z (rest p2 X) (rest p B) (rest p2 B)) (c .isBefore) act in
         record {
           what = B;
           runs = h .runs;
@@ -221,8 +230,7 @@ module _ (N : Network) (rows : ℕ) (acc : Accepted N rows) where
           opened = open-change p p2 X B onceB a (c .undoneBefore) (c .off) (c .opens) (h .opened);
           replies = c .replies;
           good = c .good;
-          well = reduction q (c .leaf) (subst (λ (z : Behaviour). Active (c .before) z (rest p B) (rest p2 B)) (c .isAfter) act2) (h .good)
-              (subst WellSorted (c .isBefore) (sorted-at X a)) (rest-sorted B p sortedB) (h .well);
+          well = changed-well X a F2 p2 (c .off) (c .before) (c .after) (c .isBefore) (c .isAfter) (c .leaf);
           few = few;
           queued = ql;
         }
@@ -234,14 +242,15 @@ module _ (N : Network) (rows : ℕ) (acc : Accepted N rows) where
         (h .well .rising) (h .well .typed) in
         (u .mid, u .part)
 
-    -- Its tree is within the limits.
+    -- A tree from which what is left is typed is within the limits.
+    well-limit : (F : Forest Value) (p2 : Progresses) → Rising F → Well q F (rest p2 B) (h .last) → T (within F)
+    well-limit F p2 w k =
+        let Γ = k .env in
+        let t = within-before q (rest p2 B) Γ (h .last) (rest-sorted B p2 sortedB) (k .typed) (h .limit) in
+        within-smaller F Γ (tree-within (_+_) sums F Γ w (k .rising) (k .fit)) (tree-within max maxima F Γ w (k .rising) (k .fit)) t
+
     pub tree-limit : T (within (S .tree))
-    tree-limit =
-        let F = S .tree in
-        let Γ = h .well .env in
-        let t = within-before q (rest p B) Γ (h .last) (rest-sorted B p sortedB) (h .well .typed) (h .limit) in
-        within-smaller F Γ (tree-within (_+_) sums F Γ (h .good .0) (h .well .rising) (h .well .fit))
-        (tree-within max maxima F Γ (h .good .0) (h .well .rising) (h .well .fit)) t
+    tree-limit = well-limit (S .tree) p (h .good .0) (h .well)
 
     -- A step that advances the row r of X to s.
     advanced : (X : Behaviour) (r : ℕ) (s : Progress) (F2 : Forest Value) → ((i : ℕ) → T (eqb i r) → T (hasRow i X)) → (T (isDone p X) → ⊥)
@@ -266,29 +275,35 @@ module _ (N : Network) (rows : ℕ) (acc : Accepted N rows) where
           leaf = lf;
         }
 
-    -- Local: assign.
+    -- Local: assign. Of a value that is beyond, the tree with one of its basic type is within the limits, and so with any.
     pub assign-sound : (r : ℕ) (x : Path) (e : Expression) → Reaches p (assign r x e) B → p r ≡ undone
-        → (y : Tree Value) × (evaluate (S .tree) e ≡ given y) × SessionSound N rows q n
-        (withProgress (withTree S (setPayloadAt voidValue x (rootValue y) (S .tree))) (advance p r done))
+        → GivesBy (evaluate (S .tree) e) (λ b. T (within (setPayloadAt voidValue x voidValue (S .tree))))
+        (λ y. SessionSound N rows q n (withProgress (withTree S (setPayloadAt voidValue x (rootValue y) (S .tree))) (advance p r done)))
     unfolding Typed MadeOf isDone hasRow rest Clean suits
     assign-sound r x e a t =
         let X = assign r x e in
+        let F = S .tree in
+        let p2 = advance p r done in
         let m = made-at N rows a madeB in
         let u = row-typed X a in
-        let k : Typed q X (h .well .env) (u .0) = subst (λ (z : Behaviour). Typed q z (h .well .env) (u .0))
-        (ap (λ (s : Progress). unlessDone s X (nil r)) t) (u .1) in
-        let g = progress (S .tree) (h .well .env) (h .good) (h .well .fit) e (m .2) (k .0) (k .1) in
-        let F2 = setPayloadAt voidValue x (rootValue (g .what)) (S .tree) in (
-          g .what,
-          g .there,
-          changed-sound X a F2 (advance p r done)
-              (advanced X r done F2 (λ i z. z) (λ d. undone-not-done (p r) t d) (λ i z w. z) (λ z. absurd z) (λ to z. absurd (done-received z)) tt
-              (subst (λ (s : Progress). T (undoneOrDone s)) (sym (advance-here p r done)) tt)
-              (payload-set-good x (rootValue (g .what)) (S .tree) (m .1) (root-proper (g .what) (g .good)) (h .good)) X (nil r)
-              (ap (λ (s : Progress). unlessDone s X (nil r)) t) (ap (λ (s : Progress). unlessDone s X (nil r)) (advance-here p r done))
-              (assigns (g .what) (m .2) (g .there)))
-              (S .queue) (h .few) (h .queued),
-        )
+        let e1 = ap (λ (s : Progress). unlessDone s X (nil r)) t in
+        let e2 = ap (λ (s : Progress). unlessDone s X (nil r)) (advance-here p r done) in
+        let k : Typed q X (h .well .env) (u .0) = subst (λ (z : Behaviour). Typed q z (h .well .env) (u .0)) e1 (u .1) in
+        gives-map (evaluate F e) (progress F (h .well .env) (h .good) (h .well .fit) e (m .2) (k .0) (k .1))
+        (λ b eb w.
+        let v = value b [] in
+        let F2 = setPayloadAt voidValue x v F in
+        subst T (within-payload voidValue x v voidValue F)
+        (well-limit F2 p2 (payload-rising voidValue x v F (h .good .0))
+        (changed-well X a F2 p2 (advance-off p r done X (λ i z. z)) X (nil r) e1 e2 (assigns v (beyond-basic F (h .good) e (m .2) b eb)))))
+        (λ y ey w.
+        let F2 = setPayloadAt voidValue x (rootValue y) F in
+        changed-sound X a F2 p2
+        (advanced X r done F2 (λ i z. z) (λ d. undone-not-done (p r) t d) (λ i z w. z) (λ z. absurd z) (λ to z. absurd (done-received z)) tt
+        (subst (λ (s : Progress). T (undoneOrDone s)) (sym (advance-here p r done)) tt)
+        (payload-set-good x (rootValue y) F (m .1) (root-proper y (w .1)) (h .good)) X (nil r) e1 e2
+        (assigns (rootValue y) (given-basic F (h .good) e (m .2) y ey)))
+        (S .queue) (h .few) (h .queued))
 
     -- Receive: one-way.
     pub oneWay-sound : (r : ℕ) (o : Operation) (x : Path) (m : Tree Value) → Reaches p (oneWay r o x) B → p r ≡ undone → GoodTree m → Fits m (o .request)
@@ -305,20 +320,16 @@ module _ (N : Network) (rows : ℕ) (acc : Accepted N rows) where
         (ap (λ (s : Progress). unlessDone s X (nil r)) t) (ap (λ (s : Progress). unlessDone s X (nil r)) (advance-here p r done)) (receivesOne m f))
         l few ql
 
-    -- Send: notification. What is sent is there and fits.
+    -- Send: notification. What is sent is there and fits, or is beyond.
     pub notification-sound : (r : ℕ) (o : Operation) (e : Expression) → Reaches p (notification r o e) B → p r ≡ undone
-        → (y : Tree Value) × (evaluate (S .tree) e ≡ given y) × Fits y (o .request) × GoodTree y × SessionSound N rows q n (withProgress S (advance p r done))
+        → GivesMessage (evaluate (S .tree) e) (o .request) × SessionSound N rows q n (withProgress S (advance p r done))
     unfolding Typed MadeOf isDone hasRow rest Clean suits
     notification-sound r o e a t =
         let X = notification r o e in
         let u = row-typed X a in
         let k : Typed q X (h .well .env) (u .0) = subst (λ (z : Behaviour). Typed q z (h .well .env) (u .0))
-        (ap (λ (s : Progress). unlessDone s X (nil r)) t) (u .1) in
-        let g = send-gives q (S .tree) (h .well .env) e (o .request) (h .good) (made-at N rows a madeB .2) (h .well .fit) (k .1) in (
-          g .0,
-          g .1,
-          g .2,
-          g .3,
+        (ap (λ (s : Progress). unlessDone s X (nil r)) t) (u .1) in (
+          send-gives q (S .tree) (h .well .env) e (o .request) (h .good) (made-at N rows a madeB .2) (h .well .fit) (k .1),
           changed-sound X a (S .tree) (advance p r done)
               (advanced X r done (S .tree) (λ i z. z) (λ d. undone-not-done (p r) t d) (λ i z w. z) (λ z. absurd z) (λ to z. absurd (done-received z)) tt
               (subst (λ (s : Progress). T (undoneOrDone s)) (sym (advance-here p r done)) tt) (h .good) X (nil r)
@@ -328,18 +339,14 @@ module _ (N : Network) (rows : ℕ) (acc : Accepted N rows) where
 
     -- Send: solicit-response, which then waits.
     pub solicit-sound : (r : ℕ) (o : Operation) (e : Expression) (x : Path) → Reaches p (solicitResponse r o e x) B → p r ≡ undone
-        → (y : Tree Value) × (evaluate (S .tree) e ≡ given y) × Fits y (o .request) × GoodTree y × SessionSound N rows q n (withProgress S (advance p r waits))
+        → GivesMessage (evaluate (S .tree) e) (o .request) × SessionSound N rows q n (withProgress S (advance p r waits))
     unfolding Typed MadeOf isDone hasRow rest Clean suits
     solicit-sound r o e x a t =
         let X = solicitResponse r o e x in
         let u = row-typed X a in
         let e1 = ap (λ (s : Progress). unlessDone s (unlessWaits s X (waiting r o x)) (nil r)) t in
-        let k : Typed q X (h .well .env) (u .0) = subst (λ (z : Behaviour). Typed q z (h .well .env) (u .0)) e1 (u .1) in
-        let g = send-gives q (S .tree) (h .well .env) e (o .request) (h .good) (made-at N rows a madeB .2) (h .well .fit) (k .1) in (
-          g .0,
-          g .1,
-          g .2,
-          g .3,
+        let k : Typed q X (h .well .env) (u .0) = subst (λ (z : Behaviour). Typed q z (h .well .env) (u .0)) e1 (u .1) in (
+          send-gives q (S .tree) (h .well .env) e (o .request) (h .good) (made-at N rows a madeB .2) (h .well .fit) (k .1),
           changed-sound X a (S .tree) (advance p r waits)
               (advanced X r waits (S .tree) (λ i z. z) (λ d. undone-not-done (p r) t d) (λ i z w. z) (λ z. asking) (λ to z. absurd (waits-received z)) tt
               (subst (λ (s : Progress). T (undoneDoneOrWaits s)) (sym (advance-here p r waits)) tt) (h .good) X (waiting r o x) e1
@@ -394,7 +401,7 @@ module _ (N : Network) (rows : ℕ) (acc : Accepted N rows) where
     -- Reply: what is answered is there, and fits.
     pub answer-sound : (r : ℕ) (o : Operation) (x c : Path) (d : Behaviour) (to : Destination) → Reaches p (requestResponse r o x c d) B → p r ≡ received to
         → T (isDone p d)
-        → (y : Tree Value) × (read c (S .tree) ≡ present y) × Fits y (o .reply) × GoodTree y × SessionSound N rows q n (withProgress S (advance p r done))
+        → GivesReply (read c (S .tree)) (o .reply) × SessionSound N rows q n (withProgress S (advance p r done))
     unfolding Typed MadeOf isDone hasRow rest Clean suits EachRowOnce
     answer-sound r o x c d to a t dn =
         let X = requestResponse r o x c d in
@@ -409,10 +416,7 @@ module _ (N : Network) (rows : ℕ) (acc : Accepted N rows) where
         let cx = clean-at a (h .clean) in
         let same = advance-below p r done d (od .0) in
         let sx = of-two N rows (undoneDoneOrReceived N rows (p r)) (suits N rows p d) (suits-at N rows a onceB (h .suit)) in (
-          g .0,
-          g .1,
-          g .2,
-          g .3,
+          g,
           changed-sound X a (S .tree) p2
               (advanced X r done (S .tree) (λ i z. in-own i r (hasRow i d) z) (λ z. subst (λ (s : Progress). T (unlessDone s false true)) t z)
               (λ i z w. let v = open-below p X B i onceB a (h .opened) z w in quiet-served p (v .1) w dn (v .2)) (λ z. absurd z)
@@ -454,7 +458,7 @@ module _ (N : Network) (rows : ℕ) (acc : Accepted N rows) where
         (S .queue) (h .few) (h .queued)
 
     pub if-sound : (r : ℕ) (e : Expression) (x y : Behaviour) → Reaches p (ifThenElse r e x y) B → p r ≡ undone
-        → (v : Tree Value) × (evaluate (S .tree) e ≡ given v) × (basicOf (rootValue v) ≡ bool)
+        → GivesBool (evaluate (S .tree) e)
         × SessionSound N rows q n (withProgress S (advance p r (taken 0))) × SessionSound N rows q n (withProgress S (advance p r (taken 1)))
     unfolding Typed MadeOf rest EachRowOnce
     if-sound r e x y a t =
@@ -464,9 +468,7 @@ module _ (N : Network) (rows : ℕ) (acc : Accepted N rows) where
         let k : Typed q X (h .well .env) (u .0) = subst (λ (z : Behaviour). Typed q z (h .well .env) (u .0)) e1 (u .1) in
         let g = condition-gives q (S .tree) (h .well .env) e (h .good) (made-at N rows a madeB .1) (h .well .fit) (k .0) in
         let od = once-at a onceB in (
-          g .0,
-          g .1,
-          g .2,
+          g,
           if-taken r e x y a t 0 x tt (λ p2 s fx fy. rest-then p2 r e x y s ∙ rest-fresh x p2 fx) takesThen,
           if-taken r e x y a t 1 y tt (λ p2 s fx fy. rest-else p2 r e x y 0 s ∙ rest-fresh y p2 fy) takesElse,
         )
@@ -521,7 +523,7 @@ module _ (N : Network) (rows : ℕ) (acc : Accepted N rows) where
         )
 
     pub while-sound : (r : ℕ) (e : Expression) (b : Behaviour) → Reaches p (whileDo r e b) B → p r ≡ undone
-        → (v : Tree Value) × (evaluate (S .tree) e ≡ given v) × (basicOf (rootValue v) ≡ bool)
+        → GivesBool (evaluate (S .tree) e)
         × SessionSound N rows q n (withProgress S (advance (reopen p b) r (taken 0))) × SessionSound N rows q n (withProgress S (advance p r done))
     unfolding Typed MadeOf rest isDone
     while-sound r e b a t =
@@ -532,10 +534,10 @@ module _ (N : Network) (rows : ℕ) (acc : Accepted N rows) where
         let g = condition-gives q (S .tree) (h .well .env) e (h .good) (made-at N rows a madeB .1) (h .well .fit) (k .0) in
         let w = while-both r e b a (λ z. undone-not-done (p r) t z)
         (λ i z o. let v = open-below p X B i onceB a (h .opened) z o in absurd (quiet-first p (v .1) t (v .2))) X e1 enters leaves in
-        (g .0, g .1, g .2, w .0, w .1)
+        (g, w .0, w .1)
 
     pub again-sound : (r : ℕ) (e : Expression) (b : Behaviour) (j : ℕ) → Reaches p (whileDo r e b) B → p r ≡ taken j → T (isDone p b)
-        → (v : Tree Value) × (evaluate (S .tree) e ≡ given v) × (basicOf (rootValue v) ≡ bool)
+        → GivesBool (evaluate (S .tree) e)
         × SessionSound N rows q n (withProgress S (advance (reopen p b) r (taken 0))) × SessionSound N rows q n (withProgress S (advance p r done))
     unfolding Typed MadeOf isDone
     again-sound r e b j a t dn =
@@ -550,7 +552,7 @@ module _ (N : Network) (rows : ℕ) (acc : Accepted N rows) where
         let w = while-both r e b a (λ z. subst (λ (s : Progress). T (unlessDone s false true)) t z)
         (λ i z o. let v = open-below p X B i onceB a (h .opened) z o in absurd (quiet-while p (v .1) o dn (v .2))) (sequence r (rest p b) X) e1
         (reenters fd) (ends fd) in
-        (g .0, g .1, g .2, w .0, w .1)
+        (g, w .0, w .1)
 
     -- A choice settled for its branch k, whose input then receives.
     pub select-sound : (c k : ℕ) (m : Branches) → Reaches p (choice c m) B → p c ≡ undone → T (ltb k (branches m))

@@ -3,3 +3,4 @@ pub mod Compare
 pub mod Forest
 pub mod ForestLaws
 pub mod Path
+pub mod PathLaws

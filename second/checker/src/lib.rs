@@ -20,7 +20,7 @@ pub use refusal::{Cause, Refusal};
 pub use report::report;
 pub use tables::Tables;
 pub use typing::ServiceEnvironments;
-pub use value::{Basic, Value};
+pub use value::{Basic, Value, Worked};
 
 /// The whole checker: refusals 2 to 13, or each service's environments in row order.
 pub fn check(file: &[u8]) -> Result<Vec<ServiceEnvironments>, Refusal> {

@@ -47,6 +47,18 @@ pub enum Expression {
     And(usize, usize),
 }
 
+impl Expression {
+    /// The rows of an operator's operands; the others have none.
+    pub fn operands(&self) -> Vec<usize> {
+        use Expression::*;
+        match *self {
+            Constant(..) | Path(_) | Present(_) => Vec::new(),
+            Not(a) | Negate(a) => vec![a],
+            Add(a, b) | Subtract(a, b) | Less(a, b) | Equal(a, b) | And(a, b) => vec![a, b],
+        }
+    }
+}
+
 /// A behaviour; sub-behaviours are later rows.
 #[derive(Clone, PartialEq, Eq, Debug)]
 pub enum Behaviour {

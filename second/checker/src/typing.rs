@@ -308,32 +308,25 @@ impl<'a> Expressions<'a> {
                 Lookup::Missing => return Err(Cause::PresenceMissing),
                 Lookup::Found { .. } => Basic::Bool,
             },
-            Not(a) => match self.root_value(a)? {
-                Basic::Bool => Basic::Bool,
-                _ => return Err(Cause::Operand),
-            },
-            Negate(a) => match self.root_value(a)? {
-                number if number.is_number() => number,
-                _ => return Err(Cause::Operand),
-            },
-            Add(a, b) | Subtract(a, b) => match (self.root_value(a)?, self.root_value(b)?) {
-                (left, right) if left == right && left.is_number() => left,
-                _ => return Err(Cause::Operand),
-            },
-            Less(a, b) => match (self.root_value(a)?, self.root_value(b)?) {
-                (left, right) if left == right && left.is_number() => Basic::Bool,
-                _ => return Err(Cause::Operand),
-            },
-            Equal(a, b) => match (self.root_value(a)?, self.root_value(b)?) {
-                (left, right) if left == right && left != Basic::Void => Basic::Bool,
-                _ => return Err(Cause::Operand),
-            },
-            And(a, b) => match (self.root_value(a)?, self.root_value(b)?) {
-                (Basic::Bool, Basic::Bool) => Basic::Bool,
-                _ => return Err(Cause::Operand),
-            },
+            ref operator => {
+                let operands = operator.operands().into_iter().map(|row| self.root_value(row));
+                result(operator, &operands.collect::<Result<Vec<_>, _>>()?).ok_or(Cause::Operand)?
+            }
         };
         Ok(Typed::Leaf(basic))
+    }
+}
+
+/// An operator's rule: the basic type that it gives for those of its operands; None for wrong ones.
+pub fn result(operator: &Expression, operands: &[Basic]) -> Option<Basic> {
+    use Expression::*;
+    match (operator, operands) {
+        (Not(_), [Basic::Bool]) | (And(..), [Basic::Bool, Basic::Bool]) => Some(Basic::Bool),
+        (Negate(_), [number]) if number.is_number() => Some(*number),
+        (Add(..) | Subtract(..), [left, right]) if left == right && left.is_number() => Some(*left),
+        (Less(..), [left, right]) if left == right && left.is_number() => Some(Basic::Bool),
+        (Equal(..), [left, right]) if left == right && *left != Basic::Void => Some(Basic::Bool),
+        _ => None,
     }
 }
 

@@ -74,6 +74,44 @@ pub enum Value {
     Void,
 }
 
+/// What an expression is worked out to.
+#[derive(Clone, PartialEq, Debug)]
+pub enum Worked {
+    Value(Value),
+    /// An int or long sum outside its width is in it: only the basic type is known.
+    Beyond(Basic),
+}
+
+impl Worked {
+    pub fn basic(&self) -> Basic {
+        match self {
+            Worked::Value(value) => value.basic(),
+            Worked::Beyond(basic) => *basic,
+        }
+    }
+
+    pub fn value(&self) -> Option<&Value> {
+        match self {
+            Worked::Value(value) => Some(value),
+            Worked::Beyond(_) => None,
+        }
+    }
+
+    /// The exact result as an int, if that holds it.
+    fn int(result: Option<i32>) -> Worked {
+        result.map_or(Worked::Beyond(Basic::Int), |number| Worked::Value(Value::Int(number)))
+    }
+
+    fn long(result: Option<i64>) -> Worked {
+        result.map_or(Worked::Beyond(Basic::Long), |number| Worked::Value(Value::Long(number)))
+    }
+
+    /// A double is never outside its range.
+    fn double(result: f64) -> Worked {
+        Worked::Value(Value::Double(canonical(result)))
+    }
+}
+
 /// The double of a result: every NaN is the one NaN.
 fn canonical(number: f64) -> f64 {
     if number.is_nan() {
@@ -139,29 +177,29 @@ impl Value {
     }
 
     /// Flips a double's sign, of 0 too; a NaN stays.
-    pub fn negate(&self) -> Option<Value> {
+    pub fn negate(&self) -> Option<Worked> {
         match self {
-            Value::Int(number) => Some(Value::Int(number.wrapping_neg())),
-            Value::Long(number) => Some(Value::Long(number.wrapping_neg())),
-            Value::Double(number) => Some(Value::Double(canonical(-number))),
+            Value::Int(number) => Some(Worked::int(number.checked_neg())),
+            Value::Long(number) => Some(Worked::long(number.checked_neg())),
+            Value::Double(number) => Some(Worked::double(-number)),
             _ => None,
         }
     }
 
-    pub fn add(&self, other: &Value) -> Option<Value> {
+    pub fn add(&self, other: &Value) -> Option<Worked> {
         match (self, other) {
-            (Value::Int(left), Value::Int(right)) => Some(Value::Int(left.wrapping_add(*right))),
-            (Value::Long(left), Value::Long(right)) => Some(Value::Long(left.wrapping_add(*right))),
-            (Value::Double(left), Value::Double(right)) => Some(Value::Double(canonical(left + right))),
+            (Value::Int(left), Value::Int(right)) => Some(Worked::int(left.checked_add(*right))),
+            (Value::Long(left), Value::Long(right)) => Some(Worked::long(left.checked_add(*right))),
+            (Value::Double(left), Value::Double(right)) => Some(Worked::double(left + right)),
             _ => None,
         }
     }
 
-    pub fn subtract(&self, other: &Value) -> Option<Value> {
+    pub fn subtract(&self, other: &Value) -> Option<Worked> {
         match (self, other) {
-            (Value::Int(left), Value::Int(right)) => Some(Value::Int(left.wrapping_sub(*right))),
-            (Value::Long(left), Value::Long(right)) => Some(Value::Long(left.wrapping_sub(*right))),
-            (Value::Double(left), Value::Double(right)) => Some(Value::Double(canonical(left - right))),
+            (Value::Int(left), Value::Int(right)) => Some(Worked::int(left.checked_sub(*right))),
+            (Value::Long(left), Value::Long(right)) => Some(Worked::long(left.checked_sub(*right))),
+            (Value::Double(left), Value::Double(right)) => Some(Worked::double(left - right)),
             _ => None,
         }
     }
@@ -219,38 +257,82 @@ mod tests {
         assert!(Basic::Long.holds(&(NAN_BITS | 1).to_le_bytes()));
     }
 
-    #[test]
-    fn case_h_int_arithmetic_wraps() {
-        assert_eq!(Value::Int(i32::MAX).add(&Value::Int(1)), Some(Value::Int(i32::MIN)));
-        assert_eq!(Value::Int(i32::MIN).negate(), Some(Value::Int(i32::MIN)));
-        assert_eq!(Value::Int(i32::MIN).subtract(&Value::Int(1)), Some(Value::Int(i32::MAX)));
-        assert_eq!(Value::Long(i64::MAX).add(&Value::Long(1)), Some(Value::Long(i64::MIN)));
-        assert_eq!(Value::Long(i64::MIN).negate(), Some(Value::Long(i64::MIN)));
-        assert_eq!(Value::Long(i64::MIN).subtract(&Value::Long(1)), Some(Value::Long(i64::MAX)));
+    fn beyond(basic: Basic) -> Option<Worked> {
+        Some(Worked::Beyond(basic))
     }
 
-    fn bits(value: Option<Value>) -> u64 {
-        match value {
-            Some(Value::Double(number)) => number.to_bits(),
+    #[test]
+    fn case_h_two_results_are_outside_int() {
+        assert_eq!(Value::Int(2_147_483_647).add(&Value::Int(1)), beyond(Basic::Int));
+        assert_eq!(Value::Int(-2_147_483_648).negate(), beyond(Basic::Int));
+    }
+
+    /// Every pair of values near an end or 0, against the exact result.
+    #[test]
+    fn sums_are_exact_up_to_both_ends() {
+        for a in near([i32::MIN.into(), 0, i32::MAX.into()]) {
+            for b in near([i32::MIN.into(), 0, i32::MAX.into()]) {
+                let int = |number: i128| i32::try_from(number).map_or(Worked::Beyond(Basic::Int), int);
+                let (left, right) = (Value::Int(a as i32), Value::Int(b as i32));
+                assert_eq!(left.add(&right), Some(int(a + b)), "{a} + {b}");
+                assert_eq!(left.subtract(&right), Some(int(a - b)), "{a} - {b}");
+                assert_eq!(left.negate(), Some(int(-a)), "-{a}");
+            }
+        }
+        for a in near([i64::MIN.into(), 0, i64::MAX.into()]) {
+            for b in near([i64::MIN.into(), 0, i64::MAX.into()]) {
+                let long = |number: i128| i64::try_from(number).map_or(Worked::Beyond(Basic::Long), long);
+                let (left, right) = (Value::Long(a as i64), Value::Long(b as i64));
+                assert_eq!(left.add(&right), Some(long(a + b)), "{a} + {b}");
+                assert_eq!(left.subtract(&right), Some(long(a - b)), "{a} - {b}");
+                assert_eq!(left.negate(), Some(long(-a)), "-{a}");
+            }
+        }
+    }
+
+    /// The numbers up to three from each of a range's ends and its middle, inside the range.
+    fn near([low, middle, high]: [i128; 3]) -> Vec<i128> {
+        let around = [low, middle, high].into_iter().flat_map(|number| number - 3..=number + 3);
+        around.filter(|number| (low..=high).contains(number)).collect()
+    }
+
+    fn int(number: i32) -> Worked {
+        Worked::Value(Value::Int(number))
+    }
+
+    fn long(number: i64) -> Worked {
+        Worked::Value(Value::Long(number))
+    }
+
+    #[test]
+    fn doubles_have_no_end() {
+        let most = Value::Double(f64::MAX);
+        assert_eq!(most.add(&most), Some(Worked::Value(Value::Double(f64::INFINITY))));
+        assert_eq!(most.negate().and_then(|least| least.value()?.subtract(&most)).map(bits), Some(0xFFF0 << 48));
+    }
+
+    fn bits(worked: Worked) -> u64 {
+        match worked {
+            Worked::Value(Value::Double(number)) => number.to_bits(),
             other => panic!("{other:?} is no double"),
         }
     }
 
     #[test]
     fn case_i_a_double_sum_is_rounded_once() {
-        assert_eq!(bits(Value::Double(0.1).add(&Value::Double(0.2))), 0x3FD3_3333_3333_3334);
+        assert_eq!(Value::Double(0.1).add(&Value::Double(0.2)).map(bits), Some(0x3FD3_3333_3333_3334));
     }
 
     #[test]
     fn every_nan_is_the_one_nan() {
         let infinity = Value::Double(f64::INFINITY);
-        assert_eq!(bits(infinity.subtract(&infinity)), NAN_BITS);
+        assert_eq!(infinity.subtract(&infinity).map(bits), Some(NAN_BITS));
         let nan = Value::Double(f64::from_bits(NAN_BITS));
-        assert_eq!(bits(nan.negate()), NAN_BITS);
-        assert_eq!(bits(nan.add(&Value::Double(1.0))), NAN_BITS);
+        assert_eq!(nan.negate().map(bits), Some(NAN_BITS));
+        assert_eq!(nan.add(&Value::Double(1.0)).map(bits), Some(NAN_BITS));
         assert_eq!(nan.equal(&nan), Some(Value::Bool(false)));
         assert_eq!(nan.less(&nan), Some(Value::Bool(false)));
-        assert_eq!(bits(Value::Double(0.0).negate()), 1 << 63);
+        assert_eq!(Value::Double(0.0).negate().map(bits), Some(1 << 63));
         assert_eq!(Value::Double(0.0).equal(&Value::Double(-0.0)), Some(Value::Bool(true)));
     }
 

@@ -4,11 +4,12 @@ use generate::walks::choose::Candidates;
 use generate::walks::{outside, Call};
 use generate::Random;
 use second::network::{Behaviour, Network};
+use second::{Basic, Value};
 use stepper::decode::decode;
 use stepper::encode::encode;
 use stepper::rows::Rows;
 use stepper::state::{Progress, Session};
-use stepper::{Event, Move, State};
+use stepper::{Event, Move, State, Tree};
 
 pub struct Case {
     pub name: &'static str,
@@ -56,7 +57,11 @@ fn found(file: &[u8], mut state: Vec<u8>, sends: bool, events: &[Event]) -> Opti
     for _ in 0..PATIENCE {
         let decoded = decode(&network, &state).ok()?;
         let candidate = Candidates::of(&network, &decoded).pick(&mut random)?;
-        let outside = candidate.type_row.map_or(Vec::new(), |row| outside::fitting(&mut random, &network, row).bytes());
+        let outside = candidate.type_row.map_or(Vec::new(), |row| {
+            let mut message = outside::fitting(&mut random, &network, row);
+            calm(&mut message);
+            message.bytes()
+        });
         let mut after = state.clone();
         let result = stepper::step(file, &mut after, &mut [0; 512], &candidate.named, &outside);
         let is_send = matches!(candidate.named, Move::Send { .. });
@@ -67,6 +72,16 @@ fn found(file: &[u8], mut state: Vec<u8>, sends: bool, events: &[Event]) -> Opti
         state = after;
     }
     None
+}
+
+/// Makes ints and longs 1, so that no sum leaves its range.
+fn calm(tree: &mut Tree) {
+    match tree.basic {
+        Basic::Int => tree.value = Value::Int(1).bytes(),
+        Basic::Long => tree.value = Value::Long(1).bytes(),
+        _ => {}
+    }
+    tree.children.iter_mut().for_each(calm);
 }
 
 /// A state that no moves leave: starters' first sessions live with nothing received, and

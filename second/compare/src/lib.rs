@@ -6,6 +6,7 @@ pub mod itself;
 pub mod moves;
 #[cfg(feature = "proved")]
 pub mod proved;
+pub mod script;
 pub mod stack;
 pub mod texts;
 pub mod walks;

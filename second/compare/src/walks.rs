@@ -1,6 +1,6 @@
 //! Walks by both sides: fresh and each move, with the whole state and out buffer; and property 3.
 
-use generate::walks::{property, Call, Walk, WalkHits};
+use generate::walks::{meetings, property, Call, Walk, WalkHits};
 use generate::Random;
 use stepper::decode::decode;
 use stepper::{Made, Refused};
@@ -99,22 +99,21 @@ pub fn walk(random: &mut Random, hits: &mut WalkHits, other: &dyn Side) -> Resul
     for file in [generate::file(random), generate::file(random), generate::blunder(random)] {
         fresh(&file, if random.one_in(20) { random.below(70_000) } else { 65_536 }, hits, other)?;
     }
+    for _ in 0..4 {
+        let _ = compared(&meetings::call(random), hits, other)?;
+    }
     let mut walk = Walk::begin(random);
     fresh(&walk.file, 65_536, hits, other)?;
     let accepted = walk.from_fresh;
     for _ in 0..walk.moves {
         let call = walk.call(random);
-        if let Some(difference) = differing_step(&call, &Second, other) {
-            return Err(difference);
-        }
-        let (result, state) = second_step(&call)?;
-        hits.call(&call, &result);
+        let (result, state) = compared(&call, hits, other)?;
         hits.feature(!accepted, "a move on a file that 6 to 13 refuse");
         if walk.from_fresh && call.keeps {
-            hits.feature(true, "a move from fresh");
+            hits.from_fresh(&walk.network, &call.named, &result);
             let number = answer(result.map(|made| made.bytes)).number;
             let before = decode(&walk.network, &call.state).map_err(|wrong| format!("{}{wrong:?}", given(&call)))?;
-            if let Some(what) = property::broken(&walk.network, &before, &call.named, number) {
+            if let Some(what) = property::broken(&walk.network, &before, &call.named, call.out_size, number) {
                 return Err(format!("{}property 3: {what}\n", given(&call)));
             }
         }
@@ -128,6 +127,16 @@ pub fn walk(random: &mut Random, hits: &mut WalkHits, other: &dyn Side) -> Resul
         sweep(random, &walk)?;
     }
     Ok(walk.moves)
+}
+
+/// A move by both sides, counted: the library's result and the state after it.
+fn compared(call: &Call, hits: &mut WalkHits, other: &dyn Side) -> Result<(Result<Made, Refused>, Vec<u8>), String> {
+    if let Some(difference) = differing_step(call, &Second, other) {
+        return Err(difference);
+    }
+    let (result, state) = second_step(call)?;
+    hits.call(call, &result);
+    Ok((result, state))
 }
 
 fn fresh(file: &[u8], size: usize, hits: &mut WalkHits, other: &dyn Side) -> Result<(), String> {

@@ -2,7 +2,7 @@
 
 use generate::damage;
 use generate::walks::choose::any_move;
-use generate::walks::{property, Walk, WalkHits};
+use generate::walks::{meetings, property, Walk, WalkHits};
 use generate::Random;
 use stepper::decode::decode;
 
@@ -14,6 +14,11 @@ fn everything_is_hit() {
         for file in [generate::file(&mut random), generate::blunder(&mut random)] {
             let mut state = vec![0; if random.one_in(20) { random.below(70_000) } else { 65_536 }];
             hits.fresh(stepper::fresh(&file, &mut state).map_or_else(|refused| refused.number.into(), |()| 0));
+        }
+        for _ in 0..2 {
+            let call = meetings::call(&mut random);
+            let mut out = vec![0; call.out_size];
+            hits.call(&call, &stepper::step(&call.file, &mut call.state.clone(), &mut out, &call.named, &[]));
         }
         walk(&mut random, &mut hits);
     }
@@ -31,10 +36,11 @@ fn walk(random: &mut Random, hits: &mut WalkHits) {
         hits.call(&call, &result);
         hits.feature(!accepted, "a move on a file that 6 to 13 refuse");
         if walk.from_fresh && call.keeps {
-            hits.feature(true, "a move from fresh");
+            hits.from_fresh(&walk.network, &call.named, &result);
             let number = result.map_or_else(|refused| refused.number.into(), |_| 0);
             let before = decode(&walk.network, &call.state).expect("a state");
-            assert_eq!(property::broken(&walk.network, &before, &call.named, number), None, "{:?}", call.named);
+            let broken = property::broken(&walk.network, &before, &call.named, call.out_size, number);
+            assert_eq!(broken, None, "{:?}", call.named);
         }
         walk.made(&call, state);
     }
@@ -48,7 +54,7 @@ fn walk(random: &mut Random, hits: &mut WalkHits) {
 #[test]
 fn any_bytes_are_answered() {
     let mut random = Random::new(6);
-    let mut numbers = [0; 20];
+    let mut numbers = [0; 23];
     for _ in 0..4000 {
         let file = if random.one_in(3) { damage::odd_bytes(&mut random) } else { generate::file(&mut random) };
         let size = if random.one_in(10) { random.below(70_000) } else { 65_536 };

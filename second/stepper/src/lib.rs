@@ -50,7 +50,7 @@ pub fn fresh(file: &[u8], state: &mut [u8]) -> Result<(), Refused> {
     Ok(())
 }
 
-/// Refusals 1 to 5 and 14 to 19 in order; else the move is made.
+/// Refusals 1 to 5, 14 to 18, 22 and 19 in order; else the move is made.
 pub fn step(file: &[u8], state: &mut [u8], out: &mut [u8], named: &Move, outside: &[u8]) -> Result<Made, Refused> {
     if state.len() != STATE || out.len() < OUT {
         return Err(Reason::Buffers.into());

@@ -29,9 +29,11 @@ impl Stepping<'_> {
 
     fn assign(&mut self, at: At, path: usize, expression: usize) -> Result<Event, Refused> {
         let mut tree = self.session(at).tree.clone();
-        let value = evaluate::value(self.network, &tree, expression)?;
-        tree.assign(self.path(path), &value);
-        let tree = within(tree)?;
+        let worked = evaluate::worked(self.network, &tree, expression)?;
+        // The size (18) does not depend on the value, which may be outside its range (22).
+        tree.reach(self.path(path));
+        let mut tree = within(tree)?;
+        tree.assign(self.path(path), &evaluate::value(worked)?);
         let session = self.session_mut(at);
         session.tree = tree;
         session.progress[at.row] = Progress::Done;

@@ -101,7 +101,7 @@ impl<'a> Stepping<'a> {
         Stepping { network, rows: Rows::of(network), state, out: Vec::new() }
     }
 
-    /// Refusals 15 to 19. After a refusal the state here is of no use.
+    /// Refusals 15 to 19 and 22. After a refusal the state here is of no use.
     pub fn make(&mut self, named: &Move, outside: &[u8]) -> Result<Event, Refused> {
         match *named {
             Move::Local { service, session, row } => self.local(self.at(service, session, row)?),

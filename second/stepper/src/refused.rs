@@ -127,6 +127,8 @@ pub enum Reason {
     WrongKind,
     /// 18
     TreeSize,
+    /// 22, between 18 and 19: an int or long sum is outside its width.
+    Beyond,
     /// 19: a tree that fits no type, since it is no message.
     LargeMessage(Bound),
     /// 19
@@ -151,6 +153,7 @@ impl From<Reason> for Refused {
             Reason::QueueFull => 16,
             Reason::NoMessage => 17,
             Reason::Missing | Reason::WrongKind | Reason::TreeSize => 18,
+            Reason::Beyond => 22,
             Reason::LargeMessage(_) | Reason::Unfit(_) => 19,
         };
         Refused { number, place: 0, reason }

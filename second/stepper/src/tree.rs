@@ -121,7 +121,7 @@ impl Tree {
     }
 
     /// The node at a path; missing steps are made as void nodes.
-    fn reach(&mut self, path: &[u16]) -> &mut Tree {
+    pub fn reach(&mut self, path: &[u16]) -> &mut Tree {
         let Some((&id, below)) = path.split_first() else { return self };
         let at = match self.children.binary_search_by_key(&id, |child| child.id) {
             Ok(at) => at,

@@ -12,9 +12,10 @@ fn folder() -> PathBuf {
 /// Name, first line of the report, lines of the report, line and column of a refusal.
 type Verdict = (&'static str, &'static str, usize, Option<(usize, usize)>);
 
-const VERDICTS: [Verdict; 9] = [
+const VERDICTS: [Verdict; 10] = [
     ("assign", "accepted", 3, None),
     ("branches", "accepted", 5, None),
+    ("counter", "accepted", 9, None),
     ("flag_refused", "refused 7 3", 1, Some((18, 13))),
     ("hall", "accepted", 18, None),
     ("hall_refused", "refused 9 5", 1, Some((21, 53))),

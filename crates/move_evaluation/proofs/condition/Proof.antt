@@ -4,8 +4,9 @@ use Rattle.move_evaluation.proofs.condition.Statement.{statement}
 use Rattle.move_evaluation.proofs.condition.Tie as tie
 use Rattle.move_evaluation.proofs.condition.Reads as reads
 use Rattle.move_evaluation.proofs.condition.Lts as lts
-use Rattle.scalar.proofs.truth_of.Reads as truth-of-reads
 use Rattle.move_evaluation.proofs.decided.Reads as decided-reads
+use Rattle.move_evaluation.proofs.undecided.Reads as undecided-reads
+use Rattle.scalar.proofs.truth_of.Reads as truth-of-reads
 
 enum-told : tie.Need-enum-told
 enum-told c = search needs
@@ -31,6 +32,15 @@ enum-told-3 c = search needs
 enum-told-4 : tie.Need-enum-told-4
 enum-told-4 c = search needs
 
+enum-told-5 : tie.Need-enum-told-5
+enum-told-5 c = search needs
+
+truth-of-requires-3 : tie.Need-truth-of-requires-3
+truth-of-requires-3 c κs = search needs
+
+undecided-requires : tie.Need-undecided-requires
+undecided-requires c κs = search needs
+
 returns : tie.Need-returns
 returns c = search condition-laws depth 12
 
@@ -42,6 +52,9 @@ returns-3 c = search condition-laws depth 12
 
 returns-4 : tie.Need-returns-4
 returns-4 c = search condition-laws depth 12
+
+returns-5 : tie.Need-returns-5
+returns-5 c = search condition-laws depth 12
 
 pub condition-spec : {M : Type 1} → statement M
 condition-spec =
@@ -55,7 +68,11 @@ condition-spec =
     decided-requires-2
     enum-told-3
     enum-told-4
+    enum-told-5
+    truth-of-requires-3
+    undecided-requires
     returns
     returns-2
     returns-3
-    returns-4)
+    returns-4
+    returns-5)

@@ -25,6 +25,9 @@ enum-told-2 c = search needs
 enum-told-3 : tie.Need-enum-told-3
 enum-told-3 c = search needs
 
+enum-told-4 : tie.Need-enum-told-4
+enum-told-4 c = search needs
+
 same-length : tie.Need-same-length
 same-length c = search needs
 
@@ -43,6 +46,9 @@ returns-3 c = search source-laws depth 12
 returns-4 : tie.Need-returns-4
 returns-4 c = search source-laws depth 12
 
+returns-5 : tie.Need-returns-5
+returns-5 c = search source-laws depth 12
+
 pub write-value-spec : {M : Type 1} → statement M
 write-value-spec =
     tie.close
@@ -53,9 +59,11 @@ write-value-spec =
     write-leaf-requires
     enum-told-2
     enum-told-3
+    enum-told-4
     same-length
     returns
     same-length-2
     returns-2
     returns-3
-    returns-4)
+    returns-4
+    returns-5)

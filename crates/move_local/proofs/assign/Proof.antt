@@ -6,9 +6,10 @@ use Rattle.move_local.proofs.assign.Reads as reads
 use Rattle.move_local.proofs.assign.Lts as lts
 use Rattle.move_evaluation.proofs.evaluate.Reads as evaluate-reads
 use Rattle.move_local.proofs.assign_value.Reads as assign-value-reads
-use Rattle.state_progress.proofs.is_undone.Reads as is-undone-reads
 use Rattle.move_local.proofs.not_allowed.Reads as not-allowed-reads
+use Rattle.move_local.proofs.refuse_value.Reads as refuse-value-reads
 use Rattle.refusal.proofs.refused.Reads as refused-reads
+use Rattle.state_progress.proofs.is_undone.Reads as is-undone-reads
 use Rattle.state_slots.proofs.tree_of.Reads as tree-of-reads
 
 is-undone-requires : tie.Need-is-undone-requires
@@ -53,6 +54,12 @@ enum-told-4 c = search needs
 refused-requires-2 : tie.Need-refused-requires-2
 refused-requires-2 c κs = search needs
 
+enum-told-5 : tie.Need-enum-told-5
+enum-told-5 c = search needs
+
+refuse-value-requires : tie.Need-refuse-value-requires
+refuse-value-requires c κs = search needs
+
 same-length-2 : tie.Need-same-length-2
 same-length-2 c = search needs
 
@@ -77,6 +84,12 @@ same-length-5 c = search needs
 returns-5 : tie.Need-returns-5
 returns-5 c = search (assign-laws, needs) depth 12
 
+same-length-6 : tie.Need-same-length-6
+same-length-6 c = search needs
+
+returns-6 : tie.Need-returns-6
+returns-6 c = search (assign-laws, needs) depth 12
+
 pub assign-spec : {M : Type 1} → statement M
 assign-spec =
     tie.close
@@ -95,6 +108,8 @@ assign-spec =
     refused-requires
     enum-told-4
     refused-requires-2
+    enum-told-5
+    refuse-value-requires
     same-length-2
     returns-2
     same-length-3
@@ -102,4 +117,6 @@ assign-spec =
     same-length-4
     returns-4
     same-length-5
-    returns-5)
+    returns-5
+    same-length-6
+    returns-6)

@@ -5,10 +5,10 @@ use Rattle.move_local.proofs.decide.Tie as tie
 use Rattle.move_local.proofs.decide.Reads as reads
 use Rattle.move_local.proofs.decide.Lts as lts
 use Rattle.move_local.proofs.condition_at.Reads as condition-at-reads
-use Rattle.state_progress.proofs.is_undone.Reads as is-undone-reads
 use Rattle.move_local.proofs.not_allowed.Reads as not-allowed-reads
 use Rattle.move_local.proofs.settle.Reads as settle-reads
 use Rattle.refusal.proofs.refused.Reads as refused-reads
+use Rattle.state_progress.proofs.is_undone.Reads as is-undone-reads
 
 is-undone-requires : tie.Need-is-undone-requires
 is-undone-requires c κs = search needs
@@ -49,6 +49,12 @@ enum-told-4 c = search needs
 refused-requires-2 : tie.Need-refused-requires-2
 refused-requires-2 c κs = search needs
 
+enum-told-5 : tie.Need-enum-told-5
+enum-told-5 c = search needs
+
+refused-requires-3 : tie.Need-refused-requires-3
+refused-requires-3 c κs = search needs
+
 same-length-2 : tie.Need-same-length-2
 same-length-2 c = search needs
 
@@ -73,6 +79,12 @@ same-length-5 c = search needs
 returns-5 : tie.Need-returns-5
 returns-5 c = search (if-laws, needs) depth 12
 
+same-length-6 : tie.Need-same-length-6
+same-length-6 c = search needs
+
+returns-6 : tie.Need-returns-6
+returns-6 c = search (if-laws, needs) depth 12
+
 pub decide-spec : {M : Type 1} → statement M
 decide-spec =
     tie.close
@@ -90,6 +102,8 @@ decide-spec =
     refused-requires
     enum-told-4
     refused-requires-2
+    enum-told-5
+    refused-requires-3
     same-length-2
     returns-2
     same-length-3
@@ -97,4 +111,6 @@ decide-spec =
     same-length-4
     returns-4
     same-length-5
-    returns-5)
+    returns-5
+    same-length-6
+    returns-6)

@@ -50,6 +50,12 @@ enum-told-4 c = search needs
 refused-requires-2 : tie.Need-refused-requires-2
 refused-requires-2 c κs = search needs
 
+enum-told-5 : tie.Need-enum-told-5
+enum-told-5 c = search needs
+
+refused-requires-3 : tie.Need-refused-requires-3
+refused-requires-3 c κs = search needs
+
 same-length-2 : tie.Need-same-length-2
 same-length-2 c = search needs
 
@@ -74,6 +80,12 @@ same-length-5 c = search needs
 returns-5 : tie.Need-returns-5
 returns-5 c = search (while-laws, needs) depth 12
 
+same-length-6 : tie.Need-same-length-6
+same-length-6 c = search needs
+
+returns-6 : tie.Need-returns-6
+returns-6 c = search (while-laws, needs) depth 12
+
 pub repeat-spec : {M : Type 1} → statement M
 repeat-spec =
     tie.close
@@ -91,6 +103,8 @@ repeat-spec =
     refused-requires
     enum-told-4
     refused-requires-2
+    enum-told-5
+    refused-requires-3
     same-length-2
     returns-2
     same-length-3
@@ -98,4 +112,6 @@ repeat-spec =
     same-length-4
     returns-4
     same-length-5
-    returns-5)
+    returns-5
+    same-length-6
+    returns-6)

@@ -11,7 +11,7 @@ slice-aggregate-append : tie.Need-slice-aggregate-append
 slice-aggregate-append c =
     let p1 = c .before .before .before .before .before .before .before .before in
     let p2 = p1 .before .before .before .before .before .before .before .before in
-    prefix-length (p2 .write-message .last .0) (p1 .before .before .before .before .before .n .given .0 .0) (message-inside (p2 .write-message .ensures) (p1 .before .before .before .before .before .n .given .1))
+    prefix-length (p2 .write-message .last .0) (p1 .before .before .before .before .before .w .given .0 .0) (message-inside (p2 .write-message .ensures) (p1 .before .before .before .before .before .w .given .1))
 
 append-requires : tie.Need-append-requires
 append-requires c κs =
@@ -19,7 +19,7 @@ append-requires c κs =
     let d2 = d1 .before .before in
     let p1 = d2 in
     let p2 = p1 .before .before .before .before .before .before .before .before in
-    let h = prefix-length (p2 .write-message .last .0) (p1 .before .before .before .before .before .n .given .0 .0) (message-inside (p2 .write-message .ensures) (p1 .before .before .before .before .before .n .given .1)) in
+    let h = prefix-length (p2 .write-message .last .0) (p1 .before .before .before .before .before .w .given .0 .0) (message-inside (p2 .write-message .ensures) (p1 .before .before .before .before .before .w .given .1)) in
     (omega (arith, h), omega (arith, h, d1 .if3 .left, p2 .before .before .before .before .if1 .left))
 
 returns-6 : tie.Need-returns-6
@@ -31,8 +31,8 @@ returns-6 c =
     let p3 = p2 .before .before .before .before .before .before .before .before in
     let a = p3 .before .before .before .before .args in
     outside-done (a .file .now) (a .state .now) (a .slot) (a .i) (a .o) (a .e) (a .to) (meaning (a .after)) (a .out .now) (p2 .before .before .before .before .before .before .before .if2 .left)
-    (p2 .before .before .before .before .write-message .ensures) (p2 .before .n .given .1) _ refl (p1 .before .before .before .before .before .before .before .request-type .ensures) (p1 .before .before .before .before .before .passes .ensures) (p1 .before .before .before .enum-told .given .1)
-    (prefix-length (p2 .before .before .before .before .write-message .last .0) (p2 .before .n .given .0 .0) (message-inside (p2 .before .before .before .before .write-message .ensures) (p2 .before .n .given .1))) (p3 .before .before .before .before .pre .1) (p1 .put-row .ensures) (d1 .append .ensures) (c .done .ensures)
+    (p2 .before .before .before .before .write-message .ensures) (p2 .before .w .given .1) _ refl (p1 .before .before .before .before .before .before .before .request-type .ensures) (p1 .before .before .before .before .before .passes .ensures) (p1 .before .before .before .enum-told .given .1)
+    (prefix-length (p2 .before .before .before .before .write-message .last .0) (p2 .before .w .given .0 .0) (message-inside (p2 .before .before .before .before .write-message .ensures) (p2 .before .w .given .1))) (p3 .before .before .before .before .pre .1) (p1 .put-row .ensures) (d1 .append .ensures) (c .done .ensures)
 
 pub send-outside-spec : {M : Type 1} → statement M
 send-outside-spec =

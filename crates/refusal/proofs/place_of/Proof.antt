@@ -89,6 +89,9 @@ enum-known-why-11 c = search needs
 enum-known-why-12 : tie.Need-enum-known-why-12
 enum-known-why-12 c = search needs
 
+enum-told-10 : tie.Need-enum-told-10
+enum-told-10 c = search needs
+
 returns : tie.Need-returns
 returns c = rw (c .before .why .given .1)
 
@@ -152,6 +155,9 @@ returns-20 c = rw (c .before .why11 .given .1)
 returns-21 : tie.Need-returns-21
 returns-21 c = rw (c .before .why12 .given .1)
 
+returns-22 : tie.Need-returns-22
+returns-22 c = rw (c .enum-told10 .given .1)
+
 pub place-of-spec : {M : Type 1} → statement M
 place-of-spec =
     tie.close
@@ -185,6 +191,7 @@ place-of-spec =
     enum-told-9
     enum-known-why-11
     enum-known-why-12
+    enum-told-10
     returns
     returns-2
     returns-3
@@ -205,4 +212,5 @@ place-of-spec =
     returns-18
     returns-19
     returns-20
-    returns-21)
+    returns-21
+    returns-22)

@@ -99,23 +99,33 @@ pub fn all() -> Vec<Case> {
     }
     cases.push(Case::nest("whiles_reopened".into(), &Nest::full(Level::While, Leaf::While), At::EveryRow));
     cases.extend(files::all().into_iter().map(|(name, tables)| Case::file(name, tables.write())));
-    cases.push(expression());
+    cases.push(expression("expression", |_| ()));
+    cases.push(expression("expression_outside", to_the_end));
     cases.push(full_slots());
     cases.push(Case::file("largest", maximal::tables().write()));
     cases
 }
 
-/// An expression of 128 leaves worked out by each move that can, in a tree of 48 nodes.
-fn expression() -> Case {
+/// Ints of a tree at the end of their range: no sum of two is within it.
+fn to_the_end(tree: &mut Tree) {
+    if tree.basic == Basic::Int {
+        tree.value = Value::Int(i32::MAX).bytes();
+    }
+    tree.children.iter_mut().for_each(to_the_end);
+}
+
+/// An expression of 128 leaves worked out by each move that can, in a tree of 48 nodes, changed.
+fn expression(name: &str, change: fn(&mut Tree)) -> Case {
     let file = files::expression().write();
     let network = Network::read(&file).expect("a file that passes 2 to 5");
     let mut tree = Tree::void(0);
     for length in 1..=3 {
         tree.replace(&[1, 20, 20][..length], &place::largest(&network, 0));
     }
+    change(&mut tree);
     let base = State::free(&network);
     let place = Place { file, network, service: 0, session: 0, tree, base };
-    Case { name: "expression".into(), file: place.file.clone(), places: vec![(place, At::EveryRow)], calls: Vec::new() }
+    Case { name: name.into(), file: place.file.clone(), places: vec![(place, At::EveryRow)], calls: Vec::new() }
 }
 
 /// Sixteen live slots, each with 48 nodes, four messages and every row done but in the one that moves;
@@ -208,11 +218,17 @@ mod tests {
 
     #[test]
     fn local_moves_and_sends_work_the_expression_out() {
-        let events = events(&expression());
+        let events = events(&expression("expression", |_| ()));
         let any = |these: &[Event]| these.iter().any(|event| events.contains(event));
         assert!(any(&[Event::Assigned]) && any(&[Event::SentOutside]), "{events:?}");
         assert!(any(&[Event::ThenTaken, Event::ElseTaken]), "{events:?}");
         assert!(any(&[Event::BodyTaken, Event::WhileDone]), "{events:?}");
+        let mut outside = 0;
+        expression("expression_outside", to_the_end).each(&mut |call| {
+            let result = stepper::step(&call.file, &mut call.state.clone(), &mut [0; 512], &call.named, &call.outside);
+            outside += usize::from(result.is_err_and(|refused| refused.number == 22));
+        });
+        assert_eq!(outside, 8);
     }
 
     #[test]

@@ -6,6 +6,7 @@ use stepper::rows::{parts, Rows};
 use stepper::state::{Destination, Progress, Queued, Session, State, QUEUE, SESSIONS};
 use stepper::Tree;
 
+use super::ends::ends;
 use super::outside::{fitting, set_basic, some_node};
 use crate::nests::reach::{finish, reach};
 use crate::networks::value;
@@ -36,6 +37,9 @@ pub fn state(random: &mut Random, network: &Network, state: &mut State) {
 fn change(random: &mut Random, rows: &Rows, root: usize, service: usize, session: &mut Session) {
     let network = rows.network;
     let own = own_rows(rows, root);
+    if own.len() <= 60 && random.one_in(8) {
+        return ends(random, rows, root, session);
+    }
     // Moves alone seldom get to the end of a large behaviour.
     if random.one_in(if own.len() > 60 { 2 } else { 4 }) {
         return arrive(random, rows, &own, session);
@@ -100,7 +104,12 @@ fn wake(random: &mut Random, network: &Network, state: &mut State) {
 
 /// Roots that nobody reads, up to 48 nodes or a few less.
 fn crowd(random: &mut Random, tree: &mut Tree) {
-    let wanted = random.between(45, 48);
+    crowd_to(random, tree, 45);
+}
+
+/// The same, up to 48 nodes or down to a least number.
+pub fn crowd_to(random: &mut Random, tree: &mut Tree, least: usize) {
+    let wanted = random.between(least, 48);
     let mut id = 50_000;
     while tree.nodes() - 1 < wanted {
         let basic = second::Basic::ALL[random.below(7)];

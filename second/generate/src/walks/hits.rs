@@ -10,7 +10,7 @@ use stepper::rows::{parts, Rows};
 use stepper::state::{Destination, Progress, Session};
 use stepper::{Bound, Event, Made, Misshape, Move, NotAllowed, Reason, Refused, State};
 
-use super::Call;
+use super::{sums, Call};
 use crate::nests;
 
 /// Each name was to be hit often enough.
@@ -20,9 +20,9 @@ pub struct WalkHits {
 
 /// The numbers that each kind of move can give.
 const NUMBERS: [(&str, &[u8]); 7] = [
-    ("local", &[0, 1, 2, 3, 4, 5, 14, 15, 18]),
+    ("local", &[0, 1, 2, 3, 4, 5, 14, 15, 18, 22]),
     ("receive", &[0, 1, 2, 3, 4, 5, 14, 15, 18]),
-    ("send", &[0, 1, 2, 3, 4, 5, 14, 15, 16, 18, 19]),
+    ("send", &[0, 1, 2, 3, 4, 5, 14, 15, 16, 18, 19, 22]),
     ("reply", &[0, 1, 2, 3, 4, 5, 14, 15, 18, 19]),
     ("outer message", &[0, 1, 2, 3, 4, 5, 14, 15, 16, 17, 18, 19]),
     ("outer reply", &[0, 1, 2, 3, 4, 5, 14, 15, 17, 18, 19]),
@@ -127,8 +127,9 @@ impl Default for WalkHits {
         for (kind, reasons) in FITS {
             names.extend(reasons.iter().map(|reason| format!("{kind} 19 {reason:?}")));
         }
+        names.extend(sums::names());
         names.extend(FEATURES.map(String::from));
-        for result in ["made", "refused by 15 to 19"] {
+        for result in ["made", "refused by 15 to 22"] {
             names.extend(nests::names().map(|name| format!("a move {result} below {name}")));
         }
         WalkHits { counts: names.into_iter().map(|name| (name, 0)).collect() }
@@ -160,6 +161,14 @@ impl WalkHits {
         self.counts.iter().filter(|(_, &count)| count < least).map(|(name, _)| name.as_str()).collect()
     }
 
+    /// A call on a state from fresh, and its result.
+    pub fn from_fresh(&mut self, network: &Network, named: &Move, result: &Result<Made, Refused>) {
+        self.hit("a move from fresh".into());
+        if result.is_err_and(|refused| refused.reason == Reason::Beyond) {
+            self.hit(sums::row_name(network, named) + ", from fresh");
+        }
+    }
+
     pub fn fresh(&mut self, number: u32) {
         self.hit(format!("fresh {number:2}"));
     }
@@ -186,7 +195,9 @@ impl WalkHits {
                 self.refused(call, kind, refused);
                 if refused.number >= 15 {
                     let (network, state) = read();
-                    self.nests(&network, &state, &call.named, "refused by 15 to 19");
+                    self.nests(&network, &state, &call.named, "refused by 15 to 22");
+                    let names = sums::refused(&network, &state, &call.named, refused);
+                    names.into_iter().for_each(|name| self.hit(name));
                 }
                 if refused.reason == Reason::NotAllowed(NotAllowed::NotReady) {
                     let (network, state) = read();

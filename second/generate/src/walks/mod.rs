@@ -1,11 +1,16 @@
 //! Walks: lists of moves over a network, mostly plausible ones, from its fresh state on.
 
 pub mod choose;
+pub mod counters;
 pub mod damage;
+mod ends;
+pub mod exact;
 pub mod hits;
+pub mod meetings;
 pub mod networks;
 pub mod outside;
 pub mod property;
+mod sums;
 pub mod texts;
 
 use second::Network;

@@ -5,7 +5,7 @@ use second::tables::OperationRow;
 use second::{Network, Tables};
 use stepper::rows::Rows;
 
-use super::texts;
+use super::{counters, texts};
 use crate::nests;
 use crate::networks::{tables, talkative, Blunder};
 use crate::random::Random;
@@ -15,8 +15,11 @@ pub fn file(random: &mut Random) -> Vec<u8> {
     if random.one_in(7) {
         return texts::file(random.pick(&texts::ALL).expect("a text"));
     }
-    if random.one_in(6) {
+    if random.one_in(5) {
         return nests::busy(random).tables().write();
+    }
+    if random.one_in(10) {
+        return counters::file(random);
     }
     loop {
         let (tables, accepted) = some_tables(random);

@@ -1,0 +1,211 @@
+//! Scripts: moves and states in the lines that `bin/play` reads and prints.
+
+use second::Network;
+use stepper::decode::decode;
+use stepper::encode::encode;
+use stepper::state::{Progress, Queued, Session};
+use stepper::{Move, State, Tree};
+
+use crate::{hex, Side, UNTOUCHED};
+
+/// Plays a script by one side and gives its lines with the results. A line is a move, perhaps with a result, which
+/// is passed over; `state`, after which the live sessions follow, those that stand there already being passed over;
+/// or a line of such a list elsewhere, which together with those around it is the state for the next move. Comments
+/// and blank lines stay. Before the first move the state is the fresh one: clients live, all else free.
+pub fn play(side: &dyn Side, file: &[u8], script: &str) -> Result<Vec<String>, String> {
+    let network = Network::read(file).map_err(|refusal| refusal.to_string())?;
+    let mut state = vec![0; 65_536];
+    encode(&State::fresh(&network), &mut state);
+    let mut given: Option<State> = None;
+    let mut shown = false;
+    let mut played = Vec::new();
+    for line in script.lines() {
+        let wrong = |what: &str| format!("{line}: {what}");
+        let is_of_state = line.starts_with(|first: char| first.is_ascii_digit());
+        shown &= is_of_state;
+        if shown {
+            continue;
+        }
+        if is_of_state {
+            let state = given.get_or_insert_with(|| State::free(&network));
+            read_session(&network, state, line).ok_or_else(|| wrong("no line of a state"))?;
+            played.push(line.into());
+            continue;
+        }
+        if let Some(given) = given.take() {
+            encode(&given, &mut state);
+            decode(&network, &state).map_err(|misshape| wrong(&format!("{misshape:?} before it")))?;
+        }
+        if line.is_empty() || line.starts_with('#') {
+            played.push(line.into());
+        } else if line == "state" {
+            shown = true;
+            played.push(line.into());
+            played.extend(show(&decode(&network, &state).map_err(|misshape| wrong(&format!("{misshape:?}")))?));
+        } else {
+            let (words, _) = line.split_once(':').unwrap_or((line, ""));
+            let (named, outside) = read_move(words).ok_or_else(|| wrong("no move"))?;
+            let result = made(side, file, &mut state, &named, &outside).map_err(|what| wrong(&what))?;
+            played.push(format!("{words}: {result}"));
+        }
+    }
+    Ok(played)
+}
+
+/// A move's result: its number and, where bytes went out, their count and the bytes.
+fn made(side: &dyn Side, file: &[u8], state: &mut [u8], named: &Move, outside: &[u8]) -> Result<String, String> {
+    let (before, mut out) = (state.to_vec(), [UNTOUCHED; 512]);
+    let answer = side.step(file, state, &mut out, named, outside);
+    let (written, rest) = out.split_at(answer.bytes);
+    let kept = answer.number == 0 || (state == before && written.is_empty());
+    if !kept || rest.iter().any(|&byte| byte != UNTOUCHED) || (answer.number >= 14 && answer.place != 0) {
+        return Err(format!("{}: {answer:?}, with a place or a buffer that is not as it should be", side.name()));
+    }
+    Ok(match written {
+        [] => answer.number.to_string(),
+        _ => format!("{} {} {}", answer.number, written.len(), hex(written)),
+    })
+}
+
+fn bytes(digits: &str) -> Option<Vec<u8>> {
+    let digits: Option<Vec<u8>> = digits.chars().map(|digit| digit.to_digit(16).map(|digit| digit as u8)).collect();
+    let digits = digits.filter(|digits| digits.len() % 2 == 0)?;
+    Some(digits.chunks(2).map(|pair| 16 * pair[0] + pair[1]).collect())
+}
+
+fn read_move(line: &str) -> Option<(Move, Vec<u8>)> {
+    let words: Vec<&str> = line.split_whitespace().collect();
+    let (&kind, words) = words.split_first()?;
+    let count = match kind {
+        "close" => 2,
+        "send" | "outer-message" => 4,
+        _ => 3,
+    };
+    let (numbers, message) = words.split_at_checked(count)?;
+    let message = bytes(&message.concat())?;
+    let number = |index: usize| numbers[index].parse::<u16>().ok();
+    let (service, session) = (number(0)?, number(1)?);
+    let named = match kind {
+        "local" => Move::Local { service, session, row: number(2)? },
+        "receive" => Move::Receive { service, session, row: number(2)? },
+        "send" => Move::Send { service, session, row: number(2)?, target: number(3)? },
+        "reply" => Move::Reply { service, session, row: number(2)? },
+        "outer-message" => {
+            Move::OuterMessage { service, id: session, target: number(2)?, number: numbers[3].parse().ok()? }
+        }
+        "outer-reply" => Move::OuterReply { service, session, row: number(2)? },
+        "close" => Move::Close { service, session },
+        _ => return None,
+    };
+    Some((named, message))
+}
+
+/// The live sessions: tree, queue and rows that are not undone.
+fn show(state: &State) -> Vec<String> {
+    let mut lines = Vec::new();
+    for (service, sessions) in state.services.iter().enumerate() {
+        for (number, session) in sessions.iter().enumerate() {
+            let Some(session) = session else { continue };
+            let here = format!("{service} {number}");
+            lines.push(format!("{here} tree {}", hex(&session.tree.bytes())));
+            for queued in &session.queue {
+                lines.push(format!("{here} queued {} {}", queued.operation, hex(&queued.message.bytes())));
+            }
+            for (row, progress) in session.progress.iter().enumerate() {
+                let progress = match progress {
+                    Progress::Undone => continue,
+                    Progress::Done => "done".to_string(),
+                    Progress::Waiting => "waits".to_string(),
+                    Progress::Taken(part) => format!("part {part}"),
+                    Progress::Received(_) => "received".to_string(),
+                };
+                lines.push(format!("{here} row {row} {progress}"));
+            }
+        }
+    }
+    lines
+}
+
+/// A line of `show`, into a state: a session's tree first. Whom a row or message answers is not in such a line.
+fn read_session(network: &Network, state: &mut State, line: &str) -> Option<()> {
+    let words: Vec<&str> = line.split_whitespace().collect();
+    let (numbers, words) = words.split_at_checked(2)?;
+    let slot = state.services.get_mut(numbers[0].parse::<usize>().ok()?)?.get_mut(numbers[1].parse::<usize>().ok()?)?;
+    if let ["tree", digits] = words {
+        let tree = Tree::read_session(&bytes(digits)?)?;
+        *slot = Some(Session { tree, ..Session::new(network) });
+        return Some(());
+    }
+    let session = slot.as_mut()?;
+    match words {
+        ["queued", operation, digits] => {
+            let (operation, message) = (operation.parse().ok()?, Tree::read_message(&bytes(digits)?)?);
+            session.queue.push(Queued { operation, message, destination: None });
+        }
+        ["row", row, progress @ ..] => {
+            *session.progress.get_mut(row.parse::<usize>().ok()?)? = match progress {
+                ["done"] => Progress::Done,
+                ["waits"] => Progress::Waiting,
+                ["part", part] => Progress::Taken(part.parse().ok()?),
+                _ => return None,
+            };
+        }
+        _ => return None,
+    }
+    Some(())
+}
+
+#[cfg(test)]
+mod tests {
+    use super::*;
+    use crate::itself::itself;
+    use crate::Second;
+    use std::path::PathBuf;
+
+    fn folder(name: &str) -> PathBuf {
+        PathBuf::from(env!("CARGO_MANIFEST_DIR")).join("../..").join(name)
+    }
+
+    #[test]
+    fn each_example_is_played_as_stored() {
+        let mut scripts = 0;
+        for entry in std::fs::read_dir(folder("examples")).expect("examples/") {
+            let path = entry.expect("an entry").path();
+            if path.extension().is_none_or(|found| found != "play") {
+                continue;
+            }
+            let file = std::fs::read(path.with_extension("bin")).expect("a file");
+            let script = std::fs::read_to_string(&path).expect("a script");
+            let expected = std::fs::read_to_string(path.with_extension("played")).expect("what comes out");
+            for side in [&Second as &dyn Side, &itself()] {
+                let played = play(side, &file, &script).unwrap_or_else(|error| panic!("{error}"));
+                let shown: Vec<_> = played.iter().filter(|line| !line.is_empty() && !line.starts_with('#')).collect();
+                assert_eq!(shown, expected.lines().collect::<Vec<_>>(), "{}", path.display());
+            }
+            scripts += 1;
+        }
+        assert!(scripts > 1, "{scripts}");
+    }
+
+    #[test]
+    fn lines_of_a_state_are_read_as_they_are_shown() {
+        let file = std::fs::read(folder("examples/scale.bin")).expect("a file");
+        let lines = [
+            "0 0 tree 00000601001400060100020001000401000000",
+            "0 0 row 1 done",
+            "0 0 row 3 waits",
+            "1 1 tree 0000060000",
+            "1 1 queued 4 000006010001000200080000000000000c40",
+            "1 1 row 7 part 0",
+        ];
+        let script = lines.join("\n") + "\nstate\n";
+        let played = play(&Second, &file, &script).unwrap_or_else(|error| panic!("{error}"));
+        assert_eq!(played, [&lines[..], &["state"], &lines[..]].concat());
+        for wrong in ["0 0 row 1 done", "0 0 tree 00", "9 0 tree 0000060000", "local 0 0", "lift 0 0 1", "local 0 0 x"]
+        {
+            assert!(play(&Second, &file, wrong).is_err(), "{wrong}");
+        }
+        // A destination is missing: the operation is two-way.
+        assert!(play(&Second, &file, "1 1 tree 0000060000\n1 1 queued 3 0000060000\nstate").is_err());
+    }
+}
