@@ -59,7 +59,7 @@ placeOf Stuck = 0
 placeOf MessageMisfit = 0
 placeOf (UnknownByte p) = p  -- 02: "both at the text's first offending byte"
 placeOf (BrokenText p) = p
-placeOf OutOfRange = 0
+placeOf OutOfRange = 0  -- "and from 14"
 
 -- 01: "number 0 is done".
 abbrev pub numberIn : Verdict → ℕ

@@ -227,14 +227,9 @@ module _ (N : Network) (rows : ℕ) (acc : Accepted N rows) where
     leaves-range eS i expression X f e its t =
         record {
           session = S;
-          alive = eS;
-          what = h .what;
-          runs = h .runs;
-          row = X;
-          number = f .1;
-          way = f .0;
-          works = e;
-          its = its;
+          at = record { alive = eS; what = h .what; runs = h .runs; row = X; number = f .1; way = f .0 };
+          expression = e;
+          works = its;
           leaves = t;
         }
 

@@ -98,29 +98,28 @@ isBeyond wrongKind = false
 isBeyond (beyond b) = true
 isBeyond (given x) = false
 
--- The row r of the session n of the service q, which is S, is a ready assign, if or while with the expression e: it is reached, and can move.
-pub record Ready (N : Network) (G : State) (q n r : ℕ) (S : Session) (e : Expression) : Type 0 where
+-- The row r of the session n of the service q, which is S, is reached.
+pub record RowReached (N : Network) (G : State) (q n r : ℕ) (S : Session) : Type 0 where
   pub alive : G q n ≡ live S
   pub what : Behaviour
   pub runs : behaviourIn N q n ≡ some what
   pub row : Behaviour
   pub number : rowOf row ≡ r
   pub way : Reaches (S .progress) row what
-  pub ready : T (isReadyLocal (S .progress) row)
-  pub works : localExpression (localOf row) ≡ some e
 
--- The row r of the session n of the service q is reached, and its expression has a result outside its width in the session's tree.
+-- It is a ready assign, if or while with the expression e: it is reached, and can move.
+pub record Ready (N : Network) (G : State) (q n r : ℕ) (S : Session) (e : Expression) : Type 0 where
+  pub at : RowReached N G q n r S
+  pub ready : T (isReadyLocal (S .progress) (at .row))
+  pub works : localExpression (localOf (at .row)) ≡ some e
+
+-- It is reached, and its expression has a result outside its width in the session's tree.
 pub record LeavesRange (N : Network) (G : State) (q n r : ℕ) (of : Behaviour → Optional Expression) : Type 0 where
   pub session : Session
-  pub alive : G q n ≡ live session
-  pub what : Behaviour
-  pub runs : behaviourIn N q n ≡ some what
-  pub row : Behaviour
-  pub number : rowOf row ≡ r
-  pub way : Reaches (session .progress) row what
-  pub works : Expression
-  pub its : of row ≡ some works
-  pub leaves : T (isBeyond (evaluate (session .tree) works))
+  pub at : RowReached N G q n r session
+  pub expression : Expression
+  pub works : of (at .row) ≡ some expression
+  pub leaves : T (isBeyond (evaluate (session .tree) expression))
 
 -- Why a move gives 22: a local move or a send whose row's expression has such a result.
 abbrev pub Causes22 : Network → State → Move → Type 0

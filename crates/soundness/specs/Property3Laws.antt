@@ -97,7 +97,8 @@ module _ (N : Network) (rows : ℕ) (acc : Accepted N rows) where
       }
 
   -- A ready assign, if or while moves, or is refused with 22 by its expression's result.
-  ready-by : (G : State) → Sound N rows G → (q n : ℕ) (S : Session) (h : SessionSound N rows q n S) (l : Local) → Reaches (S .progress) (fromLocal l) (h .what)
+  ready-by : (G : State) → Sound N rows G → (q n : ℕ) (S : Session) (h : SessionSound N rows q n S) (l : Local)
+      → Reaches (S .progress) (fromLocal l) (h .what)
       → T (canMove (S .progress) (some l)) → (e : Expression) → localExpression (some l) ≡ some e
       → Goes N rows (isBeyond (evaluate (S .tree) e)) (localBy G q n S (some l))
   ready-by G hG q n S h (assigns r x e) a t w its =
@@ -154,19 +155,20 @@ module _ (N : Network) (rows : ℕ) (acc : Accepted N rows) where
   pub ready-goes : (G : State) → Sound N rows G → (q n r : ℕ) (S : Session) (e : Expression) → Ready N G q n r S e
       → Goes N rows (isBeyond (evaluate (S .tree) e)) (localMove N G q n r)
   ready-goes G hG q n r S e k =
+      let a = k .at in
       let past = isBeyond (evaluate (S .tree) e) in
-      let h = hG .sessions q n S (k .alive) in
-      let sameB : h .what ≡ k .what = some-inj (sym (h .runs) ∙ k .runs) in
-      let way : Reaches (S .progress) (k .row) (h .what) = subst (Reaches (S .progress) (k .row)) (sym sameB) (k .way) in
-      let found : reach (S .progress) r (h .what) ≡ reached (k .row) =
-      subst (λ (z : ℕ). reach (S .progress) z (h .what) ≡ reached (k .row)) (k .number)
-      (reach-complete (S .progress) (k .row) (h .what) (ready-found (S .progress) (k .row) (k .ready)) (once-of N rows acc q n (h .what) (h .runs))
+      let h = hG .sessions q n S (a .alive) in
+      let sameB : h .what ≡ a .what = some-inj (sym (h .runs) ∙ a .runs) in
+      let way : Reaches (S .progress) (a .row) (h .what) = subst (Reaches (S .progress) (a .row)) (sym sameB) (a .way) in
+      let found : reach (S .progress) r (h .what) ≡ reached (a .row) =
+      subst (λ (z : ℕ). reach (S .progress) z (h .what) ≡ reached (a .row)) (a .number)
+      (reach-complete (S .progress) (a .row) (h .what) (ready-found (S .progress) (a .row) (k .ready)) (once-of N rows acc q n (h .what) (h .runs))
       (h .clean) way) in
-      let there : reach (S .progress) r (k .what) ≡ reached (k .row) = ap (reach (S .progress) r) (sym sameB) ∙ found in
-      let g = ready-at G hG q n S h (k .row) way (k .ready) e (k .works) in
+      let there : reach (S .progress) r (a .what) ≡ reached (a .row) = ap (reach (S .progress) r) (sym sameB) ∙ found in
+      let g = ready-at G hG q n S h (a .row) way (k .ready) e (k .works) in
       let f : Behaviour → Slot → Result = λ B x. onLive x (λ S2. localReached G q n S2 (reach (S2 .progress) r B)) in
-      subst (λ (b : Optional Behaviour). Goes N rows past (onBehaviour b (λ B. f B (G q n)))) (sym (k .runs))
-      (subst (λ (x : Slot). Goes N rows past (f (k .what) x)) (sym (k .alive))
+      subst (λ (b : Optional Behaviour). Goes N rows past (onBehaviour b (λ B. f B (G q n)))) (sym (a .runs))
+      (subst (λ (x : Slot). Goes N rows past (f (a .what) x)) (sym (a .alive))
       (subst (λ (l : Reached). Goes N rows past (localReached G q n S l)) (sym there) g))
 
 -- On bytes ----------------------------------------------------------------------------------------------------------------------------

@@ -154,7 +154,8 @@ module _ (N : Network) (rows : ℕ) where
       go (some B) e = by-live claims (G q n) (λ S. k B S) (λ S eS. f B S e eS)
 
   -- What comes of an evaluation.
-  pub at-evaluation : {B : ℕ → Type 0} {P : Tree Value → Type 0} (r : Evaluation (Tree Value)) (g : ℕ → Result) (f : Tree Value → Result) → GivesBy r B P
+  pub at-evaluation : {B : ℕ → Type 0} {P : Tree Value → Type 0} (r : Evaluation (Tree Value)) (g : ℕ → Result) (f : Tree Value → Result)
+      → GivesBy r B P
       → ((b : ℕ) → B b → Goes true (g b)) → ((y : Tree Value) → P y → Goes false (f y)) → Goes (isBeyond r) (onEvaluation r g f)
   at-evaluation missing g f c k l = absurd c
   at-evaluation wrongKind g f c k l = absurd c
@@ -175,7 +176,8 @@ module _ (N : Network) (rows : ℕ) where
       (λ y e. at-bool (rootValue y) k e f)
 
   -- The same where the target may refuse.
-  pub keeps-tree : {B : ℕ → Type 0} {P : Tree Value → Type 0} (claims : Claims) (r : Evaluation (Tree Value)) (k : Tree Value → Result) → GivesBy r B P
+  pub keeps-tree : {B : ℕ → Type 0} {P : Tree Value → Type 0} (claims : Claims) (r : Evaluation (Tree Value)) (k : Tree Value → Result)
+      → GivesBy r B P
       → ((b : ℕ) → r ≡ beyond b → B b → claims .cause) → ((y : Tree Value) → P y → Keeps claims (k y)) → Keeps claims (onTree r k)
   keeps-tree claims missing k c f g = absurd c
   keeps-tree claims wrongKind k c f g = absurd c

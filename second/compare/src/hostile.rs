@@ -9,7 +9,7 @@ use std::fs;
 use std::path::Path;
 use std::process::ExitCode;
 
-use compare::{other, with_large_stack, Second, Side, UNTOUCHED};
+use compare::{beside_stored, other, Second, Side, UNTOUCHED};
 use generate::hostile::{self, Case};
 use generate::walks::Call;
 use stepper::Move;
@@ -122,14 +122,7 @@ fn run(arguments: &[String]) -> Result<(), String> {
 }
 
 fn main() -> ExitCode {
-    let arguments: Vec<String> = std::env::args().skip(1).collect();
-    match with_large_stack(move || run(&arguments)) {
-        Ok(()) => ExitCode::SUCCESS,
-        Err(message) => {
-            println!("{message}");
-            ExitCode::FAILURE
-        }
-    }
+    beside_stored(run)
 }
 
 #[cfg(test)]

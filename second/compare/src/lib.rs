@@ -13,6 +13,7 @@ pub mod walks;
 
 use std::fmt;
 use std::ops::Range;
+use std::process::ExitCode;
 
 use second::ServiceEnvironments;
 use stepper::{Move, Refused};
@@ -44,6 +45,18 @@ pub fn with_large_stack<T: Send + 'static>(
     let thread = std::thread::Builder::new().stack_size(LIBRARY_STACK).spawn(work);
     let thread = thread.map_err(|error| error.to_string())?;
     thread.join().map_err(|_| "the work has panicked".to_string())?
+}
+
+/// A program that sets both sides beside what is stored: the first difference is printed, and the exit code is 1.
+pub fn beside_stored(run: fn(&[String]) -> Result<(), String>) -> ExitCode {
+    let arguments: Vec<String> = std::env::args().skip(1).collect();
+    match with_large_stack(move || run(&arguments)) {
+        Ok(()) => ExitCode::SUCCESS,
+        Err(message) => {
+            println!("{message}");
+            ExitCode::FAILURE
+        }
+    }
 }
 
 /// An environment node as the interface gives it.

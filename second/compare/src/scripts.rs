@@ -10,7 +10,7 @@ use std::path::{Path, PathBuf};
 use std::process::ExitCode;
 
 use compare::script::play;
-use compare::{other, with_large_stack, Second, Side};
+use compare::{beside_stored, other, Second, Side};
 
 /// The cases of a folder, by their texts, in order of names.
 fn cases(folder: &Path) -> Result<Vec<PathBuf>, String> {
@@ -83,14 +83,7 @@ fn run(arguments: &[String]) -> Result<(), String> {
 }
 
 fn main() -> ExitCode {
-    let arguments: Vec<String> = std::env::args().skip(1).collect();
-    match with_large_stack(move || run(&arguments)) {
-        Ok(()) => ExitCode::SUCCESS,
-        Err(message) => {
-            println!("{message}");
-            ExitCode::FAILURE
-        }
-    }
+    beside_stored(run)
 }
 
 #[cfg(test)]
