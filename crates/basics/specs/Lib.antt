@@ -1,3 +1,4 @@
 pub mod Choice
 pub mod TestLaws
+pub mod TableLaws
 pub mod ListLaws

@@ -1,111 +1,72 @@
 -- Laws of typing expressions: one for each way out of the functions.
-use Prim.Native.Nat.{ℕ, _+_, _<_, _≤_}
+use Prim.Native.Nat.{ℕ, _<_, _≤_}
 use mathlib.Core.Path.{_≡_, refl, sym, _∙_, ap, subst}
 use mathlib.Core.List.{List}
-use mathlib.Core.Bool.{Bool, true, false, not, _&&_}
+use lib.ListN.{length}
+use mathlib.Core.Bool.{Bool, true, false}
 use native.Mathlib.Omega.{arith}
-use lib.Dec.{eqb}
-use Rattle.tree_forest.specs.Forest.{tree}
+use borrow.Author.Tests.{ne-eqb, le-ltb}
 use Rattle.refusal.specs.declared.Refusal.{Refusal}
 use Rattle.refusal.specs.declared.Refusal.the-variants.{PathNotFirm, OperandType}
-use Rattle.scalar.specs.Basic.{bool, void}
+use Rattle.scalar.specs.Basic.{bool, raw, lastBasic}
 use Rattle.scalar.specs.Value.{value}
-use Rattle.basics.specs.Choice.{pick}
-use Rattle.scalar.specs.Operator.{isNumber}
-use Rattle.network_syntax.specs.Syntax.{Types, MessageType, Unary, Binary, Expression, constant, valueAt, presence, unary, binary}
+use Rattle.basics.specs.TestLaws.{of-eq, of-lt}
+use Rattle.network_syntax.specs.Syntax.{Types, MessageType, Unary, Binary}
+use Rattle.network_syntax.specs.Syntax.{Expression, constant, valueAt, presence, unary, binary}
 use Rattle.check_subtyping.specs.Subtype.{rootBasic}
-use Rattle.check_typing.specs.Result.{Attempt, yields, demand, andThen, withRow}
+use Rattle.check_typing.specs.Result.{Attempt, fails, yields, demand, andThen, withRow}
 use Rattle.check_expressions.specs.TypingsLaws.{refused-first}
-use Rattle.check_typing.specs.Environment.{isIn, readFirm, basicLeaf}
+use Rattle.check_typing.specs.Environment.{readFirm, basicLeaf}
 use Rattle.check_typing.specs.ExpressionTyping.{unaryType, binaryType, expressionType}
 use Rattle.network.specs.Form.{WellFormed}
-use Rattle.network.specs.Layout.{pathCount, expressionCount, dataPart}
+use Rattle.network.specs.Layout.{expressionCount, dataPart}
 use Rattle.network.specs.Decode.{pathOf, expressionOf}
 use Rattle.check_environments.specs.declared.Environment.{Environment}
 use Rattle.check_environments.specs.declared.Reading.{Reading}
 use Rattle.check_environments.specs.declared.Reading.the-variants.{Firm, NotFirm}
 use Rattle.check_environments.specs.Environment.{EnvironmentFor}
-use Rattle.check_environments.specs.Tells.{ReadAt, ReadsAs, ReadsFirm, IsIn}
+use Rattle.check_environments.specs.Tells.{ReadsAs, ReadsFirm, IsIn}
 use Rattle.network_row_parts.specs.declared.UnaryOperator.{UnaryOperator}
 use Rattle.network_row_parts.specs.declared.BinaryOperator.{BinaryOperator}
 use Rattle.network_row_parts.specs.declared.Part.{Part}
 use Rattle.check_expressions.specs.declared.Typing.{Typing}
 use Rattle.network_row_parts.specs.Parts.{unaryOf, binaryOf, expressionPart}
-use Rattle.check_expressions.specs.Typings.{resultOf, unaryTyping, binaryTyping, withBasic, unaryTyped, besideTyped, binaryTyped, TypedAs, ValueTyped, PresenceTyped, TypingTells}
-use Rattle.network_row_parts.specs.PartLaws.{PartIs, part-is}
+use Rattle.check_expressions.specs.Typings.{typingOf, entryTyping, unaryTyping, binaryTyping, isRefused, rootTyped, withBasic, unaryTyped, binaryTyped, TypedAs, ValueTyped, PresenceTyped, TypingTells}
+use Rattle.network_row_parts.specs.PartLaws.{part-is}
+use Rattle.check_expressions.specs.SmallLaws.{Alone, unary-alone, binary-alone}
+use Rattle.check_expressions.specs.Table.{none, tableAt, operatorRules, tableEntry, unaryRow, binaryRow, columnOf}
+use Rattle.check_expressions.specs.TableLaws.{unlike-refused, column-small, unary-at-column, binary-at-column, unary-row, binary-row}
+use Rattle.check_expressions.specs.TableLaws.{unary-table, binary-alike-table}
 
 -- ---- enums by cases
 
-pub result-right : (row : ℕ) {t : Bool} (b : ℕ) → t ≡ true → Typing.Leaf b ≡ resultOf row t b
-result-right row b e = rw e refl
+pub entry-none : (row : ℕ) {n : ℕ} → n ≡ none → Typing.Refused (OperandType row) ≡ entryTyping row n
+entry-none row e = rw (of-eq _ none e) refl
 
-pub result-wrong : (row : ℕ) {t : Bool} (b : ℕ) → t ≡ false → Typing.Refused (OperandType row) ≡ resultOf row t b
-result-wrong row b e = rw e refl
+pub entry-some : (row : ℕ) {n : ℕ} → (n ≡ none → ⊥) → Typing.Leaf n ≡ entryTyping row n
+entry-some row {n} h = rw (ne-eqb n none h) refl
 
-pub ruleset result-laws = (result-right, result-wrong)
+pub ruleset entry-laws = (entry-none, entry-some)
 
-pub type-not : (row b : ℕ) {o : UnaryOperator} {z : Typing} → o ≡ UnaryOperator.Not → z ≡ resultOf row (eqb b bool) bool → z ≡ unaryTyping row o b
-unfolding unaryTyping
-type-not row b e f = f ∙ sym (ap (λ (o : UnaryOperator). unaryTyping row o b) e)
+pub unary-refused : (row : ℕ) (o : UnaryOperator) {x : Typing} {t : Bool} → t ≡ isRefused x → t ≡ true → x ≡ unaryTyped row o x
+unary-refused row o e f = rw (sym e ∙ f) refl
 
-pub type-negate : (row b : ℕ) {o : UnaryOperator} {z : Typing} {n : Bool} → o ≡ UnaryOperator.Negate → n ≡ isNumber b → z ≡ resultOf row n b → z ≡ unaryTyping row o b
-unfolding unaryTyping
-type-negate row b e g f = (f ∙ ap (λ (x : Bool). resultOf row x b) g) ∙ sym (ap (λ (o : UnaryOperator). unaryTyping row o b) e)
+pub unary-basic : (row : ℕ) (o : UnaryOperator) (x : Typing) {t : Bool} {b : ℕ} {z : Typing} → t ≡ isRefused x → t ≡ false → b ≡ rootTyped x → z ≡ unaryTyping row o b
+    → z ≡ unaryTyped row o x
+unary-basic row o x e f g h = rw (sym e ∙ f, sym g) h
 
-alike : (b c : ℕ) {n a : Bool} → n ≡ isNumber b → a ≡ (n && eqb b c) → a ≡ (isNumber b && eqb b c)
-alike b c e f = f ∙ ap (λ (x : Bool). x && eqb b c) e
+pub left-refused : (row : ℕ) (o : BinaryOperator) (y : Typing) {x : Typing} {t : Bool} → t ≡ isRefused x → t ≡ true → x ≡ binaryTyped row o x y
+left-refused row o y e f = rw (sym e ∙ f) refl
 
-pub type-add : (row b c : ℕ) {o : BinaryOperator} {z : Typing} {n a : Bool} → o ≡ BinaryOperator.Add → n ≡ isNumber b → a ≡ (n && eqb b c) → z ≡ resultOf row a b → z ≡ binaryTyping row o b c
-unfolding binaryTyping
-type-add row b c e g h f = (f ∙ ap (λ (x : Bool). resultOf row x b) (alike b c g h)) ∙ sym (ap (λ (o : BinaryOperator). binaryTyping row o b c) e)
+pub right-refused : (row : ℕ) (o : BinaryOperator) (x : Typing) {y : Typing} {t u : Bool} → t ≡ isRefused x → t ≡ false → u ≡ isRefused y → u ≡ true
+    → y ≡ binaryTyped row o x y
+right-refused row o x e f g h = rw (sym e ∙ f, sym g ∙ h) refl
 
-pub type-subtract : (row b c : ℕ) {o : BinaryOperator} {z : Typing} {n a : Bool} → o ≡ BinaryOperator.Subtract → n ≡ isNumber b → a ≡ (n && eqb b c) → z ≡ resultOf row a b → z ≡ binaryTyping row o b c
-unfolding binaryTyping
-type-subtract row b c e g h f = (f ∙ ap (λ (x : Bool). resultOf row x b) (alike b c g h)) ∙ sym (ap (λ (o : BinaryOperator). binaryTyping row o b c) e)
+pub binary-basic : (row : ℕ) (o : BinaryOperator) (x y : Typing) {t u : Bool} {b c : ℕ} {z : Typing} → t ≡ isRefused x → t ≡ false → u ≡ isRefused y → u ≡ false
+    → b ≡ rootTyped x → c ≡ rootTyped y → z ≡ binaryTyping row o b c → z ≡ binaryTyped row o x y
+binary-basic row o x y e f g h i j k = rw (sym e ∙ f, sym g ∙ h, sym i, sym j) k
 
-pub type-less : (row b c : ℕ) {o : BinaryOperator} {z : Typing} {n a : Bool} → o ≡ BinaryOperator.Less → n ≡ isNumber b → a ≡ (n && eqb b c) → z ≡ resultOf row a bool → z ≡ binaryTyping row o b c
-unfolding binaryTyping
-type-less row b c e g h f = (f ∙ ap (λ (x : Bool). resultOf row x bool) (alike b c g h)) ∙ sym (ap (λ (o : BinaryOperator). binaryTyping row o b c) e)
-
-pub type-equal : (row b c : ℕ) {o : BinaryOperator} {z : Typing} {a : Bool} → o ≡ BinaryOperator.Equal → a ≡ (not (eqb b void) && eqb b c) → z ≡ resultOf row a bool → z ≡ binaryTyping row o b c
-unfolding binaryTyping
-type-equal row b c e h f = (f ∙ ap (λ (x : Bool). resultOf row x bool) h) ∙ sym (ap (λ (o : BinaryOperator). binaryTyping row o b c) e)
-
-pub type-and : (row b c : ℕ) {o : BinaryOperator} {z : Typing} {a : Bool} → o ≡ BinaryOperator.And → a ≡ (eqb b bool && eqb c bool) → z ≡ resultOf row a bool → z ≡ binaryTyping row o b c
-unfolding binaryTyping
-type-and row b c e h f = (f ∙ ap (λ (x : Bool). resultOf row x bool) h) ∙ sym (ap (λ (o : BinaryOperator). binaryTyping row o b c) e)
-
-pub ruleset operator-laws = (type-not, type-negate, type-add, type-subtract, type-less, type-equal, type-and)
-
-with-at : (f : ℕ → Typing) {x z : Typing} {at b : ℕ} → x ≡ Typing.At at b → z ≡ f b → z ≡ withBasic f x
-with-at f e g = g ∙ sym (ap (withBasic f) e)
-
-with-leaf : (f : ℕ → Typing) {x z : Typing} {b : ℕ} → x ≡ Typing.Leaf b → z ≡ f b → z ≡ withBasic f x
-with-leaf f e g = g ∙ sym (ap (withBasic f) e)
-
-pub unary-at : (row : ℕ) (o : UnaryOperator) {x z : Typing} {at b : ℕ} → x ≡ Typing.At at b → z ≡ unaryTyping row o b → z ≡ unaryTyped row o x
-unary-at row o e f = with-at (unaryTyping row o) e f
-
-pub unary-leaf : (row : ℕ) (o : UnaryOperator) {x z : Typing} {b : ℕ} → x ≡ Typing.Leaf b → z ≡ unaryTyping row o b → z ≡ unaryTyped row o x
-unary-leaf row o e f = with-leaf (unaryTyping row o) e f
-
-pub beside-at : (row : ℕ) (o : BinaryOperator) (a : ℕ) {x z : Typing} {at b : ℕ} → x ≡ Typing.At at b → z ≡ binaryTyping row o a b → z ≡ besideTyped row o a x
-beside-at row o a e f = with-at (binaryTyping row o a) e f
-
-pub beside-leaf : (row : ℕ) (o : BinaryOperator) (a : ℕ) {x z : Typing} {b : ℕ} → x ≡ Typing.Leaf b → z ≡ binaryTyping row o a b → z ≡ besideTyped row o a x
-beside-leaf row o a e f = with-leaf (binaryTyping row o a) e f
-
-pub binary-at : (row : ℕ) (o : BinaryOperator) (y : Typing) {x z : Typing} {at b : ℕ} → x ≡ Typing.At at b → z ≡ besideTyped row o b y → z ≡ binaryTyped row o x y
-binary-at row o y e f = with-at (λ b. besideTyped row o b y) e f
-
-pub binary-leaf : (row : ℕ) (o : BinaryOperator) (y : Typing) {x z : Typing} {b : ℕ} → x ≡ Typing.Leaf b → z ≡ besideTyped row o b y → z ≡ binaryTyped row o x y
-binary-leaf row o y e f = with-leaf (λ b. besideTyped row o b y) e f
-
--- A refusal stays, whatever would follow.
-pub refused-stays : (f : ℕ → Typing) {x : Typing} {why : Refusal} → x ≡ Typing.Refused why → Typing.Refused why ≡ withBasic f x
-refused-stays f e = sym (ap (withBasic f) e)
-
-pub ruleset operand-laws = (unary-at, unary-leaf, beside-at, beside-leaf, binary-at, binary-leaf, refused-stays)
+pub ruleset operand-laws = (unary-refused, unary-basic, left-refused, right-refused, binary-basic)
 
 -- ---- paths
 
@@ -131,22 +92,63 @@ pub ruleset path-laws = (value-missing, value-firm, presence-in, presence-out)
 
 -- ---- operators
 
-required : (e : Environment) (row : ℕ) (t : Bool) (b : ℕ) → TypedAs e row (resultOf row t b) (demand t OperandType (yields (basicLeaf b)))
-required e row true b = refl
-required e row false b = refl
+rule-right : (e : Environment) (row b : ℕ) (r : Attempt MessageType) → Alone b r → TypedAs e row (typingOf row r) r
+rule-right e row b (fails why) h = refl
+rule-right e row b (yields t) h = ap yields (h .0)
 
 unary-right : (e : Environment) (row : ℕ) (o : UnaryOperator) (b : ℕ) → TypedAs e row (unaryTyping row o b) (unaryType (unaryOf o) b)
 unfolding unaryTyping
-unary-right e row UnaryOperator.Not b = required e row (eqb b bool) bool
-unary-right e row UnaryOperator.Negate b = required e row (isNumber b) b
+unary-right e row o b = rule-right e row b (unaryType (unaryOf o) b) (unary-alone (unaryOf o) b)
 
 binary-right : (e : Environment) (row : ℕ) (o : BinaryOperator) (b c : ℕ) → TypedAs e row (binaryTyping row o b c) (binaryType (binaryOf o) b c)
 unfolding binaryTyping
-binary-right e row BinaryOperator.Add b c = required e row (isNumber b && eqb b c) b
-binary-right e row BinaryOperator.Subtract b c = required e row (isNumber b && eqb b c) b
-binary-right e row BinaryOperator.Less b c = required e row (isNumber b && eqb b c) bool
-binary-right e row BinaryOperator.Equal b c = required e row (not (eqb b void) && eqb b c) bool
-binary-right e row BinaryOperator.And b c = required e row (eqb b bool && eqb c bool) bool
+binary-right e row o b c = rule-right e row b (binaryType (binaryOf o) b c) (binary-alone (binaryOf o) b c)
+
+-- ---- the table
+
+as-entry : (row b : ℕ) (r : Attempt MessageType) → b ≤ lastBasic → Alone b r → entryTyping row (tableEntry r) ≡ typingOf row r
+as-entry row b (fails why) l h = sym (ap (λ (w : ℕ → Refusal). Typing.Refused (w row)) h)
+as-entry row b (yields t) l h = let m = h .1 l in sym (entry-some row (λ e. omega arith))
+
+looked : (row : ℕ) {r r′ c c′ : ℕ} {x : Typing} → r ≡ r′ → c ≡ c′ → x ≡ entryTyping row (tableAt r c) → x ≡ entryTyping row (tableAt r′ c′)
+looked row {r} {r′} {c} {c′} {x} f g h = subst (λ (i : ℕ). x ≡ entryTyping row (tableAt i c′)) f (subst (λ (i : ℕ). x ≡ entryTyping row (tableAt r i)) g h)
+
+pub unary-looked : (row b : ℕ) (o : UnaryOperator) {r c : ℕ} {x : Typing} → r ≡ unaryRow o → c ≡ columnOf b → x ≡ entryTyping row (tableAt r c) → x ≡ unaryTyping row o b
+unfolding unaryTyping
+unary-looked row b o f g h =
+    looked row f g h ∙ ap (entryTyping row) (unary-table o b)
+    ∙ as-entry row (columnOf b) (unaryType (unaryOf o) b) (column-small b)
+    (subst (Alone (columnOf b)) (sym (unary-at-column (unaryOf o) b)) (unary-alone (unaryOf o) (columnOf b)))
+
+pub binary-looked : (row b c : ℕ) (o : BinaryOperator) {r d : ℕ} {x : Typing} → b ≡ c → r ≡ binaryRow o → d ≡ columnOf b → x ≡ entryTyping row (tableAt r d)
+    → x ≡ binaryTyping row o b c
+unfolding binaryTyping
+binary-looked row b c o i f g h =
+    looked row f g h ∙ ap (entryTyping row) (binary-alike-table o b)
+    ∙ as-entry row (columnOf b) (binaryType (binaryOf o) b b) (column-small b)
+    (subst (Alone (columnOf b)) (sym (binary-at-column (binaryOf o) b)) (binary-alone (binaryOf o) (columnOf b) (columnOf b)))
+    ∙ ap (λ (d : ℕ). typingOf row (binaryType (binaryOf o) b d)) i
+
+pub binary-unlike : (row b c : ℕ) (o : BinaryOperator) → (b ≡ c → ⊥) → Typing.Refused (OperandType row) ≡ binaryTyping row o b c
+unfolding binaryTyping
+binary-unlike row b c o h = sym (ap (typingOf row) (unlike-refused (binaryOf o) b c (ne-eqb b c h)))
+
+pub column-past : (b : ℕ) → lastBasic < b → raw ≡ columnOf b
+column-past b h = rw (of-lt lastBasic b h) refl
+
+pub column-own : (b : ℕ) → b ≤ lastBasic → b ≡ columnOf b
+column-own b h = rw (le-ltb lastBasic b h) refl
+
+pub unary-row-in : (o : UnaryOperator) {r : ℕ} → r ≡ unaryRow o → r < length operatorRules
+unary-row-in o e = rw e (unary-row o .0)
+
+pub binary-row-in : (o : BinaryOperator) {r : ℕ} → r ≡ binaryRow o → r < length operatorRules
+binary-row-in o e = rw e (binary-row o .0)
+
+pub column-in : (b : ℕ) {c : ℕ} → c ≡ columnOf b → c ≤ lastBasic
+column-in b e = rw e (column-small b)
+
+pub ruleset table-laws = (unary-looked, binary-looked, binary-unlike, column-past, column-own, unary-row-in, binary-row-in, column-in)
 
 -- An operand, then what follows from its basic type.
 after-operand : (e : Environment) (row : ℕ) (x : Typing) (found : Attempt MessageType) (f : ℕ → Typing) (g : ℕ → Attempt MessageType) → TypedAs e row x found
@@ -195,7 +197,7 @@ binary-typed s e r row {x} {o} {a} {b} {y} {t} {z} m n v v₂ k = subst (λ (c :
     let j = u .2 in (
       binary (binaryOf o) (expressionOf s a) (expressionOf s b),
       u .0,
-      after-operand e row y (expressionType Γ (expressionOf s a)) (λ c. besideTyped row o c t)
+      after-operand e row y (expressionType Γ (expressionOf s a)) (λ c. withBasic (binaryTyping row o c) t)
           (λ c. andThen (expressionType Γ (expressionOf s b)) (λ d. binaryType (binaryOf o) c (rootBasic d))) (v .tells Γ g w (omega arith))
           (λ c. after-operand e row t (expressionType Γ (expressionOf s b)) (binaryTyping row o c) (binaryType (binaryOf o) c) (v₂ .tells Γ g w (omega arith)) (binary-right e row o c)),
     )))

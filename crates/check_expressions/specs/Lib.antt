@@ -1,3 +1,5 @@
+pub mod Table
+pub mod TableLaws
 pub mod Typings
 pub mod SmallLaws
 pub mod TypingsLaws

@@ -1,6 +1,6 @@
 -- An expression's basic type is one of 0 to 6.
-use Prim.Native.Nat.{ℕ, zero, suc, _+_, _<_, _≤_}
-use mathlib.Core.Path.{_≡_, refl, ap, subst}
+use Prim.Native.Nat.{ℕ, _<_, _≤_}
+use mathlib.Core.Path.{_≡_, refl, subst}
 use mathlib.Core.List.{List, [], _∷_}
 use mathlib.Core.Bool.{Bool, true, false, not, _&&_}
 use native.Mathlib.Omega.{arith}
@@ -11,7 +11,7 @@ use Rattle.tree_forest.specs.Path.{Path, path, readSteps, read}
 use Rattle.refusal.specs.declared.Refusal.{Refusal}
 use Rattle.refusal.specs.declared.Refusal.the-variants.{PathNotFirm, OperandType}
 use Rattle.scalar.specs.Basic.{bool, void, lastBasic}
-use Rattle.scalar.specs.Value.{value, basicOf, bytesOf}
+use Rattle.scalar.specs.Value.{value}
 use Rattle.scalar.specs.ValueLaws.{value-basic}
 use Rattle.scalar.specs.Operator.{isNumber}
 use Rattle.network_syntax.specs.Syntax.{Mark, mark, Types, MessageType, Unary, logicalNot, negate, Binary, add, subtract}
@@ -23,7 +23,7 @@ use Rattle.check_typing.specs.ExpressionTyping.{unaryType, binaryType, expressi
 use Rattle.network.specs.Form.{WellFormed}
 use Rattle.network.specs.Layout.{expressionCount}
 use Rattle.network.specs.Decode.{expressionOf}
-use Rattle.network.specs.Shapes.{PartsShape, ExpressionShape}
+use Rattle.network.specs.Shapes.{PartsShape}
 use Rattle.network.specs.DecodeLaws.{expression-shape}
 use Rattle.check_types.specs.Image.{InRange}
 
@@ -70,16 +70,31 @@ leaf-small : (t : Bool) (b : ℕ) (n : MessageType) (why : ℕ → Refusal) → 
 leaf-small true b n why h e = subst (λ (y : MessageType). rootBasic y ≤ lastBasic) (yields-same e) h
 leaf-small false b n why h e = absurd (not-yields e)
 
+-- An operator's rule gives a basic type alone, bool or that of an operand, or refuses with 8.
+abbrev pub Alone : ℕ → Attempt MessageType → Type 0
+Alone b (fails why) = why ≡ OperandType
+Alone b (yields t) = (t ≡ basicLeaf (rootBasic t)) × (b ≤ lastBasic → rootBasic t ≤ lastBasic)
+
+alone : (t : Bool) (b c : ℕ) → (b ≤ lastBasic → c ≤ lastBasic) → Alone b (demand t OperandType (yields (basicLeaf c)))
+alone true b c h = (refl, h)
+alone false b c h = refl
+
+pub unary-alone : (o : Unary) (b : ℕ) → Alone b (unaryType o b)
+unary-alone logicalNot b = alone (eqb b bool) b bool (λ h. omega arith)
+unary-alone negate b = alone (isNumber b) b b (λ h. h)
+
+pub binary-alone : (o : Binary) (b c : ℕ) → Alone b (binaryType o b c)
+binary-alone add b c = alone (isNumber b && eqb b c) b b (λ h. h)
+binary-alone subtract b c = alone (isNumber b && eqb b c) b b (λ h. h)
+binary-alone less b c = alone (isNumber b && eqb b c) b bool (λ h. omega arith)
+binary-alone equal b c = alone (not (eqb b void) && eqb b c) b bool (λ h. omega arith)
+binary-alone logicalAnd b c = alone (eqb b bool && eqb c bool) b bool (λ h. omega arith)
+
 unary-small : (o : Unary) (b : ℕ) (n : MessageType) → b ≤ lastBasic → unaryType o b ≡ yields n → rootBasic n ≤ lastBasic
-unary-small logicalNot b n h e = leaf-small (eqb b bool) bool n OperandType (omega arith) e
-unary-small negate b n h e = leaf-small (isNumber b) b n OperandType h e
+unary-small o b n h e = subst (Alone b) e (unary-alone o b) .1 h
 
 binary-small : (o : Binary) (b c : ℕ) (n : MessageType) → b ≤ lastBasic → binaryType o b c ≡ yields n → rootBasic n ≤ lastBasic
-binary-small add b c n h e = leaf-small (isNumber b && eqb b c) b n OperandType h e
-binary-small subtract b c n h e = leaf-small (isNumber b && eqb b c) b n OperandType h e
-binary-small less b c n h e = leaf-small (isNumber b && eqb b c) bool n OperandType (omega arith) e
-binary-small equal b c n h e = leaf-small (not (eqb b void) && eqb b c) bool n OperandType (omega arith) e
-binary-small logicalAnd b c n h e = leaf-small (eqb b bool && eqb c bool) bool n OperandType (omega arith) e
+binary-small o b c n h e = subst (Alone b) e (binary-alone o b c) .1 h
 
 small : (Γ : Types) → InRange Γ → (e : Expression) → PartsShape e → (n : MessageType) → expressionType Γ e ≡ yields n → rootBasic n ≤ lastBasic
 unfolding expressionType PartsShape

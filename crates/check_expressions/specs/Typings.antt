@@ -3,17 +3,17 @@
 -- or double, both alike. Equal: alike, not void".
 use mathlib.Core.Path.{_≡_}
 use mathlib.Core.List.{List}
-use mathlib.Core.Bool.{Bool, true, false, not, _&&_}
-use Prim.Native.Nat.{ℕ, _<_, _≤_}
+use mathlib.Core.Bool.{Bool, true, false}
+use Prim.Native.Nat.{ℕ, _<_}
 use lib.Dec.{eqb}
 use Rattle.refusal.specs.declared.Refusal.the-variants.{PathNotFirm, OperandType}
-use Rattle.scalar.specs.Basic.{bool, void, lastBasic}
+use Rattle.scalar.specs.Basic.{bool}
 use Rattle.basics.specs.Choice.{pick}
-use Rattle.scalar.specs.Operator.{isNumber}
 use Rattle.network_syntax.specs.Syntax.{Types, MessageType}
-use Rattle.check_typing.specs.Result.{Attempt, yields, demand, refused, withRow}
+use Rattle.check_subtyping.specs.Subtype.{rootBasic}
+use Rattle.check_typing.specs.Result.{Attempt, fails, yields, demand, refused, withRow}
 use Rattle.check_typing.specs.Environment.{isIn, readFirm, basicLeaf}
-use Rattle.check_typing.specs.ExpressionTyping.{expressionType}
+use Rattle.check_typing.specs.ExpressionTyping.{unaryType, binaryType, expressionType}
 use Rattle.network.specs.Form.{WellFormed}
 use Rattle.network.specs.Layout.{pathCount, expressionCount}
 use Rattle.network.specs.Decode.{pathOf, expressionOf}
@@ -22,37 +22,45 @@ use Rattle.check_environments.specs.Environment.{EnvironmentFor}
 use Rattle.check_environments.specs.Tells.{ReadAt}
 use Rattle.network_row_parts.specs.declared.UnaryOperator.{UnaryOperator}
 use Rattle.network_row_parts.specs.declared.BinaryOperator.{BinaryOperator}
+use Rattle.network_row_parts.specs.Parts.{unaryOf, binaryOf}
 use Rattle.check_expressions.specs.declared.Typing.{Typing}
+use Rattle.check_expressions.specs.Table.{none}
 
--- The basic type, where the operands are right; else 8, placed at the B row.
-abbrev pub resultOf : ℕ → Bool → ℕ → Typing
-resultOf row right b = pick right (Typing.Leaf b) (Typing.Refused (OperandType row))
+-- What an operator's rule answers: the basic type of the result alone, or a refusal, placed at the B row.
+abbrev pub typingOf : ℕ → Attempt MessageType → Typing
+typingOf row (fails why) = Typing.Refused (why row)
+typingOf row (yields t) = Typing.Leaf (rootBasic t)
 
 unfoldable pub unaryTyping : ℕ → UnaryOperator → ℕ → Typing
-unaryTyping row UnaryOperator.Not b = resultOf row (eqb b bool) bool
-unaryTyping row UnaryOperator.Negate b = resultOf row (isNumber b) b
+unaryTyping row o b = typingOf row (unaryType (unaryOf o) b)
 
 unfoldable pub binaryTyping : ℕ → BinaryOperator → ℕ → ℕ → Typing
-binaryTyping row BinaryOperator.Add b c = resultOf row (isNumber b && eqb b c) b
-binaryTyping row BinaryOperator.Subtract b c = resultOf row (isNumber b && eqb b c) b
-binaryTyping row BinaryOperator.Less b c = resultOf row (isNumber b && eqb b c) bool
-binaryTyping row BinaryOperator.Equal b c = resultOf row (not (eqb b void) && eqb b c) bool
-binaryTyping row BinaryOperator.And b c = resultOf row (eqb b bool && eqb c bool) bool
+binaryTyping row o b c = typingOf row (binaryType (binaryOf o) b c)
+
+-- The same by the table's entry.
+abbrev pub entryTyping : ℕ → ℕ → Typing
+entryTyping row n = pick (eqb n none) (Typing.Refused (OperandType row)) (Typing.Leaf n)
+
+-- "as an operand its root value counts"; a refused operand has none.
+abbrev pub isRefused : Typing → Bool
+isRefused (Typing.At at b) = false
+isRefused (Typing.Leaf b) = false
+isRefused (Typing.Refused why) = true
+
+abbrev pub rootTyped : Typing → ℕ
+rootTyped (Typing.At at b) = b
+rootTyped (Typing.Leaf b) = b
+rootTyped (Typing.Refused why) = none
 
 -- An operand's basic type goes on; a refusal stays.
 abbrev pub withBasic : (ℕ → Typing) → Typing → Typing
-withBasic f (Typing.At at b) = f b
-withBasic f (Typing.Leaf b) = f b
-withBasic f (Typing.Refused why) = Typing.Refused why
+withBasic f x = pick (isRefused x) x (f (rootTyped x))
 
 abbrev pub unaryTyped : ℕ → UnaryOperator → Typing → Typing
 unaryTyped row o x = withBasic (unaryTyping row o) x
 
-abbrev pub besideTyped : ℕ → BinaryOperator → ℕ → Typing → Typing
-besideTyped row o b y = withBasic (binaryTyping row o b) y
-
 abbrev pub binaryTyped : ℕ → BinaryOperator → Typing → Typing → Typing
-binaryTyped row o x y = withBasic (λ b. besideTyped row o b y) x
+binaryTyped row o x y = withBasic (λ b. withBasic (binaryTyping row o b) y) x
 
 -- x is what typing found for a B row: the tree at a place of e, a basic type alone, or the refusal placed at the row.
 abbrev pub TypedAs : Environment → ℕ → Typing → Attempt MessageType → Type 0

@@ -1,10 +1,13 @@
 // The type of an expression, given by its E row, in an environment. Operands are earlier rows: the row number falls, so the walk ends on
 // any bytes.
 ghost use mathlib.Core.Path.{_≡_};
-ghost use Rattle.check_expressions.specs.Typings.{resultOf, unaryTyping, binaryTyping, unaryTyped, binaryTyped, besideTyped, ValueTyped, PresenceTyped, TypingTells};
+ghost use Prim.Native.Nat.{_<_, _≤_};
+ghost use lib.ListN.{length};
+ghost use Rattle.scalar.specs.Basic.{lastBasic};
+ghost use Rattle.check_expressions.specs.Table.{operatorRules, tableAt, unaryRow, binaryRow, columnOf};
+ghost use Rattle.check_expressions.specs.Typings.{entryTyping, unaryTyping, binaryTyping, isRefused, rootTyped, unaryTyped, binaryTyped, ValueTyped, PresenceTyped, TypingTells};
 use check_environments::Environment;
 use check_environments::Reading;
-use network_layout::both;
 use network_row_parts::BinaryOperator;
 use network_row_parts::Part;
 use network_row_parts::UnaryOperator;
@@ -18,71 +21,120 @@ pub enum Typing {
     Refused(Refusal),
 }
 
-// The basic type, where the operands are right.
-fn result(row: u16, right: bool, b: u8) -> Typing
-    ensures { λ x. ⌜ x ≡ resultOf row right b ⌝ }
+// The entry where the rule refuses with 8; it is no basic type.
+const NONE: u8 = 255;
+
+// Operator typing: a row for each operator, in the order of E's kinds; an entry for each basic type, the basic type of the result where the
+// operands have that one. Columns: bool, int, double, long, string, raw, void.
+const OPERATORS: [[u8; 7]; 7] = [
+    [0, 255, 255, 255, 255, 255, 255], // not
+    [255, 1, 2, 3, 255, 255, 255], // negate
+    [255, 1, 2, 3, 255, 255, 255], // add
+    [255, 1, 2, 3, 255, 255, 255], // subtract
+    [255, 0, 0, 0, 255, 255, 255], // less
+    [0, 0, 0, 0, 0, 0, 255], // equal
+    [0, 255, 255, 255, 255, 255, 255], // and
+];
+
+fn unary_row(o: UnaryOperator) -> usize
+    ensures { λ r. ⌜ r ≡ unaryRow o ⌝ }
 {
-    if right {
-        return Typing::Leaf(b);
+    match o {
+        UnaryOperator::Not => 0,
+        UnaryOperator::Negate => 1,
     }
-    Typing::Refused(Refusal::OperandType(row))
+}
+
+fn binary_row(o: BinaryOperator) -> usize
+    ensures { λ r. ⌜ r ≡ binaryRow o ⌝ }
+{
+    match o {
+        BinaryOperator::Add => 2,
+        BinaryOperator::Subtract => 3,
+        BinaryOperator::Less => 4,
+        BinaryOperator::Equal => 5,
+        BinaryOperator::And => 6,
+    }
+}
+
+// A number past the last basic type, which only a broken file has, is looked up as raw, as the rule has it.
+fn column(b: u8) -> usize
+    ensures { λ c. ⌜ c ≡ columnOf b ⌝ }
+{
+    if scalar::LAST_BASIC < b {
+        return scalar::RAW as usize;
+    }
+    b as usize
+}
+
+// The table's entry as a typing.
+fn looked_up(row: u16, o: usize, c: usize) -> Typing
+    requires { ⌜ (o < length operatorRules) × (c ≤ lastBasic) ⌝ }
+    ensures { λ x. ⌜ x ≡ entryTyping row (tableAt o c) ⌝ }
+{
+    let b = OPERATORS[o][c];
+    if b == NONE {
+        return Typing::Refused(Refusal::OperandType(row));
+    }
+    Typing::Leaf(b)
 }
 
 fn unary_type(row: u16, o: UnaryOperator, b: u8) -> Typing
     ensures { λ x. ⌜ x ≡ unaryTyping row o b ⌝ }
 {
-    match o {
-        UnaryOperator::Not => result(row, b == scalar::BOOL, scalar::BOOL),
-        UnaryOperator::Negate => result(row, scalar::is_number(b), b),
-    }
+    looked_up(row, unary_row(o), column(b))
 }
 
+// "both alike"
 fn binary_type(row: u16, o: BinaryOperator, b: u8, c: u8) -> Typing
     ensures { λ x. ⌜ x ≡ binaryTyping row o b c ⌝ }
 {
-    let alike = both(scalar::is_number(b), b == c);
-    match o {
-        BinaryOperator::Add => result(row, alike, b),
-        BinaryOperator::Subtract => result(row, alike, b),
-        BinaryOperator::Less => result(row, alike, scalar::BOOL),
-        BinaryOperator::Equal => result(row, both(b != scalar::VOID, b == c), scalar::BOOL),
-        BinaryOperator::And => result(
-            row,
-            both(b == scalar::BOOL, c == scalar::BOOL),
-            scalar::BOOL,
-        ),
+    if b != c {
+        return Typing::Refused(Refusal::OperandType(row));
+    }
+    looked_up(row, binary_row(o), column(b))
+}
+
+fn is_refused(x: Typing) -> bool
+    ensures { λ t. ⌜ t ≡ isRefused x ⌝ }
+{
+    match x {
+        Typing::At(_, _) => false,
+        Typing::Leaf(_) => false,
+        Typing::Refused(_) => true,
+    }
+}
+
+// "as an operand its root value counts"; a refused operand has none.
+fn root_basic(x: Typing) -> u8
+    ensures { λ b. ⌜ b ≡ rootTyped x ⌝ }
+{
+    match x {
+        Typing::At(_, b) => b,
+        Typing::Leaf(b) => b,
+        Typing::Refused(_) => NONE,
     }
 }
 
 fn unary(row: u16, o: UnaryOperator, x: Typing) -> Typing
     ensures { λ z. ⌜ z ≡ unaryTyped row o x ⌝ }
 {
-    match x {
-        Typing::At(_, b) => unary_type(row, o, b),
-        Typing::Leaf(b) => unary_type(row, o, b),
-        Typing::Refused(why) => Typing::Refused(why),
+    if is_refused(x) {
+        return x;
     }
-}
-
-// The left operand has the basic type b.
-fn beside(row: u16, o: BinaryOperator, b: u8, y: Typing) -> Typing
-    ensures { λ z. ⌜ z ≡ besideTyped row o b y ⌝ }
-{
-    match y {
-        Typing::At(_, c) => binary_type(row, o, b, c),
-        Typing::Leaf(c) => binary_type(row, o, b, c),
-        Typing::Refused(why) => Typing::Refused(why),
-    }
+    unary_type(row, o, root_basic(x))
 }
 
 fn binary(row: u16, o: BinaryOperator, x: Typing, y: Typing) -> Typing
     ensures { λ z. ⌜ z ≡ binaryTyped row o x y ⌝ }
 {
-    match x {
-        Typing::At(_, b) => beside(row, o, b, y),
-        Typing::Leaf(b) => beside(row, o, b, y),
-        Typing::Refused(why) => Typing::Refused(why),
+    if is_refused(x) {
+        return x;
     }
+    if is_refused(y) {
+        return y;
+    }
+    binary_type(row, o, root_basic(x), root_basic(y))
 }
 
 // "A path expression has the tree there and must stand firm"

@@ -9,6 +9,7 @@ pub mod maximal;
 pub mod messages;
 pub mod nests;
 pub mod networks;
+pub mod operators;
 pub mod random;
 pub mod walks;
 
