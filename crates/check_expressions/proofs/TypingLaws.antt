@@ -1,8 +1,11 @@
 -- Laws of typing expressions: one for each way out of the functions.
 use Prim.Native.Nat.{ℕ, _<_, _≤_}
 use mathlib.Core.Path.{_≡_, refl, sym, _∙_, ap, subst}
-use mathlib.Core.List.{List}
+use mathlib.Core.List.{List, [], _∷_}
+use lib.Dec.{eqb}
 use lib.ListN.{length}
+use types.Run.{OneOf, miss}
+use denote.Enum.Declared.{tagOf}
 use mathlib.Core.Bool.{Bool, true, false}
 use native.Mathlib.Omega.{arith}
 use borrow.Author.Tests.{ne-eqb, le-ltb}
@@ -10,7 +13,8 @@ use Rattle.refusal.specs.declared.Refusal.{Refusal}
 use Rattle.refusal.specs.declared.Refusal.the-variants.{PathNotFirm, OperandType}
 use Rattle.scalar.specs.Basic.{bool, raw, lastBasic}
 use Rattle.scalar.specs.Value.{value}
-use Rattle.basics.specs.TestLaws.{of-eq, of-lt}
+use Rattle.basics.specs.Choice.{pick}
+use Rattle.basics.specs.TestLaws.{of-eq, of-lt, eq-of}
 use Rattle.network_syntax.specs.Syntax.{Types, MessageType, Unary, Binary}
 use Rattle.network_syntax.specs.Syntax.{Expression, constant, valueAt, presence, unary, binary}
 use Rattle.check_subtyping.specs.Subtype.{rootBasic}
@@ -30,8 +34,10 @@ use Rattle.network_row_parts.specs.declared.UnaryOperator.{UnaryOperator}
 use Rattle.network_row_parts.specs.declared.BinaryOperator.{BinaryOperator}
 use Rattle.network_row_parts.specs.declared.Part.{Part}
 use Rattle.check_expressions.specs.declared.Typing.{Typing}
+use Rattle.check_expressions.proofs.Typing as typings
 use Rattle.network_row_parts.specs.Parts.{unaryOf, binaryOf, expressionPart}
-use Rattle.check_expressions.specs.Typings.{typingOf, entryTyping, unaryTyping, binaryTyping, isRefused, rootTyped, withBasic, unaryTyped, binaryTyped, TypedAs, ValueTyped, PresenceTyped, TypingTells}
+use Rattle.check_expressions.specs.Typings.{typingOf, entryTyping, tableTyping, unaryTyping, binaryTyping, isRefused, rootTyped, withBasic}
+use Rattle.check_expressions.specs.Typings.{unaryTyped, binaryTyped, operatorTyped, TypedAs, ValueTyped, PresenceTyped, TypingTells}
 use Rattle.network_row_parts.specs.PartLaws.{part-is}
 use Rattle.check_expressions.specs.SmallLaws.{Alone, unary-alone, binary-alone}
 use Rattle.check_expressions.specs.Table.{none, tableAt, operatorRules, tableEntry, unaryRow, binaryRow, columnOf}
@@ -48,25 +54,24 @@ entry-some row {n} h = rw (ne-eqb n none h) refl
 
 pub ruleset entry-laws = (entry-none, entry-some)
 
-pub unary-refused : (row : ℕ) (o : UnaryOperator) {x : Typing} {t : Bool} → t ≡ isRefused x → t ≡ true → x ≡ unaryTyped row o x
-unary-refused row o e f = rw (sym e ∙ f) refl
+given : (x : Typing) → OneOf (0 ∷ 1 ∷ []) (tagOf typings.the-type x) → isRefused x ≡ false
+given (Typing.At at b) k = refl
+given (Typing.Leaf b) k = refl
+given (Typing.Refused why) k = absurd (miss (0 ∷ 1 ∷ []) 2 tt k)
 
-pub unary-basic : (row : ℕ) (o : UnaryOperator) (x : Typing) {t : Bool} {b : ℕ} {z : Typing} → t ≡ isRefused x → t ≡ false → b ≡ rootTyped x → z ≡ unaryTyping row o b
-    → z ≡ unaryTyped row o x
-unary-basic row o x e f g h = rw (sym e ∙ f, sym g) h
+pub right-refused : (row o : ℕ) (x : Typing) {y : Typing} {why : Refusal} → OneOf (0 ∷ 1 ∷ []) (tagOf typings.the-type x) → y ≡ Typing.Refused why
+    → y ≡ operatorTyped row o x y
+right-refused row o x k e = rw (given x k, e) refl
 
-pub left-refused : (row : ℕ) (o : BinaryOperator) (y : Typing) {x : Typing} {t : Bool} → t ≡ isRefused x → t ≡ true → x ≡ binaryTyped row o x y
-left-refused row o y e f = rw (sym e ∙ f) refl
+module _ (row o : ℕ) (x y : Typing) (k : OneOf (0 ∷ 1 ∷ []) (tagOf typings.the-type x)) (l : OneOf (0 ∷ 1 ∷ []) (tagOf typings.the-type y)) where
+  pub unlike : {b c : ℕ} → b ≡ rootTyped x → c ≡ rootTyped y → (b ≡ c → ⊥) → Typing.Refused (OperandType row) ≡ operatorTyped row o x y
+  unlike {b} {c} g h n = rw (given x k, given y l, sym g, sym h, ne-eqb b c n) refl
 
-pub right-refused : (row : ℕ) (o : BinaryOperator) (x : Typing) {y : Typing} {t u : Bool} → t ≡ isRefused x → t ≡ false → u ≡ isRefused y → u ≡ true
-    → y ≡ binaryTyped row o x y
-right-refused row o x e f g h = rw (sym e ∙ f, sym g ∙ h) refl
+  pub alike : {b c d : ℕ} {z : Typing} → b ≡ rootTyped x → c ≡ rootTyped y → b ≡ c → d ≡ columnOf b → z ≡ entryTyping row (tableAt o d)
+      → z ≡ operatorTyped row o x y
+  alike {b} {c} g h e f i = rw (given x k, given y l, sym g, sym h, of-eq b c e, sym f) i
 
-pub binary-basic : (row : ℕ) (o : BinaryOperator) (x y : Typing) {t u : Bool} {b c : ℕ} {z : Typing} → t ≡ isRefused x → t ≡ false → u ≡ isRefused y → u ≡ false
-    → b ≡ rootTyped x → c ≡ rootTyped y → z ≡ binaryTyping row o b c → z ≡ binaryTyped row o x y
-binary-basic row o x y e f g h i j k = rw (sym e ∙ f, sym g ∙ h, sym i, sym j) k
-
-pub ruleset operand-laws = (unary-refused, unary-basic, left-refused, right-refused, binary-basic)
+pub ruleset operand-laws = (right-refused, unlike, alike)
 
 -- ---- paths
 
@@ -110,28 +115,39 @@ as-entry : (row b : ℕ) (r : Attempt MessageType) → b ≤ lastBasic → Alone
 as-entry row b (fails why) l h = sym (ap (λ (w : ℕ → Refusal). Typing.Refused (w row)) h)
 as-entry row b (yields t) l h = let m = h .1 l in sym (entry-some row (λ e. omega arith))
 
-looked : (row : ℕ) {r r′ c c′ : ℕ} {x : Typing} → r ≡ r′ → c ≡ c′ → x ≡ entryTyping row (tableAt r c) → x ≡ entryTyping row (tableAt r′ c′)
-looked row {r} {r′} {c} {c′} {x} f g h = subst (λ (i : ℕ). x ≡ entryTyping row (tableAt i c′)) f (subst (λ (i : ℕ). x ≡ entryTyping row (tableAt r i)) g h)
-
-pub unary-looked : (row b : ℕ) (o : UnaryOperator) {r c : ℕ} {x : Typing} → r ≡ unaryRow o → c ≡ columnOf b → x ≡ entryTyping row (tableAt r c) → x ≡ unaryTyping row o b
+unary-looked : (row b : ℕ) (o : UnaryOperator) → tableTyping row (unaryRow o) b b ≡ unaryTyping row o b
 unfolding unaryTyping
-unary-looked row b o f g h =
-    looked row f g h ∙ ap (entryTyping row) (unary-table o b)
+unary-looked row b o =
+    rw (of-eq b b refl) (ap (entryTyping row) (unary-table o b)
     ∙ as-entry row (columnOf b) (unaryType (unaryOf o) b) (column-small b)
-    (subst (Alone (columnOf b)) (sym (unary-at-column (unaryOf o) b)) (unary-alone (unaryOf o) (columnOf b)))
+    (subst (Alone (columnOf b)) (sym (unary-at-column (unaryOf o) b)) (unary-alone (unaryOf o) (columnOf b))))
 
-pub binary-looked : (row b c : ℕ) (o : BinaryOperator) {r d : ℕ} {x : Typing} → b ≡ c → r ≡ binaryRow o → d ≡ columnOf b → x ≡ entryTyping row (tableAt r d)
-    → x ≡ binaryTyping row o b c
+binary-looked : (row b c : ℕ) (o : BinaryOperator) → tableTyping row (binaryRow o) b c ≡ binaryTyping row o b c
 unfolding binaryTyping
-binary-looked row b c o i f g h =
-    looked row f g h ∙ ap (entryTyping row) (binary-alike-table o b)
-    ∙ as-entry row (columnOf b) (binaryType (binaryOf o) b b) (column-small b)
-    (subst (Alone (columnOf b)) (sym (binary-at-column (binaryOf o) b)) (binary-alone (binaryOf o) (columnOf b) (columnOf b)))
-    ∙ ap (λ (d : ℕ). typingOf row (binaryType (binaryOf o) b d)) i
+binary-looked row b c o = go (eqb b c) refl
+  where
+    go : (t : Bool) → eqb b c ≡ t
+        → pick t (entryTyping row (tableAt (binaryRow o) (columnOf b))) (Typing.Refused (OperandType row)) ≡ typingOf row (binaryType (binaryOf o) b c)
+    go true e =
+        ap (entryTyping row) (binary-alike-table o b)
+        ∙ as-entry row (columnOf b) (binaryType (binaryOf o) b b) (column-small b)
+        (subst (Alone (columnOf b)) (sym (binary-at-column (binaryOf o) b)) (binary-alone (binaryOf o) (columnOf b) (columnOf b)))
+        ∙ ap (λ (d : ℕ). typingOf row (binaryType (binaryOf o) b d)) (eq-of b c e)
+    go false e = sym (ap (typingOf row) (unlike-refused (binaryOf o) b c e))
 
-pub binary-unlike : (row b c : ℕ) (o : BinaryOperator) → (b ≡ c → ⊥) → Typing.Refused (OperandType row) ≡ binaryTyping row o b c
-unfolding binaryTyping
-binary-unlike row b c o h = sym (ap (typingOf row) (unlike-refused (binaryOf o) b c (ne-eqb b c h)))
+unary-by-table : (row : ℕ) (o : UnaryOperator) (x : Typing) → operatorTyped row (unaryRow o) x x ≡ unaryTyped row o x
+unary-by-table row o (Typing.At at b) = unary-looked row b o
+unary-by-table row o (Typing.Leaf b) = unary-looked row b o
+unary-by-table row o (Typing.Refused why) = refl
+
+binary-by-table : (row : ℕ) (o : BinaryOperator) (x y : Typing) → operatorTyped row (binaryRow o) x y ≡ binaryTyped row o x y
+binary-by-table row o x y = go (isRefused x) (isRefused y)
+  where
+    go : (s t : Bool) → pick s x (pick t y (tableTyping row (binaryRow o) (rootTyped x) (rootTyped y)))
+        ≡ pick s x (pick t y (binaryTyping row o (rootTyped x) (rootTyped y)))
+    go true t = refl
+    go false true = refl
+    go false false = binary-looked row (rootTyped x) (rootTyped y) o
 
 pub column-past : (b : ℕ) → lastBasic < b → raw ≡ columnOf b
 column-past b h = rw (of-lt lastBasic b h) refl
@@ -148,7 +164,7 @@ binary-row-in o e = rw e (binary-row o .0)
 pub column-in : (b : ℕ) {c : ℕ} → c ≡ columnOf b → c ≤ lastBasic
 column-in b e = rw e (column-small b)
 
-pub ruleset table-laws = (unary-looked, binary-looked, binary-unlike, column-past, column-own, unary-row-in, binary-row-in, column-in)
+pub ruleset table-laws = (column-past, column-own, unary-row-in, binary-row-in, column-in)
 
 -- An operand, then what follows from its basic type.
 after-operand : (e : Environment) (row : ℕ) (x : Typing) (found : Attempt MessageType) (f : ℕ → Typing) (g : ℕ → Attempt MessageType) → TypedAs e row x found
@@ -178,9 +194,10 @@ unfolding expressionType
 presence-typed s e r row {x} {p} m n v = typed-as s e r row (λ Γ g w l. let u = part-is s w r l m n in (presence (pathOf s p), u .0, v .tells Γ g w (u .1)))
 
 pub unary-typed : (s : List ℕ) (e : Environment) (r row : ℕ) {x : Part} {o : UnaryOperator} {a : ℕ} {y z : Typing} → x ≡ expressionPart s r → x ≡ Part.Unary o a
-    → TypingTells s e a row y → z ≡ unaryTyped row o y → TypingTells s e r row z
+    → TypingTells s e a row y → {i : ℕ} → i ≡ unaryRow o → z ≡ operatorTyped row i y y → TypingTells s e r row z
 unfolding expressionType
-unary-typed s e r row {x} {o} {a} {y} {z} m n v k = subst (λ (t : Typing). TypingTells s e r row t) (sym k) (typed-as s e r row (λ Γ g w l.
+unary-typed s e r row {x} {o} {a} {y} {z} m n v {i} f k = subst (λ (t : Typing). TypingTells s e r row t)
+    (sym (k ∙ ap (λ (i : ℕ). operatorTyped row i y y) f ∙ unary-by-table row o y)) (typed-as s e r row (λ Γ g w l.
     let u = part-is s w r l m n in
     let i = u .1 in (
       unary (unaryOf o) (expressionOf s a),
@@ -189,9 +206,10 @@ unary-typed s e r row {x} {o} {a} {y} {z} m n v k = subst (λ (t : Typing). Typi
     )))
 
 pub binary-typed : (s : List ℕ) (e : Environment) (r row : ℕ) {x : Part} {o : BinaryOperator} {a b : ℕ} {y t z : Typing} → x ≡ expressionPart s r → x ≡ Part.Binary o a b
-    → TypingTells s e a row y → TypingTells s e b row t → z ≡ binaryTyped row o y t → TypingTells s e r row z
+    → TypingTells s e a row y → TypingTells s e b row t → {i : ℕ} → i ≡ binaryRow o → z ≡ operatorTyped row i y t → TypingTells s e r row z
 unfolding expressionType
-binary-typed s e r row {x} {o} {a} {b} {y} {t} {z} m n v v₂ k = subst (λ (c : Typing). TypingTells s e r row c) (sym k) (typed-as s e r row (λ Γ g w l.
+binary-typed s e r row {x} {o} {a} {b} {y} {t} {z} m n v v₂ {i} f k = subst (λ (c : Typing). TypingTells s e r row c)
+    (sym (k ∙ ap (λ (i : ℕ). operatorTyped row i y t) f ∙ binary-by-table row o y t)) (typed-as s e r row (λ Γ g w l.
     let u = part-is s w r l m n in
     let i = u .1 in
     let j = u .2 in (
@@ -204,8 +222,8 @@ binary-typed s e r row {x} {o} {a} {b} {y} {t} {z} m n v v₂ k = subst (λ (c :
 
 -- An operand that stands on both sides is typed once.
 pub twice-typed : (s : List ℕ) (e : Environment) (r row : ℕ) {x : Part} {o : BinaryOperator} {a b : ℕ} {y z : Typing} → x ≡ expressionPart s r → x ≡ Part.Binary o a b
-    → TypingTells s e a row y → a ≡ b → z ≡ binaryTyped row o y y → TypingTells s e r row z
-twice-typed s e r row {x} {o} {a} {b} {y} m n v i k = binary-typed s e r row m n v (subst (λ (d : ℕ). TypingTells s e d row y) i v) k
+    → TypingTells s e a row y → a ≡ b → {i : ℕ} → i ≡ binaryRow o → z ≡ operatorTyped row i y y → TypingTells s e r row z
+twice-typed s e r row {x} {o} {a} {b} {y} m n v i f k = binary-typed s e r row m n v (subst (λ (d : ℕ). TypingTells s e d row y) i v) f k
 
 pub broken-typed : (s : List ℕ) (e : Environment) (r row : ℕ) {x : Part} (y : Typing) → x ≡ expressionPart s r → x ≡ Part.Broken → TypingTells s e r row y
 broken-typed s e r row y p q = record { tells = λ Γ g w l. absurd (part-is s w r l p q) }

@@ -24,7 +24,7 @@ use Rattle.network_row_parts.specs.declared.UnaryOperator.{UnaryOperator}
 use Rattle.network_row_parts.specs.declared.BinaryOperator.{BinaryOperator}
 use Rattle.network_row_parts.specs.Parts.{unaryOf, binaryOf}
 use Rattle.check_expressions.specs.declared.Typing.{Typing}
-use Rattle.check_expressions.specs.Table.{none}
+use Rattle.check_expressions.specs.Table.{none, tableAt, columnOf}
 
 -- What an operator's rule answers: the basic type of the result alone, or a refusal, placed at the B row.
 abbrev pub typingOf : ℕ → Attempt MessageType → Typing
@@ -37,9 +37,12 @@ unaryTyping row o b = typingOf row (unaryType (unaryOf o) b)
 unfoldable pub binaryTyping : ℕ → BinaryOperator → ℕ → ℕ → Typing
 binaryTyping row o b c = typingOf row (binaryType (binaryOf o) b c)
 
--- The same by the table's entry.
+-- The same by the table: its entry, where the operands are alike. The one operand of a unary operator is both.
 abbrev pub entryTyping : ℕ → ℕ → Typing
 entryTyping row n = pick (eqb n none) (Typing.Refused (OperandType row)) (Typing.Leaf n)
+
+abbrev pub tableTyping : ℕ → ℕ → ℕ → ℕ → Typing
+tableTyping row o b c = pick (eqb b c) (entryTyping row (tableAt o (columnOf b))) (Typing.Refused (OperandType row))
 
 -- "as an operand its root value counts"; a refused operand has none.
 abbrev pub isRefused : Typing → Bool
@@ -61,6 +64,9 @@ unaryTyped row o x = withBasic (unaryTyping row o) x
 
 abbrev pub binaryTyped : ℕ → BinaryOperator → Typing → Typing → Typing
 binaryTyped row o x y = withBasic (λ b. withBasic (binaryTyping row o b) y) x
+
+abbrev pub operatorTyped : ℕ → ℕ → Typing → Typing → Typing
+operatorTyped row o x y = withBasic (λ b. withBasic (tableTyping row o b) y) x
 
 -- x is what typing found for a B row: the tree at a place of e, a basic type alone, or the refusal placed at the row.
 abbrev pub TypedAs : Environment → ℕ → Typing → Attempt MessageType → Type 0

@@ -5,7 +5,7 @@ ghost use Prim.Native.Nat.{_<_, _≤_};
 ghost use lib.ListN.{length};
 ghost use Rattle.scalar.specs.Basic.{lastBasic};
 ghost use Rattle.check_expressions.specs.Table.{operatorRules, tableAt, unaryRow, binaryRow, columnOf};
-ghost use Rattle.check_expressions.specs.Typings.{entryTyping, unaryTyping, binaryTyping, isRefused, rootTyped, unaryTyped, binaryTyped, ValueTyped, PresenceTyped, TypingTells};
+ghost use Rattle.check_expressions.specs.Typings.{entryTyping, rootTyped, operatorTyped, ValueTyped, PresenceTyped, TypingTells};
 use check_environments::Environment;
 use check_environments::Reading;
 use network_row_parts::BinaryOperator;
@@ -79,32 +79,6 @@ fn looked_up(row: u16, o: usize, c: usize) -> Typing
     Typing::Leaf(b)
 }
 
-fn unary_type(row: u16, o: UnaryOperator, b: u8) -> Typing
-    ensures { λ x. ⌜ x ≡ unaryTyping row o b ⌝ }
-{
-    looked_up(row, unary_row(o), column(b))
-}
-
-// "both alike"
-fn binary_type(row: u16, o: BinaryOperator, b: u8, c: u8) -> Typing
-    ensures { λ x. ⌜ x ≡ binaryTyping row o b c ⌝ }
-{
-    if b != c {
-        return Typing::Refused(Refusal::OperandType(row));
-    }
-    looked_up(row, binary_row(o), column(b))
-}
-
-fn is_refused(x: Typing) -> bool
-    ensures { λ t. ⌜ t ≡ isRefused x ⌝ }
-{
-    match x {
-        Typing::At(_, _) => false,
-        Typing::Leaf(_) => false,
-        Typing::Refused(_) => true,
-    }
-}
-
 // "as an operand its root value counts"; a refused operand has none.
 fn root_basic(x: Typing) -> u8
     ensures { λ b. ⌜ b ≡ rootTyped x ⌝ }
@@ -116,25 +90,23 @@ fn root_basic(x: Typing) -> u8
     }
 }
 
-fn unary(row: u16, o: UnaryOperator, x: Typing) -> Typing
-    ensures { λ z. ⌜ z ≡ unaryTyped row o x ⌝ }
+// The type of an operator's result, by its row of the table. The one operand of a unary operator stands on both sides.
+fn operator_type(row: u16, o: usize, x: Typing, y: Typing) -> Typing
+    requires { ⌜ o < length operatorRules ⌝ }
+    ensures { λ z. ⌜ z ≡ operatorTyped row o x y ⌝ }
 {
-    if is_refused(x) {
+    if let Typing::Refused(_) = x {
         return x;
     }
-    unary_type(row, o, root_basic(x))
-}
-
-fn binary(row: u16, o: BinaryOperator, x: Typing, y: Typing) -> Typing
-    ensures { λ z. ⌜ z ≡ binaryTyped row o x y ⌝ }
-{
-    if is_refused(x) {
-        return x;
-    }
-    if is_refused(y) {
+    if let Typing::Refused(_) = y {
         return y;
     }
-    binary_type(row, o, root_basic(x), root_basic(y))
+    let b = root_basic(x);
+    // "both alike"
+    if b != root_basic(y) {
+        return Typing::Refused(Refusal::OperandType(row));
+    }
+    looked_up(row, o, column(b))
 }
 
 // "A path expression has the tree there and must stand firm"
@@ -167,15 +139,15 @@ pub fn type_of(file: &[u8], e: Environment, r: u16, row: u16) -> Typing
         Part::Presence(p) => presence_type(file, e, p, row),
         Part::Unary(o, a) => {
             let x = type_of(file, e, a, row);
-            unary(row, o, x)
+            operator_type(row, unary_row(o), x, x)
         }
         Part::Binary(o, a, b) => {
             let x = type_of(file, e, a, row);
             if a == b {
-                return binary(row, o, x, x);
+                return operator_type(row, binary_row(o), x, x);
             }
             let y = type_of(file, e, b, row);
-            binary(row, o, x, y)
+            operator_type(row, binary_row(o), x, y)
         }
         Part::Broken => Typing::Refused(Refusal::OperandType(row)),
     }
