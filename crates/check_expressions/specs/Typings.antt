@@ -37,10 +37,12 @@ unaryTyping row o b = typingOf row (unaryType (unaryOf o) b)
 unfoldable pub binaryTyping : ℕ → BinaryOperator → ℕ → ℕ → Typing
 binaryTyping row o b c = typingOf row (binaryType (binaryOf o) b c)
 
--- The same by the table: its entry, where the operands are alike. The one operand of a unary operator is both.
+-- What an entry of the table answers.
 abbrev pub entryTyping : ℕ → ℕ → Typing
 entryTyping row n = pick (eqb n none) (Typing.Refused (OperandType row)) (Typing.Leaf n)
 
+-- What the table's row o answers for operands of two basic types: its entry, where they are "both alike". The one operand of a unary
+-- operator is both.
 abbrev pub tableTyping : ℕ → ℕ → ℕ → ℕ → Typing
 tableTyping row o b c = pick (eqb b c) (entryTyping row (tableAt o (columnOf b))) (Typing.Refused (OperandType row))
 
@@ -55,7 +57,8 @@ rootTyped (Typing.At at b) = b
 rootTyped (Typing.Leaf b) = b
 rootTyped (Typing.Refused why) = none
 
--- An operand's basic type goes on; a refusal stays.
+-- An operand's basic type goes on; a refusal stays. Below: one operand by the rule, two by it, two by the table ("both operands are worked
+-- out").
 abbrev pub withBasic : (ℕ → Typing) → Typing → Typing
 withBasic f x = pick (isRefused x) x (f (rootTyped x))
 
