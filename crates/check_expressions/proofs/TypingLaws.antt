@@ -36,8 +36,8 @@ use Rattle.network_row_parts.specs.declared.Part.{Part}
 use Rattle.check_expressions.specs.declared.Typing.{Typing}
 use Rattle.check_expressions.proofs.Typing as typings
 use Rattle.network_row_parts.specs.Parts.{unaryOf, binaryOf, expressionPart}
-use Rattle.check_expressions.specs.Typings.{typingOf, entryTyping, tableTyping, unaryTyping, binaryTyping, isRefused, rootTyped, withBasic}
-use Rattle.check_expressions.specs.Typings.{unaryTyped, binaryTyped, operatorTyped, TypedAs, ValueTyped, PresenceTyped, TypingTells}
+use Rattle.check_expressions.specs.Typings.{entryTyping, tableTyping, isRefused, rootTyped, withBasic}
+use Rattle.check_expressions.specs.Typings.{operatorTyped, TypedAs, ValueTyped, PresenceTyped, TypingTells}
 use Rattle.network_row_parts.specs.PartLaws.{part-is}
 use Rattle.check_expressions.specs.SmallLaws.{Alone, unary-alone, binary-alone}
 use Rattle.check_expressions.specs.Table.{none, tableAt, operatorRules, tableEntry, unaryRow, binaryRow, columnOf}
@@ -45,14 +45,6 @@ use Rattle.check_expressions.specs.TableLaws.{unlike-refused, column-sma
 use Rattle.check_expressions.specs.TableLaws.{unary-table, binary-alike-table}
 
 -- ---- enums by cases
-
-pub entry-none : (row : ℕ) {n : ℕ} → n ≡ none → Typing.Refused (OperandType row) ≡ entryTyping row n
-entry-none row e = rw (of-eq _ none e) refl
-
-pub entry-some : (row : ℕ) {n : ℕ} → (n ≡ none → ⊥) → Typing.Leaf n ≡ entryTyping row n
-entry-some row {n} h = rw (ne-eqb n none h) refl
-
-pub ruleset entry-laws = (entry-none, entry-some)
 
 given : (x : Typing) → OneOf (0 ∷ 1 ∷ []) (tagOf typings.the-type x) → isRefused x ≡ false
 given (Typing.At at b) k = refl
@@ -67,11 +59,12 @@ module _ (row o : ℕ) (x y : Typing) (k : OneOf (0 ∷ 1 ∷ []) (tagOf typings
   pub unlike : {b c : ℕ} → b ≡ rootTyped x → c ≡ rootTyped y → (b ≡ c → ⊥) → Typing.Refused (OperandType row) ≡ operatorTyped row o x y
   unlike {b} {c} g h n = rw (given x k, given y l, sym g, sym h, ne-eqb b c n) refl
 
-  pub alike : {b c d : ℕ} {z : Typing} → b ≡ rootTyped x → c ≡ rootTyped y → b ≡ c → d ≡ columnOf b → z ≡ entryTyping row (tableAt o d)
-      → z ≡ operatorTyped row o x y
-  alike {b} {c} g h e f i = rw (given x k, given y l, sym g, sym h, of-eq b c e, sym f) i
+  module _ {b c d : ℕ} (g : b ≡ rootTyped x) (h : c ≡ rootTyped y) (e : b ≡ c) (f : d ≡ columnOf b) where
+    pub entry-none : tableAt o d ≡ none → Typing.Refused (OperandType row) ≡ operatorTyped row o x y
+    entry-none n = rw (given x k, given y l, sym g, sym h, of-eq b c e, sym f, of-eq _ none n) refl
 
-pub ruleset operand-laws = (right-refused, unlike, alike)
+    pub entry-some : (tableAt o d ≡ none → ⊥) → Typing.Leaf (tableAt o d) ≡ operatorTyped row o x y
+    entry-some n = rw (given x k, given y l, sym g, sym h, of-eq b c e, sym f, ne-eqb (tableAt o d) none n) refl
 
 -- ---- paths
 
@@ -97,6 +90,17 @@ pub ruleset path-laws = (value-missing, value-firm, presence-in, presence-out)
 
 -- ---- operators
 
+-- What an operator's rule answers: the basic type of the result alone, or a refusal, placed at the B row.
+abbrev typingOf : ℕ → Attempt MessageType → Typing
+typingOf row (fails why) = Typing.Refused (why row)
+typingOf row (yields t) = Typing.Leaf (rootBasic t)
+
+unfoldable unaryTyping : ℕ → UnaryOperator → ℕ → Typing
+unaryTyping row o b = typingOf row (unaryType (unaryOf o) b)
+
+unfoldable binaryTyping : ℕ → BinaryOperator → ℕ → ℕ → Typing
+binaryTyping row o b c = typingOf row (binaryType (binaryOf o) b c)
+
 rule-right : (e : Environment) (row b : ℕ) (r : Attempt MessageType) → Alone b r → TypedAs e row (typingOf row r) r
 rule-right e row b (fails why) h = refl
 rule-right e row b (yields t) h = ap yields (h .0)
@@ -113,7 +117,7 @@ binary-right e row o b c = rule-right e row b (binaryType (binaryOf o) b c) (bin
 
 as-entry : (row b : ℕ) (r : Attempt MessageType) → b ≤ lastBasic → Alone b r → entryTyping row (tableEntry r) ≡ typingOf row r
 as-entry row b (fails why) l h = sym (ap (λ (w : ℕ → Refusal). Typing.Refused (w row)) h)
-as-entry row b (yields t) l h = let m = h .1 l in sym (entry-some row (λ e. omega arith))
+as-entry row b (yields t) l h = let m = h .1 l in rw (ne-eqb (rootBasic t) none (λ e. omega arith)) refl
 
 unary-looked : (row b : ℕ) (o : UnaryOperator) → tableTyping row (unaryRow o) b b ≡ unaryTyping row o b
 unfolding unaryTyping
@@ -135,12 +139,12 @@ binary-looked row b c o = go (eqb b c) refl
         ∙ ap (λ (d : ℕ). typingOf row (binaryType (binaryOf o) b d)) (eq-of b c e)
     go false e = sym (ap (typingOf row) (unlike-refused (binaryOf o) b c e))
 
-unary-by-table : (row : ℕ) (o : UnaryOperator) (x : Typing) → operatorTyped row (unaryRow o) x x ≡ unaryTyped row o x
+unary-by-table : (row : ℕ) (o : UnaryOperator) (x : Typing) → operatorTyped row (unaryRow o) x x ≡ withBasic (unaryTyping row o) x
 unary-by-table row o (Typing.At at b) = unary-looked row b o
 unary-by-table row o (Typing.Leaf b) = unary-looked row b o
 unary-by-table row o (Typing.Refused why) = refl
 
-binary-by-table : (row : ℕ) (o : BinaryOperator) (x y : Typing) → operatorTyped row (binaryRow o) x y ≡ binaryTyped row o x y
+binary-by-table : (row : ℕ) (o : BinaryOperator) (x y : Typing) → operatorTyped row (binaryRow o) x y ≡ withBasic (λ b. withBasic (binaryTyping row o b) y) x
 binary-by-table row o x y = go (isRefused x) (isRefused y)
   where
     go : (s t : Bool) → pick s x (pick t y (tableTyping row (binaryRow o) (rootTyped x) (rootTyped y)))
@@ -161,10 +165,7 @@ unary-row-in o e = rw e (unary-row o .0)
 pub binary-row-in : (o : BinaryOperator) {r : ℕ} → r ≡ binaryRow o → r < length operatorRules
 binary-row-in o e = rw e (binary-row o .0)
 
-pub column-in : (b : ℕ) {c : ℕ} → c ≡ columnOf b → c ≤ lastBasic
-column-in b e = rw e (column-small b)
-
-pub ruleset table-laws = (column-past, column-own, unary-row-in, binary-row-in, column-in)
+pub ruleset table-laws = (unary-row-in, binary-row-in)
 
 -- An operand, then what follows from its basic type.
 after-operand : (e : Environment) (row : ℕ) (x : Typing) (found : Attempt MessageType) (f : ℕ → Typing) (g : ℕ → Attempt MessageType) → TypedAs e row x found
@@ -227,5 +228,3 @@ twice-typed s e r row {x} {o} {a} {b} {y} m n v i f k = binary-typed s e r row m
 
 pub broken-typed : (s : List ℕ) (e : Environment) (r row : ℕ) {x : Part} (y : Typing) → x ≡ expressionPart s r → x ≡ Part.Broken → TypingTells s e r row y
 broken-typed s e r row y p q = record { tells = λ Γ g w l. absurd (part-is s w r l p q) }
-
-pub ruleset type-laws = (constant-typed, value-typed, presence-typed, unary-typed, binary-typed, twice-typed, broken-typed)

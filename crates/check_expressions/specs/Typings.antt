@@ -10,32 +10,17 @@ use Rattle.refusal.specs.declared.Refusal.the-variants.{PathNotFirm, OperandTyp
 use Rattle.scalar.specs.Basic.{bool}
 use Rattle.basics.specs.Choice.{pick}
 use Rattle.network_syntax.specs.Syntax.{Types, MessageType}
-use Rattle.check_subtyping.specs.Subtype.{rootBasic}
-use Rattle.check_typing.specs.Result.{Attempt, fails, yields, demand, refused, withRow}
+use Rattle.check_typing.specs.Result.{Attempt, yields, demand, refused, withRow}
 use Rattle.check_typing.specs.Environment.{isIn, readFirm, basicLeaf}
-use Rattle.check_typing.specs.ExpressionTyping.{unaryType, binaryType, expressionType}
+use Rattle.check_typing.specs.ExpressionTyping.{expressionType}
 use Rattle.network.specs.Form.{WellFormed}
 use Rattle.network.specs.Layout.{pathCount, expressionCount}
 use Rattle.network.specs.Decode.{pathOf, expressionOf}
 use Rattle.check_environments.specs.declared.Environment.{Environment}
 use Rattle.check_environments.specs.Environment.{EnvironmentFor}
 use Rattle.check_environments.specs.Tells.{ReadAt}
-use Rattle.network_row_parts.specs.declared.UnaryOperator.{UnaryOperator}
-use Rattle.network_row_parts.specs.declared.BinaryOperator.{BinaryOperator}
-use Rattle.network_row_parts.specs.Parts.{unaryOf, binaryOf}
 use Rattle.check_expressions.specs.declared.Typing.{Typing}
 use Rattle.check_expressions.specs.Table.{none, tableAt, columnOf}
-
--- What an operator's rule answers: the basic type of the result alone, or a refusal, placed at the B row.
-abbrev pub typingOf : ℕ → Attempt MessageType → Typing
-typingOf row (fails why) = Typing.Refused (why row)
-typingOf row (yields t) = Typing.Leaf (rootBasic t)
-
-unfoldable pub unaryTyping : ℕ → UnaryOperator → ℕ → Typing
-unaryTyping row o b = typingOf row (unaryType (unaryOf o) b)
-
-unfoldable pub binaryTyping : ℕ → BinaryOperator → ℕ → ℕ → Typing
-binaryTyping row o b c = typingOf row (binaryType (binaryOf o) b c)
 
 -- What an entry of the table answers.
 abbrev pub entryTyping : ℕ → ℕ → Typing
@@ -57,16 +42,9 @@ rootTyped (Typing.At at b) = b
 rootTyped (Typing.Leaf b) = b
 rootTyped (Typing.Refused why) = none
 
--- An operand's basic type goes on; a refusal stays. Below: one operand by the rule, two by it, two by the table ("both operands are worked
--- out").
+-- An operand's basic type goes on; a refusal stays. Below: two operands by the table ("both operands are worked out").
 abbrev pub withBasic : (ℕ → Typing) → Typing → Typing
 withBasic f x = pick (isRefused x) x (f (rootTyped x))
-
-abbrev pub unaryTyped : ℕ → UnaryOperator → Typing → Typing
-unaryTyped row o x = withBasic (unaryTyping row o) x
-
-abbrev pub binaryTyped : ℕ → BinaryOperator → Typing → Typing → Typing
-binaryTyped row o x y = withBasic (λ b. withBasic (binaryTyping row o b) y) x
 
 abbrev pub operatorTyped : ℕ → ℕ → Typing → Typing → Typing
 operatorTyped row o x y = withBasic (λ b. withBasic (tableTyping row o b) y) x

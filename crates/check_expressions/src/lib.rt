@@ -1,11 +1,10 @@
 // The type of an expression, given by its E row, in an environment. Operands are earlier rows: the row number falls, so the walk ends on
 // any bytes.
 ghost use mathlib.Core.Path.{_≡_};
-ghost use Prim.Native.Nat.{_<_, _≤_};
+ghost use Prim.Native.Nat.{_<_};
 ghost use lib.ListN.{length};
-ghost use Rattle.scalar.specs.Basic.{lastBasic};
-ghost use Rattle.check_expressions.specs.Table.{operatorRules, tableAt, unaryRow, binaryRow, columnOf};
-ghost use Rattle.check_expressions.specs.Typings.{entryTyping, rootTyped, operatorTyped, ValueTyped, PresenceTyped, TypingTells};
+ghost use Rattle.check_expressions.specs.Table.{operatorRules, unaryRow, binaryRow};
+ghost use Rattle.check_expressions.specs.Typings.{rootTyped, operatorTyped, ValueTyped, PresenceTyped, TypingTells};
 use check_environments::Environment;
 use check_environments::Reading;
 use network_row_parts::BinaryOperator;
@@ -57,28 +56,6 @@ fn binary_row(o: BinaryOperator) -> usize
     }
 }
 
-// A number past the last basic type, which only a broken file has, is looked up as raw, as the rule has it.
-fn column(b: u8) -> usize
-    ensures { λ c. ⌜ c ≡ columnOf b ⌝ }
-{
-    if scalar::LAST_BASIC < b {
-        return scalar::RAW as usize;
-    }
-    b as usize
-}
-
-// The table's entry as a typing.
-fn looked_up(row: u16, o: usize, c: usize) -> Typing
-    requires { ⌜ (o < length operatorRules) × (c ≤ lastBasic) ⌝ }
-    ensures { λ x. ⌜ x ≡ entryTyping row (tableAt o c) ⌝ }
-{
-    let b = OPERATORS[o][c];
-    if b == NONE {
-        return Typing::Refused(Refusal::OperandType(row));
-    }
-    Typing::Leaf(b)
-}
-
 // "as an operand its root value counts"; a refused operand has none.
 fn root_basic(x: Typing) -> u8
     ensures { λ b. ⌜ b ≡ rootTyped x ⌝ }
@@ -106,13 +83,26 @@ fn operator_type(row: u16, o: usize, x: Typing, y: Typing) -> Typing
     if b != root_basic(y) {
         return Typing::Refused(Refusal::OperandType(row));
     }
-    looked_up(row, o, column(b))
+    // A number past the last basic type, which only a broken file has, is looked up as raw, as the rule has it.
+    let mut c = b as usize;
+    if scalar::LAST_BASIC < b {
+        c = scalar::RAW as usize;
+    }
+    let z = OPERATORS[o][c];
+    if z == NONE {
+        return Typing::Refused(Refusal::OperandType(row));
+    }
+    Typing::Leaf(z)
 }
 
 // "A path expression has the tree there and must stand firm"
-fn value_type(file: &[u8], e: Environment, p: u16, row: u16) -> Typing
-    ensures { λ x. ⌜ ValueTyped (now (file .entry)) e p row x ⌝ }
+fn value_type(file: &[u8], bytes: &[u8; 512], len: usize, p: u16, row: u16) -> Typing
+    ensures { λ x. ⌜ ValueTyped (now (file .entry)) (record { bytes = now (bytes .entry); len = len }) p row x ⌝ }
 {
+    let e = Environment {
+        bytes: *bytes,
+        len: len,
+    };
     let Reading::Firm(at, b) = check_environments::read_firm(file, e, p) else {
         return Typing::Refused(Refusal::PathNotFirm(row));
     };
@@ -120,9 +110,13 @@ fn value_type(file: &[u8], e: Environment, p: u16, row: u16) -> Typing
 }
 
 // "Presence needs a path in Γ and gives bool."
-fn presence_type(file: &[u8], e: Environment, p: u16, row: u16) -> Typing
-    ensures { λ x. ⌜ PresenceTyped (now (file .entry)) e p row x ⌝ }
+fn presence_type(file: &[u8], bytes: &[u8; 512], len: usize, p: u16, row: u16) -> Typing
+    ensures { λ x. ⌜ PresenceTyped (now (file .entry)) (record { bytes = now (bytes .entry); len = len }) p row x ⌝ }
 {
+    let e = Environment {
+        bytes: *bytes,
+        len: len,
+    };
     if check_environments::is_in(file, e, p) {
         return Typing::Leaf(scalar::BOOL);
     }
@@ -133,20 +127,27 @@ fn presence_type(file: &[u8], e: Environment, p: u16, row: u16) -> Typing
 pub fn type_of(file: &[u8], e: Environment, r: u16, row: u16) -> Typing
     ensures { λ x. ⌜ TypingTells (now (file .entry)) e r row x ⌝ }
 {
+    typed(file, &e.bytes, e.len, r, row)
+}
+
+// The same with the environment's bytes lent, so that they are not copied for each operand.
+fn typed(file: &[u8], bytes: &[u8; 512], len: usize, r: u16, row: u16) -> Typing
+    ensures { λ x. ⌜ TypingTells (now (file .entry)) (record { bytes = now (bytes .entry); len = len }) r row x ⌝ }
+{
     match network_row_parts::part_of(file, r) {
         Part::Constant(b, _, _) => Typing::Leaf(b),
-        Part::ValueAt(p) => value_type(file, e, p, row),
-        Part::Presence(p) => presence_type(file, e, p, row),
+        Part::ValueAt(p) => value_type(file, bytes, len, p, row),
+        Part::Presence(p) => presence_type(file, bytes, len, p, row),
         Part::Unary(o, a) => {
-            let x = type_of(file, e, a, row);
+            let x = typed(file, bytes, len, a, row);
             operator_type(row, unary_row(o), x, x)
         }
         Part::Binary(o, a, b) => {
-            let x = type_of(file, e, a, row);
+            let x = typed(file, bytes, len, a, row);
             if a == b {
                 return operator_type(row, binary_row(o), x, x);
             }
-            let y = type_of(file, e, b, row);
+            let y = typed(file, bytes, len, b, row);
             operator_type(row, binary_row(o), x, y)
         }
         Part::Broken => Typing::Refused(Refusal::OperandType(row)),
