@@ -9,7 +9,8 @@ use lib.Dec.{leb}
 use Rattle.wire.specs.Wire.{part}
 use Rattle.tree_forest.specs.Forest.{Forest, Tree, tree, Lookup}
 use Rattle.tree_forest.specs.Path.{Path, read}
-use Rattle.scalar.specs.Value.{Value, value, basicOf, isValue}
+use Rattle.scalar.specs.Value.{Value, value, basicOf, isValue, SoundText}
+use Rattle.scalar.specs.ScalarLaws.{read-text}
 use Rattle.basics.specs.Choice.{pick}
 use Rattle.basics.specs.TestLaws.{and-right}
 use Rattle.scalar.specs.Operator.{ofBool}
@@ -83,7 +84,7 @@ module _ (s : List ℕ) (at : ℕ) {i b c m : ℕ} {h : Head} (p : h ≡ bytes.h
   head-value = rw (value-bytes, got p q .basic) (sized s at (got p q .ok) .valid)
 
   pub tree-there : (v : Operand) → valueOf v ≡ value b (part s (at + 5) (m - at - 5)) → StandsAt s at (record { source = Source.At at; root = v })
-  tree-there v e = record { tells = tells }
+  tree-there v e = record { tells = tells; text = read-text v e head-value }
     where
       tells : (j : ℕ) (t : Tree Value) → Root s at j t → StandsFor s (record { source = Source.At at; root = v }) (given t)
       tells j (tree (value d u) ks) w =
@@ -96,8 +97,8 @@ module _ (s : List ℕ) (at : ℕ) {i b c m : ℕ} {h : Head} (p : h ≡ bytes.h
             value = e ∙ rw (value-bytes, root-fields s at j d u ks w .value, y .basic) refl;
           }
 
-pub tree-fault : (s : List ℕ) (at : ℕ) {h : Head} (x : Evaluated) → h ≡ bytes.headAt s at → h ≡ Head.Fault → StandsAt s at x
-tree-fault s at x p q = record { tells = λ i t w. root-unseen s at i t w _ p q }
+pub tree-fault : (s : List ℕ) (at : ℕ) {h : Head} (x : Evaluated) → h ≡ bytes.headAt s at → h ≡ Head.Fault → Computes x missing → StandsAt s at x
+tree-fault s at x p q c = record { tells = λ i t w. root-unseen s at i t w _ p q; text = c .text }
 
 pub ruleset place-laws = (tree-there, tree-fault)
 
@@ -113,19 +114,21 @@ module _ (file s : List ℕ) (p : ℕ) {ids : List ℕ} {y : Found} (d : ids ≡
       (subst (λ (w : Found). Spot s (lastId (pathFromIds ids)) w (read (pathFromIds ids) F)) e h)
 
   pub read-none : (x : Evaluated) → y ≡ Found.Nothing → Computes x missing → Reads file s p x
-  read-none x e c = record { tells = λ F w wf le. stands-as s x (sym (ap found (spot e F w wf le))) (stands-alone s c) }
+  read-none x e c = record { tells = λ F w wf le. stands-as s x (sym (ap found (spot e F w wf le))) (stands-alone s c); text = c .text }
 
   pub read-there : (x : Evaluated) {at : ℕ} → y ≡ Found.At at → StandsAt s at x → Reads file s p x
-  read-there x e c = record { tells = λ F w wf le. let u = spot e F w wf le in stands-as s x (sym (ap found (u .is))) (c .tells _ (u .there) (u .root)) }
+  read-there x e c = record { tells = λ F w wf le. let u = spot e F w wf le in stands-as s x (sym (ap found (u .is))) (c .tells _ (u .there) (u .root)); text = c .text }
 
   pub present-none : (x : Evaluated) → y ≡ Found.Nothing → Computes x (given (ofBool false)) → Presents file s p x
   present-none x e c = record {
     tells = λ F w wf le. stands-as s x (ap (λ (f : Lookup Value). given (leaf (ofBool (isPresent f)))) (sym (spot e F w wf le))) (stands-alone s c);
+    text = c .text;
   }
 
   pub present-there : (x : Evaluated) {at : ℕ} → y ≡ Found.At at → Computes x (given (ofBool true)) → Presents file s p x
   present-there x e c = record {
     tells = λ F w wf le. stands-as s x (ap (λ (f : Lookup Value). given (leaf (ofBool (isPresent f)))) (sym (spot e F w wf le .is))) (stands-alone s c);
+    text = c .text;
   }
 
 pub ruleset path-laws = (read-none, read-there, present-none, present-there)
@@ -195,16 +198,17 @@ module _ (s : List ℕ) (o : Binary) (x y : Evaluated) (a b : Evaluation (Tree V
 
 -- ---- rows
 
-evaluates-as : (file s : List ℕ) (r : ℕ) {x : Evaluated} → ((F : Forest Value) → Encodes sessionLevels sessionNodes s (tree empty F) → WellFormed file
+evaluates-as : (file s : List ℕ) (r : ℕ) {x : Evaluated} → SoundText (valueOf (x .root)) → ((F : Forest Value) → Encodes sessionLevels sessionNodes s (tree empty F) → WellFormed file
     → r < expressionCount file → (e : Expression) × (expressionOf file r ≡ e) × StandsFor s x (evaluate F e)) → Evaluates file s r x
-evaluates-as file s r {x} h = record {
+evaluates-as file s r {x} text h = record {
   tells = λ F g w l. let u = h F g w l in stands-as s x (ap (evaluate F) (sym (u .1))) (u .2);
+  text = text;
 }
 
 pub constant-evaluates : (file s : List ℕ) (r : ℕ) {y : Part} {b v n : ℕ} {x : Evaluated} → y ≡ expressionPart file r → y ≡ Part.Constant b v n
     → Computes x (literal b (dataPart file v n)) → Evaluates file s r x
 unfolding evaluate literal constantFits
-constant-evaluates file s r {y} {b} {v} {n} {x} p q c = evaluates-as file s r (λ F g w l.
+constant-evaluates file s r {y} {b} {v} {n} {x} p q c = evaluates-as file s r (c .text) (λ F g w l.
     let u = part-is file w r l p q in
     let k = and-right (leb (v + n) (dataSize file)) (isValue b (dataPart file v n)) (u .1) in
     (constant (value b (dataPart file v n)), u .0, stands-as s x (ap asLeaf (fits k)) (stands-alone s c)))
@@ -215,19 +219,19 @@ constant-evaluates file s r {y} {b} {v} {n} {x} p q c = evaluates-as file s r (�
 pub value-evaluates : (file s : List ℕ) (r : ℕ) {y : Part} {p : ℕ} {x : Evaluated} → y ≡ expressionPart file r → y ≡ Part.ValueAt p
     → Reads file s p x → Evaluates file s r x
 unfolding evaluate
-value-evaluates file s r {y} {p} {x} m n c = evaluates-as file s r (λ F g w l.
+value-evaluates file s r {y} {p} {x} m n c = evaluates-as file s r (c .text) (λ F g w l.
     let u = part-is file w r l m n in (valueAt (network.pathOf file p), u .0, c .tells F g w (u .1)))
 
 pub presence-evaluates : (file s : List ℕ) (r : ℕ) {y : Part} {p : ℕ} {x : Evaluated} → y ≡ expressionPart file r → y ≡ Part.Presence p
     → Presents file s p x → Evaluates file s r x
 unfolding evaluate
-presence-evaluates file s r {y} {p} {x} m n c = evaluates-as file s r (λ F g w l.
+presence-evaluates file s r {y} {p} {x} m n c = evaluates-as file s r (c .text) (λ F g w l.
     let u = part-is file w r l m n in (presence (network.pathOf file p), u .0, c .tells F g w (u .1)))
 
 pub unary-evaluates : (file s : List ℕ) (r : ℕ) {y : Part} {o : UnaryOperator} {a : ℕ} {x z : Evaluated} → y ≡ expressionPart file r → y ≡ Part.Unary o a
     → Evaluates file s a x → Computes z (unaryOn o x) → Evaluates file s r z
 unfolding evaluate unaryOn
-unary-evaluates file s r {y} {o} {a} {x} {z} m n h c = evaluates-as file s r (λ F g w l.
+unary-evaluates file s r {y} {o} {a} {x} {z} m n h c = evaluates-as file s r (c .text) (λ F g w l.
     let u = part-is file w r l m n in
     let i = u .1 in
     let e = unary-stands s (unaryOf o) x (evaluate F (expressionOf file a)) (h .tells F g w (omega arith)) in
@@ -236,7 +240,7 @@ unary-evaluates file s r {y} {o} {a} {x} {z} m n h c = evaluates-as file s r (λ
 pub binary-evaluates : (file s : List ℕ) (r : ℕ) {y : Part} {o : BinaryOperator} {a b : ℕ} {x t z : Evaluated} → y ≡ expressionPart file r
     → y ≡ Part.Binary o a b → Evaluates file s a x → Evaluates file s b t → Computes z (binaryOn o x t) → Evaluates file s r z
 unfolding evaluate binaryOn
-binary-evaluates file s r {y} {o} {a} {b} {x} {t} {z} m n h k c = evaluates-as file s r (λ F g w l.
+binary-evaluates file s r {y} {o} {a} {b} {x} {t} {z} m n h k c = evaluates-as file s r (c .text) (λ F g w l.
     let u = part-is file w r l m n in
     let i = u .1 in
     let j = u .2 in
@@ -244,7 +248,8 @@ binary-evaluates file s r {y} {o} {a} {b} {x} {t} {z} m n h k c = evaluates-as f
     (k .tells F g w (omega arith)) in
     (binary (binaryOf o) (expressionOf file a) (expressionOf file b), u .0, stands-as s z (ap asLeaf (sym all)) (stands-alone s c)))
 
-pub broken-evaluates : (file s : List ℕ) (r : ℕ) {y : Part} (x : Evaluated) → y ≡ expressionPart file r → y ≡ Part.Broken → Evaluates file s r x
-broken-evaluates file s r x p q = record { tells = λ F g w l. absurd (part-is file w r l p q) }
+pub broken-evaluates : (file s : List ℕ) (r : ℕ) {y : Part} (x : Evaluated) → y ≡ expressionPart file r → y ≡ Part.Broken → Computes x wrongKind
+    → Evaluates file s r x
+broken-evaluates file s r x p q c = record { tells = λ F g w l. absurd (part-is file w r l p q); text = c .text }
 
 pub ruleset row-laws = (constant-evaluates, value-evaluates, presence-evaluates, unary-evaluates, binary-evaluates, broken-evaluates)

@@ -7,10 +7,10 @@ use native.Mathlib.Omega.{arith}
 use lib.ListN.{length, take, drop, length-drop}
 use Rattle.basics.specs.TestLaws.{and-of, apart, told, true-false, untold}
 use Rattle.wire.specs.Wire.{part}
-use Rattle.scalar.specs.Value.{Value, value, basicOf, isValue}
+use Rattle.scalar.specs.Value.{Value, value, basicOf, isValue, SoundText}
 use Rattle.scalar.specs.Operator.{notOf, negateOf, addOf, subtractOf, lessOf, equalOf, andOf}
 use Rattle.scalar.specs.Scalar.{valueOf, valueBeside, answerOf, kindOf, truthOf}
-use Rattle.scalar.specs.ScalarLaws.{basic-kind}
+use Rattle.scalar.specs.ScalarLaws.{basic-kind, plain-text, read-text}
 use Rattle.scalar.specs.declared.Operand.{Operand}
 use Rattle.scalar.specs.declared.Scalar.{Scalar}
 use Rattle.scalar.specs.declared.Computed.{Computed}
@@ -43,9 +43,16 @@ pub answer-gives : (v : Operand) {c : Computed} {y : Scalar} {x : Evaluated} →
 unfolding answerOf
 answer-gives v e f h = computes-as (ap given f ∙ sym (ap (λ (c : Computed). answered (answerOf c)) e)) h
 
+-- Where nothing is given, the root says nothing: it is a scalar with no bytes beside it.
+pub none-missing : (v : Operand) (y : Scalar) → valueOf v ≡ valueBeside y [] → Computes (record { source = Source.Missing; root = v }) missing
+none-missing v y e = record { gives = refl; text = plain-text v y e }
+
+pub none-wrong : (v : Operand) (y : Scalar) → valueOf v ≡ valueBeside y [] → Computes (record { source = Source.Wrong; root = v }) wrongKind
+none-wrong v y e = record { gives = refl; text = plain-text v y e }
+
 -- The root beside a result outside its width has the scalar's kind.
 pub outside-kind : (v : Operand) (y : Scalar) → valueOf v ≡ valueBeside y [] → Computes (record { source = Source.Outside; root = v }) (beyond (kindOf y))
-outside-kind v y e = record { gives = ap beyond (sym (ap basicOf e ∙ basic-kind y [])) }
+outside-kind v y e = record { gives = ap beyond (sym (ap basicOf e ∙ basic-kind y [])); text = plain-text v y e }
 
 pub answer-outside : {c : Computed} {y : Scalar} {x : Evaluated} → c ≡ Computed.Outside y → Computes x (beyond (kindOf y)) → Computes x (answered (answerOf c))
 unfolding answerOf
@@ -166,8 +173,9 @@ kinds-alone Source.Missing j w e f g = apart f
 kinds-alone Source.Wrong j w e f g = apart f
 kinds-alone Source.Outside j w e f g = kind-passes j w g
 
-answer-stays : (x : Evaluated) (w : Evaluation Value) {t : Bool} → t ≡ hasKind (x .source) → not t ≡ true → Computes x (onSource (x .source) w)
-answer-stays x w e f = record { gives = source-stays (x .source) (x .root) w (untold e f) }
+answer-stays : (x : Evaluated) (w : Evaluation Value) {t : Bool} → SoundText (valueOf (x .root)) → t ≡ hasKind (x .source) → not t ≡ true
+    → Computes x (onSource (x .source) w)
+answer-stays x w text e f = record { gives = source-stays (x .source) (x .root) w (untold e f); text = text }
 
 module _ (o : UnaryOperator) (x : Evaluated) {t : Bool} (e : t ≡ isGiven (x .source)) where
   pub unary-gives : {z : Evaluated} (c : Computed) → t ≡ true → answered (answerOf c) ≡ applyUnary (unaryOf o) (valueOf (x .root))
@@ -176,9 +184,9 @@ module _ (o : UnaryOperator) (x : Evaluated) {t : Bool} (e : t ≡ isGiven (x .s
   unary-gives c f g h = computes-as (g ∙ sym (source-gives (x .source) _ (sym e ∙ f))) h
 
   module _ {u : Bool} (f : t ≡ false) (d : u ≡ hasKind (x .source)) where
-    pub unary-stays : not u ≡ true → Computes x (unaryOn o x)
+    pub unary-stays : SoundText (valueOf (x .root)) → not u ≡ true → Computes x (unaryOn o x)
     unfolding unaryOn
-    unary-stays g = answer-stays x _ d g
+    unary-stays text g = answer-stays x _ text d g
 
     pub unary-kind : {z : Evaluated} (c : Computed) → not u ≡ false → answered (answerOf c) ≡ applyUnary (unaryOf o) (valueOf (x .root))
         → Computes z (withoutValue (answered (answerOf c))) → Computes z (unaryOn o x)
@@ -194,14 +202,14 @@ module _ (o : BinaryOperator) (x y : Evaluated) {t : Bool} (e : t ≡ (isGiven (
       computes-as (g ∙ sym (source-gives (x .source) _ (b .0) ∙ source-gives (y .source) _ (b .1))) h
 
   module _ {u : Bool} (f : t ≡ false) (d : u ≡ hasKind (x .source)) where
-    pub left-stays : not u ≡ true → Computes x (binaryOn o x y)
+    pub left-stays : SoundText (valueOf (x .root)) → not u ≡ true → Computes x (binaryOn o x y)
     unfolding binaryOn
-    left-stays g = answer-stays x _ d g
+    left-stays text g = answer-stays x _ text d g
 
     module _ {v : Bool} (g : not u ≡ false) (i : v ≡ hasKind (y .source)) where
-      pub right-stays : not v ≡ true → Computes y (binaryOn o x y)
+      pub right-stays : SoundText (valueOf (y .root)) → not v ≡ true → Computes y (binaryOn o x y)
       unfolding binaryOn
-      right-stays j = computes-as (sym (kind-stays (x .source) (y .source) _ (told d g) (untold i j))) (answer-stays y _ i j)
+      right-stays text j = computes-as (sym (kind-stays (x .source) (y .source) _ (told d g) (untold i j))) (answer-stays y _ text i j)
 
       pub binary-kind : {z : Evaluated} (c : Computed) → not v ≡ false
           → answered (answerOf c) ≡ applyBinary (binaryOf o) (valueOf (x .root)) (valueOf (y .root))
@@ -237,11 +245,14 @@ module _ (s : List ℕ) (at n from len : ℕ) (p : from ≡ clip at (length s)) 
     unfolding literal
     constant-value y e h w c = rw (← part-data, sym e ∙ h) (computes-as (ap given w) c)
 
+    pub constant-text : (y : Operand) {t : Bool} → t ≡ isValue b (part s from len) → t ≡ true → valueOf y ≡ value b (part s from len) → SoundText (valueOf y)
+    constant-text y e h w = read-text y w (sym e ∙ h)
+
     pub constant-none : {t : Bool} {x : Evaluated} → t ≡ isValue b (part s from len) → t ≡ false → Computes x wrongKind → Computes x (literal b (dataPart s v m))
     unfolding literal
     constant-none e h c = rw (← part-data, sym e ∙ h) c
 
-pub ruleset constant-laws = (from-inside, part-inside, constant-value, constant-none)
+pub ruleset constant-laws = (from-inside, part-inside, constant-value, constant-text, constant-none)
 
 -- ---- conditions
 

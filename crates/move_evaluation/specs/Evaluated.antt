@@ -7,7 +7,7 @@ use mathlib.Core.List.{List}
 use Prim.Native.Nat.{ℕ, _<_}
 use Rattle.tree_forest.specs.Forest.{Forest, Tree, tree}
 use Rattle.tree_forest.specs.Path.{read}
-use Rattle.scalar.specs.Value.{Value, value, basicOf, isValue}
+use Rattle.scalar.specs.Value.{Value, value, basicOf, isValue, SoundText}
 use Rattle.basics.specs.Choice.{pick}
 use Rattle.scalar.specs.Operator.{ofBool}
 use Rattle.scalar.specs.Scalar.{valueOf}
@@ -69,8 +69,10 @@ AloneAs Source.Missing v w = w ≡ missing
 AloneAs Source.Wrong v w = w ≡ wrongKind
 AloneAs Source.Outside v w = w ≡ beyond (basicOf (valueOf v))
 
+-- The root is always sound as text.
 pub record Computes (x : Evaluated) (w : Evaluation Value) : Type 0 where
   pub gives : AloneAs (x .source) (x .root) w
+  pub text : SoundText (valueOf (x .root))
 
 -- The tree that was found stands at `at` in the session's tree s, and v is its root value.
 pub record FoundAt (s : List ℕ) (at : ℕ) (v : Operand) (f : Evaluation (Tree Value)) : Type 0 where
@@ -94,15 +96,19 @@ StandsFor s x f = SourceOf s (x .source) (x .root) f
 -- Of a place where a tree stands; of a path and of its presence, by P row; of an expression, by E row. F is the session's tree.
 pub record StandsAt (s : List ℕ) (at : ℕ) (x : Evaluated) : Type 0 where
   pub tells : (i : ℕ) (t : Tree Value) → Root s at i t → StandsFor s x (given t)
+  pub text : SoundText (valueOf (x .root))
 
 pub record Reads (file s : List ℕ) (p : ℕ) (x : Evaluated) : Type 0 where
   pub tells : (F : Forest Value) → Encodes sessionLevels sessionNodes s (tree empty F) → WellFormed file → p < pathCount file
       → StandsFor s x (found (read (pathOf file p) F))
+  pub text : SoundText (valueOf (x .root))
 
 pub record Presents (file s : List ℕ) (p : ℕ) (x : Evaluated) : Type 0 where
   pub tells : (F : Forest Value) → Encodes sessionLevels sessionNodes s (tree empty F) → WellFormed file → p < pathCount file
       → StandsFor s x (given (leaf (ofBool (isPresent (read (pathOf file p) F)))))
+  pub text : SoundText (valueOf (x .root))
 
 pub record Evaluates (file s : List ℕ) (r : ℕ) (x : Evaluated) : Type 0 where
   pub tells : (F : Forest Value) → Encodes sessionLevels sessionNodes s (tree empty F) → WellFormed file → r < expressionCount file
       → StandsFor s x (evaluate F (expressionOf file r))
+  pub text : SoundText (valueOf (x .root))

@@ -4,6 +4,7 @@ ghost use mathlib.Core.Path.{_≡_};
 ghost use mathlib.Core.Bool.{_&&_};
 ghost use Prim.Native.Nat.{_≤_};
 ghost use lib.ListN.{length};
+ghost use Rattle.scalar.specs.Value.{SoundText};
 ghost use Rattle.scalar.specs.Scalar.{answerOf, valueOf, kindOf};
 ghost use Rattle.scalar.specs.Operator.{ofBool};
 ghost use Rattle.network_row_parts.specs.Parts.{unaryOf, binaryOf};
@@ -113,6 +114,7 @@ fn wrong() -> Evaluated
 }
 
 fn alone(v: Operand) -> Evaluated
+    requires { ⌜ SoundText (valueOf v) ⌝ }
     ensures { λ x. ⌜ Computes x (given (valueOf v)) ⌝ }
 {
     Evaluated {
@@ -184,6 +186,7 @@ fn binary_value(o: BinaryOperator, v: Operand, w: Operand) -> Computed
 
 // An operator on an operand's root value. An operand outside its width has its kind, so the operator says whether that is the wrong one.
 fn unary(o: UnaryOperator, x: Evaluated) -> Evaluated
+    requires { ⌜ SoundText (valueOf (x .root)) ⌝ }
     ensures { λ z. ⌜ Computes z (unaryOn o x) ⌝ }
 {
     let p = x.source;
@@ -199,6 +202,7 @@ fn unary(o: UnaryOperator, x: Evaluated) -> Evaluated
 
 // Where a value is missing or a kind is wrong, the left operand's answer comes first, then the right one's, then the operator's.
 fn binary(o: BinaryOperator, x: Evaluated, y: Evaluated) -> Evaluated
+    requires { ⌜ SoundText (valueOf (x .root)) × SoundText (valueOf (y .root)) ⌝ }
     ensures { λ z. ⌜ Computes z (binaryOn o x y) ⌝ }
 {
     let p = x.source;
@@ -323,7 +327,7 @@ pub fn condition(x: Evaluated) -> Decision
 
 // Writes the message of a value alone to the start of out, and gives its length.
 pub fn write_leaf(out: &mut [u8], v: Operand) -> usize
-    requires { ⌜ 21 ≤ length (now out) ⌝ }
+    requires { ⌜ (21 ≤ length (now out)) × SoundText (valueOf v) ⌝ }
     ensures { λ r. ⌜ WritesLeaf v (now (out .entry)) (now (out .exit)) r ⌝ }
 {
     let b = scalar::basic_of(v);
@@ -358,7 +362,7 @@ fn write_tree(out: &mut [u8], s: &[u8], at: usize) -> usize
 
 // Writes what evaluation in the session's tree s gave to the start of out as a tree alone; where nothing is given, the answer stays.
 pub fn write_value(out: &mut [u8], s: &[u8], x: Evaluated) -> Written
-    requires { ⌜ 1024 ≤ length (now out) ⌝ }
+    requires { ⌜ (1024 ≤ length (now out)) × SoundText (valueOf (x .root)) ⌝ }
     ensures { λ r. ⌜ Writes (now (s .entry)) x (now (out .entry)) (now (out .exit)) r ⌝ }
 {
     let p = x.source;

@@ -3,6 +3,8 @@
 ghost use mathlib.Core.Path.{_≡_};
 ghost use Prim.Native.Nat.{_+_, _≤_, _<_};
 ghost use lib.ListN.{length};
+ghost use Rattle.scalar.specs.Value.{SoundText};
+ghost use Rattle.scalar.specs.Scalar.{valueOf};
 ghost use Rattle.refusal.specs.Refusal.{doneWith, refusedBy};
 ghost use Rattle.refusal.specs.declared.Refusal.the-variants.{MoveNotAllowed};
 ghost use Rattle.network.specs.Decode.{behaviourOf};
@@ -117,7 +119,7 @@ fn repeat(file: &[u8], state: &mut [u8], slot: usize, r: u16, e: u16, b: u16) ->
 
 // The tree of the slot's session with the value v set at P row p, in the scratch buffer.
 fn set_root(out: &mut [u8], file: &[u8], state: &[u8], slot: usize, p: u16, v: Operand) -> Change
-    requires { ⌜ (slot + slotSize ≤ length (now state)) × (2304 ≤ length (now out)) ⌝ }
+    requires { ⌜ (slot + slotSize ≤ length (now state)) × (2304 ≤ length (now out)) × SoundText (valueOf v) ⌝ }
     ensures { λ x. ⌜ SetsRoot (now (file .entry)) (now (state .entry)) slot p v (now (out .exit)) x ⌝ }
 {
     let mut leaf = [0u8; 21];
@@ -143,7 +145,7 @@ fn store(state: &mut [u8], slot: usize, r: u16, tree: &[u8], n: u16) -> Outcome
 // Row r assigns the value v to P row p. 18: "an assign .. would take a tree past 48 nodes or 6 levels". A session's tree has 1,013 bytes at
 // most, so the test of its length only keeps the store inside the slot.
 fn assign_value(file: &[u8], state: &mut [u8], slot: usize, r: u16, p: u16, v: Operand) -> Outcome
-    requires { ⌜ (slot + slotSize ≤ length (now state)) × (slot < 65536) × (r < 256) ⌝ }
+    requires { ⌜ (slot + slotSize ≤ length (now state)) × (slot < 65536) × (r < 256) × SoundText (valueOf v) ⌝ }
     ensures { λ o. ⌜ AssignsValue (now (file .entry)) (now (state .entry)) (now (state .exit)) slot r p v o ⌝ }
 {
     let mut tree = [0u8; 2304];
@@ -160,7 +162,7 @@ fn assign_value(file: &[u8], state: &mut [u8], slot: usize, r: u16, p: u16, v: O
 
 // The value that would be assigned to P row p is outside its width, and v is of its kind: 18 as above, then 22.
 fn refuse_value(file: &[u8], state: &[u8], slot: usize, p: u16, v: Operand) -> Outcome
-    requires { ⌜ slot + slotSize ≤ length (now state) ⌝ }
+    requires { ⌜ (slot + slotSize ≤ length (now state)) × SoundText (valueOf v) ⌝ }
     ensures { λ o. ⌜ RefusesValue (now (file .entry)) (now (state .entry)) slot p o ⌝ }
 {
     let mut tree = [0u8; 2304];

@@ -1,4 +1,4 @@
--- A value by its scalar: what it says as a condition, and its basic type. The basic types with arithmetic, and the words of all.
+-- A value by its scalar: what it says as a condition, and its basic type. And the words of basic types.
 use Prim.Native.Nat.{ℕ, zero, suc, _≤_, _<_}
 use native.Mathlib.Omega.{arith}
 use mathlib.Core.Path.{_≡_, refl, sym, ap, subst, _∙_}
@@ -10,18 +10,15 @@ use lib.IntN.{ℤ}
 use lib.Ieee.{Float, binary64, fits}
 use types.Run.{OneOf, miss}
 use denote.Enum.Declared.{tagOf}
-use borrow.Author.Tests.{ne-eqb}
 use mir.Syntax.{w32, w64}
 use Rattle.scalar.specs.declared.Scalar.{Scalar}
 use Rattle.scalar.specs.declared.Truth.{Truth}
 use Rattle.scalar.specs.declared.Operand.{Operand}
 use Rattle.scalar.specs.Basic.{bool, int, double, long, string, raw, void, lastBasic}
-use Rattle.scalar.specs.Value.{SoundValue, BasicType, basicTypes, noType, basicType, wordOf}
+use Rattle.scalar.specs.Value.{basicOf, SoundValue, SoundText, BasicType, basicTypes, noType, basicType, wordOf}
 use Rattle.wire.specs.Wire.{unsignedOf}
-use Rattle.scalar.specs.ValueLaws.{string-short, raw-short, empty-void}
+use Rattle.scalar.specs.ValueLaws.{raw-short, empty-void}
 use Rattle.scalar.specs.NumberLaws.{sound-bool, sound-integer, sound-floating}
-use Rattle.scalar.specs.Operator.{isNumber}
-use Rattle.scalar.specs.OperatorLaws.{number-is}
 use Rattle.scalar.specs.Scalar.{valueOf, valueBeside, beside, truthOf}
 use Rattle.scalar.proofs.Operating.{value-is}
 use Rattle.scalar.proofs.Scalar as S
@@ -74,34 +71,19 @@ module _ (v : Operand) where
   pub kind-void : v .scalar ≡ Scalar.Void → SoundValue void (valueOf v)
   kind-void e = sound-as void e (record { basic = refl; rule = empty-void })
 
+  pub kind-string : SoundText (valueOf v) → v .scalar ≡ Scalar.String → SoundValue string (valueOf v)
+  kind-string h e = let k = ap basicOf (value-is v e) in record { basic = k; rule = h .rule k }
+
   module _ (l : length (v .bytes) ≡ 16) where
     short : length (beside v) ≤ 16
     short = omega (arith, length-take (v .len) (v .bytes))
 
-    pub kind-string : v .scalar ≡ Scalar.String → SoundValue string (valueOf v)
-    kind-string e = sound-as string e (record { basic = refl; rule = string-short (beside v) short })
-
     pub kind-raw : v .scalar ≡ Scalar.Raw → SoundValue raw (valueOf v)
     kind-raw e = sound-as raw e (record { basic = refl; rule = raw-short (beside v) short })
 
-pub ruleset kind-laws = (kind-bool, kind-int, kind-long, kind-void)
+pub ruleset kind-laws = (kind-bool, kind-int, kind-long, kind-string, kind-void)
 
--- ---- numbers and words
-
-pub number-yes : (b : ℕ) → bool < b → b < string → true ≡ isNumber b
-number-yes zero h k = absurd (omega arith)
-number-yes (suc zero) h k = refl
-number-yes (suc (suc zero)) h k = refl
-number-yes (suc (suc (suc zero))) h k = refl
-number-yes (suc (suc (suc (suc b)))) h k = absurd (omega arith)
-
-pub number-none : (b : ℕ) → b < int → false ≡ isNumber b
-number-none zero h = refl
-number-none (suc b) h = absurd (omega arith)
-
-pub number-past : (b : ℕ) → long < b → false ≡ isNumber b
-number-past b h =
-    sym (number-is b ∙ rw (ne-eqb b int (λ e. omega arith), ne-eqb b long (λ e. omega arith), ne-eqb b double (λ e. omega arith)) refl)
+-- ---- words
 
 pub word-is : {b k : ℕ} → b ≡ k → basicType k .word ≡ wordOf b
 unfolding wordOf

@@ -21,7 +21,7 @@ use Rattle.scalar.specs.declared.Operand.{Operand}
 use Rattle.scalar.specs.Value.{Value, value, bytesOf, isValue, integral, basicType}
 use Rattle.wire.specs.Wire.{unsignedOf}
 use Rattle.scalar.specs.Basic.{bool, int, double, long, string, raw, void}
-use Rattle.scalar.specs.ValueLaws.{number-8, number-32, number-64, bool-bytes, integer-bytes, double-bytes, string-bytes, raw-bytes, void-bytes}
+use Rattle.scalar.specs.ValueLaws.{number-8, number-32, number-64, bool-bytes, integer-bytes, double-bytes, void-bytes, value-size}
 use Rattle.scalar.specs.Operator.{bit, signed, integerBytes, doubleOf}
 use Rattle.wire.specs.Wire.{littleEndian}
 use Rattle.scalar.specs.NumberLaws.{part-bytes, bytes-signed, double-same, length-littleEndian, little-32, little-64}
@@ -88,10 +88,10 @@ module _ (s : List ℕ) (at b n : ℕ) (l : at + n ≤ length s) (h : isValue b 
   read-void e r = let k = void-bytes b (part s at n) h e in r ∙ rw (k .0, k .1) refl
 
   pub string-short : b ≡ string → n ≤ 16
-  string-short e = omega (arith, string-bytes b (part s at n) h e, long-enough)
+  string-short e = omega (arith, value-size b (part s at n) h, long-enough)
 
   pub raw-short : b ≡ raw → n ≤ 16
-  raw-short e = omega (arith, raw-bytes b (part s at n) h e, long-enough)
+  raw-short e = omega (arith, value-size b (part s at n) h, long-enough)
 
 -- ---- write
 

@@ -2,8 +2,9 @@
 -- the code is longer than 16 bytes.
 use Prim.Native.Nat.{ℕ, _+_, _≤_}
 use native.Mathlib.Omega.{arith}
-use mathlib.Core.Path.{_≡_, refl, ap, _∙_}
-use mathlib.Core.List.{List, _++_}
+use mathlib.Core.Path.{_≡_, refl, sym, ap, subst, _∙_}
+use mathlib.Core.Bool.{true}
+use mathlib.Core.List.{List, [], _++_}
 use lib.ListN.{length, take, drop, length-take}
 use lib.Ieee.{binary64, toBits}
 use mir.Syntax.{w32, w64}
@@ -15,7 +16,8 @@ use Rattle.scalar.specs.declared.Operand.{Operand}
 use Rattle.scalar.specs.declared.Scalar.{Scalar}
 use Rattle.scalar.specs.declared.Scalar.the-variants.{Bool, Int, Double, Long, String, Raw, Void}
 use Rattle.scalar.specs.NumberLaws.{length-littleEndian}
-use Rattle.scalar.specs.Value.{Value, value, basicOf, bytesOf}
+use Rattle.scalar.specs.Value.{Value, value, basicOf, bytesOf, isValue, SoundText}
+use Rattle.scalar.specs.ValueLaws.{empty-string, value-text}
 use Rattle.scalar.specs.Scalar.{valueBeside, valueOf, beside, kindOf}
 
 -- The kind of a scalar is its value's basic type.
@@ -27,6 +29,22 @@ basic-kind (Long z) t = refl
 basic-kind String t = refl
 basic-kind Raw t = refl
 basic-kind Void t = refl
+
+-- A scalar with no bytes beside it is sound as text, and so is what is read of the bytes of a value.
+plain-sound : (x : Scalar) → SoundText (valueBeside x [])
+plain-sound (Bool b) = record { rule = λ e. absurd (omega arith) }
+plain-sound (Int z) = record { rule = λ e. absurd (omega arith) }
+plain-sound (Double x) = record { rule = λ e. absurd (omega arith) }
+plain-sound (Long z) = record { rule = λ e. absurd (omega arith) }
+plain-sound String = record { rule = λ e. empty-string }
+plain-sound Raw = record { rule = λ e. absurd (omega arith) }
+plain-sound Void = record { rule = λ e. absurd (omega arith) }
+
+pub plain-text : (r : Operand) (x : Scalar) → valueOf r ≡ valueBeside x [] → SoundText (valueOf r)
+plain-text r x h = subst SoundText (sym h) (plain-sound x)
+
+pub read-text : (r : Operand) {b : ℕ} {v : List ℕ} → valueOf r ≡ value b v → isValue b v ≡ true → SoundText (valueOf r)
+read-text r {b} {v} h k = subst SoundText (sym h) (value-text b v k)
 
 -- What `read` gives of the bytes of a value, written to their own place, leaves the slice as it is.
 pub written-back : (s : List ℕ) (at b n : ℕ) (x : Operand) → at + n ≤ length s → valueOf x ≡ value b (part s at n) → withPart s at (bytesOf (valueOf x)) ≡ s

@@ -7,7 +7,7 @@ use Prim.Native.Nat.{ℕ, _%_}
 use lib.ListN.{length, getD}
 use lib.Dec.{eqb, leb}
 use Rattle.wire.specs.Wire.{unsignedOf}
-use Rattle.scalar.specs.Basic.{void}
+use Rattle.scalar.specs.Basic.{string, void}
 use mir.Syntax.{Width, w32, w64}
 
 -- What a node of a message or of a session's tree carries: its basic type and the bytes of its value.
@@ -120,6 +120,10 @@ wordOf b = basicType b .word
 pub record SoundValue (b : ℕ) (x : Value) : Type 0 where
   pub basic : basicOf x ≡ b
   pub rule : isValue b (bytesOf x) ≡ true
+
+-- A string is one by the value rule; of a value of another basic type nothing is asked.
+pub record SoundText (x : Value) : Type 0 where
+  pub rule : basicOf x ≡ string → isValue string (bytesOf x) ≡ true
 
 -- "Writing makes missing steps void."
 abbrev pub voidValue : Value

@@ -2,9 +2,8 @@
 use mathlib.Core.Path.{_≡_, refl, sym, ap, _∙_}
 use mathlib.Core.List.{List, [], _∷_}
 use mathlib.Core.Bool.{Bool, true, false}
-use mathlib.Core.Logic.{_⊎_, ⊎-elim}
 use Prim.Native.Nat.{ℕ, zero, suc, _+_, _*_, _/_, _%_, _≤_, _<_}
-use native.Mathlib.Nat.{add-zero, add-suc, eq-or-lt-of-le}
+use native.Mathlib.Nat.{add-zero, add-suc}
 use native.Mathlib.Omega.{arith}
 use lib.ListN.{length, take, drop, getD, List·getD-eq-default}
 use lib.Seq.{drop-cons}
@@ -15,8 +14,8 @@ use mir.Val.{bits}
 use Rattle.basics.specs.TestLaws.{and-of}
 use Rattle.wire.specs.Wire.{byteAt, u16At, u32At, u64At, part}
 use Rattle.wire.specs.WireLaws.{length-part}
-use Rattle.scalar.specs.Basic.{bool, double, long, string, raw, void, lastBasic}
-use Rattle.scalar.specs.Value.{isValue, isDouble, BasicType, boolType, intType, doubleType, longType, stringType}
+use Rattle.scalar.specs.Basic.{bool, int, double, long, string, raw, void, lastBasic}
+use Rattle.scalar.specs.Value.{value, isValue, isDouble, SoundText, BasicType, boolType, intType, doubleType, longType, stringType}
 use Rattle.scalar.specs.Value.{rawType, voidType, noType, basicTypes, basicType, integral, noArithmetic}
 use Rattle.wire.specs.Wire.{unsignedOf}
 
@@ -37,6 +36,18 @@ every P a i d l s r v n (suc (suc (suc (suc (suc (suc (suc b))))))) = n
 pub past-table : (b : ℕ) (v : List ℕ) → lastBasic < b → isValue b v ≡ false
 unfolding isValue
 past-table b v h = ap (λ (t : BasicType). t .rule v) (List·getD-eq-default basicTypes noType {n = b} (omega arith))
+
+-- A number that is none of the seven is past the last.
+pub past-last : (b : ℕ) → (b ≡ bool → ⊥) → (b ≡ int → ⊥) → (b ≡ double → ⊥) → (b ≡ long → ⊥) → (b ≡ string → ⊥) → (b ≡ raw → ⊥) → (b ≡ void → ⊥)
+    → lastBasic < b
+past-last zero o i d l s r v = absurd (o refl)
+past-last (suc zero) o i d l s r v = absurd (i refl)
+past-last (suc (suc zero)) o i d l s r v = absurd (d refl)
+past-last (suc (suc (suc zero))) o i d l s r v = absurd (l refl)
+past-last (suc (suc (suc (suc zero)))) o i d l s r v = absurd (s refl)
+past-last (suc (suc (suc (suc (suc zero))))) o i d l s r v = absurd (r refl)
+past-last (suc (suc (suc (suc (suc (suc zero)))))) o i d l s r v = absurd (v refl)
+past-last (suc (suc (suc (suc (suc (suc (suc b))))))) o i d l s r v = omega arith
 
 -- A number with a value is a basic type's.
 pub value-basic : (b : ℕ) (v : List ℕ) → isValue b v ≡ true → b ≤ lastBasic
@@ -156,16 +167,13 @@ module _ (s : List ℕ) (at b n : ℕ) (h : at + n ≤ length s) where
   unfolding isValue
   double-long e k = rw (e, length-part s at n h, ne-eqb n 8 k) refl
 
-  string-value : b ≡ string → Says (leb n 16)
+  pub string-value : b ≡ string → Says (leb n 16)
   unfolding isValue
   string-value e = rw (e, length-part s at n h) refl
 
-  raw-value : b ≡ raw → Says (leb n 16)
+  pub raw-value : b ≡ raw → Says (leb n 16)
   unfolding isValue
   raw-value e = rw (e, length-part s at n h) refl
-
-  pub text-value : long < b → b < void → Says (leb n 16)
-  text-value e l = let m : b ≤ raw = omega arith in ⊎-elim raw-value (λ k. string-value (omega arith)) (eq-or-lt-of-le m)
 
   pub void-value : b ≡ void → Says (eqb n 0)
   unfolding isValue
@@ -188,14 +196,6 @@ module _ (b : ℕ) (v : List ℕ) (h : isValue b v ≡ true) where
   double-bytes e =
       let k = and-of (eqb (length v) 8) (isDouble (unsignedOf v)) (rw e at h) in
       (eqb-true (length v) 8 (k .0), k .1)
-
-  pub string-bytes : b ≡ string → length v ≤ 16
-  unfolding isValue
-  string-bytes e = leb-true (length v) 16 (rw e at h)
-
-  pub raw-bytes : b ≡ raw → length v ≤ 16
-  unfolding isValue
-  raw-bytes e = leb-true (length v) 16 (rw e at h)
 
   pub void-bytes : void ≤ b → (b ≡ void) × (v ≡ [])
   unfolding isValue
@@ -220,6 +220,10 @@ pub raw-short : (v : List ℕ) → length v ≤ 16 → isValue raw v ≡ true
 unfolding isValue
 raw-short v h = le-leb (length v) 16 h
 
-pub string-short : (v : List ℕ) → length v ≤ 16 → isValue string v ≡ true
+-- The empty string, and any value by the rule of its basic type, is sound as text.
+pub empty-string : isValue string [] ≡ true
 unfolding isValue
-string-short v h = le-leb (length v) 16 h
+empty-string = refl
+
+pub value-text : (b : ℕ) (v : List ℕ) → isValue b v ≡ true → SoundText (value b v)
+value-text b v h = record { rule = λ e. ap (λ (k : ℕ). isValue k v) (sym e) ∙ h }

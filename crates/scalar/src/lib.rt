@@ -5,9 +5,9 @@ ghost use mathlib.Core.List.{[]};
 ghost use Prim.Native.Nat.{_+_, _≤_, min};
 ghost use lib.ListN.{length, take, drop};
 ghost use lib.Ieee.{binary64, ofBits, toBits, nanBits, lt, eq};
-ghost use Rattle.scalar.specs.Value.{value, bytesOf, isValue, wordOf, SoundValue};
+ghost use Rattle.scalar.specs.Value.{value, bytesOf, isValue, wordOf, SoundValue, SoundText};
 ghost use Rattle.wire.specs.Wire.{part, withPart};
-ghost use Rattle.scalar.specs.Operator.{notOf, negateOf, andOf, addOf, subtractOf, lessOf, equalOf, equalBytes, bit, isNumber};
+ghost use Rattle.scalar.specs.Operator.{notOf, negateOf, andOf, addOf, subtractOf, lessOf, equalOf, equalBytes, bit};
 ghost use Rattle.scalar.specs.Scalar.{valueOf, valueBeside, answerOf, intAnswer, longAnswer, beside, AsPair, truthOf};
 use integer::IntSum;
 use integer::LongSum;
@@ -105,7 +105,8 @@ pub fn value_ok(s: &[u8], at: usize, basic: u8, len: usize) -> bool
             false
         }
         LONG => len == 8,
-        STRING | RAW => len <= 16,
+        STRING => len <= 16,
+        RAW => len <= 16,
         VOID => len == 0,
         _ => false,
     }
@@ -452,8 +453,9 @@ pub fn truth_of(v: Operand) -> Truth
     }
 }
 
-// The basic type of a value.
+// The basic type of a value; the bytes beside a string are to be its text.
 pub fn basic_of(v: Operand) -> u8
+    requires { ⌜ SoundText (valueOf v) ⌝ }
     ensures { λ b. ⌜ SoundValue b (valueOf v) ⌝ }
 {
     let k = v.scalar;
@@ -465,16 +467,6 @@ pub fn basic_of(v: Operand) -> u8
         Scalar::String => STRING,
         Scalar::Raw => RAW,
         Scalar::Void => VOID,
-    }
-}
-
-// "int, long or double"
-pub fn is_number(basic: u8) -> bool
-    ensures { λ t. ⌜ t ≡ isNumber basic ⌝ }
-{
-    match basic {
-        INT | DOUBLE | LONG => true,
-        _ => false,
     }
 }
 

@@ -36,7 +36,7 @@ use Rattle.network_syntax.specs.ViewLaws.{own-row, some-inj}
 use Rattle.soundness.specs.Invariant.{ReplyFits, RepliesFit, AnswersAt, QueuedSound, AllQueued, SessionSound, Sound}
 use Rattle.soundness.specs.SessionLaws.{advance-here, advance-below-branches, once-of, made-of, oneWay-sound, request-sound, queue-sound}
 use Rattle.soundness.specs.StartLaws.{StartedBy, FoundStart, startFrom-found, start-sound}
-use Rattle.soundness.specs.ResultLaws.{Claims, Keeps, goes-keeps, keeps-15, allowed-16, by-require, by-live, sound-set, live-inj}
+use Rattle.soundness.specs.ResultLaws.{Claims, Keeps, nothingSent, goes-keeps, keeps-15, allowed-16, by-require, by-live, sound-set, live-inj}
 use Rattle.soundness.specs.LocalLaws.{permits-one, permits-two, save-goes, suits-destination, suits-none}
 
 -- What fits a type of the file is a message.
@@ -280,8 +280,9 @@ module _ (N : Network) (rows : ℕ) (acc : Accepted N rows) where
   deliver-keeps claims G hG i n x back arr queued f a =
       let msg : Queued = record { operation = i .row; message = x; replyTo = back } in
       by-live N rows claims (G (i .service) n) (λ S. moved (setSlot G (i .service) n (live (withQueue S (S .queue ++ (msg ∷ []))))) [])
-      (λ S e. sound-set N rows G (i .service) n (live (withQueue S (S .queue ++ (msg ∷ [])))) hG
-      (queue-sound N rows acc (i .service) n S (hG .sessions (i .service) n S e) msg (queued-sound i x back arr) (f S e)))
+      (λ S e.
+      let made = queue-sound N rows acc (i .service) n S (hG .sessions (i .service) n S e) msg (queued-sound i x back arr) (f S e) in
+      (sound-set N rows G (i .service) n (live (withQueue S (S .queue ++ (msg ∷ [])))) hG made, nothingSent))
   deliver-keeps claims G hG i n x back arr (starts c k a) f ad =
       goes-keeps N rows claims false (saveWithin G (i .service) n (started c k a back x) []) (λ t. absurd t)
-      (save-goes N rows acc G (i .service) n (started c k a back x) [] hG (started-sound i n c k a x back arr f ad))
+      (save-goes N rows acc G (i .service) n (started c k a back x) hG (started-sound i n c k a x back arr f ad))

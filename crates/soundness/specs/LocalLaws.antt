@@ -45,7 +45,7 @@ use Rattle.network_syntax.specs.ViewLaws.{own-row, some-inj, input-is, local-is
 use Rattle.soundness.specs.Invariant.{ReplyFits, RepliesFit, AnswersAt, QueuedSound, AllQueued, SessionSound, Sound}
 use Rattle.soundness.specs.SessionLaws.{advance-here, advance-below-branches, advance-apart, once-of, made-of, tree-limit, assign-sound, oneWay-sound}
 use Rattle.soundness.specs.SessionLaws.{request-sound, if-sound, while-sound, again-sound, select-sound}
-use Rattle.soundness.specs.ResultLaws.{Claims, claimsOf, Keeps, Goes, goes-keeps, keeps-15, by-require, by-undone, by-session, at-evaluation}
+use Rattle.soundness.specs.ResultLaws.{Claims, claimsOf, Keeps, Goes, nothingSent, goes-keeps, keeps-15, by-require, by-undone, by-session, at-evaluation}
 use Rattle.soundness.specs.ResultLaws.{at-require, at-truth, sound-set}
 use Rattle.soundness.specs.Property3.{localExpression, isBeyond, LeavesRange}
 
@@ -137,11 +137,10 @@ suits-none N rows q to o t e = go to (suits-reply N rows q to o t false e)
 
 module _ (N : Network) (rows : ℕ) (acc : Accepted N rows) where
   -- A session changed and kept within the limits.
-  pub save-goes : (G : State) (q n : ℕ) (S : Session) (out : List ℕ) → Sound N rows G → SessionSound N rows q n S
-      → Goes N rows false (saveWithin G q n S out)
-  save-goes G q n S out h s =
-      at-require N rows false (within (S .tree)) Stuck (moved (setSlot G q n (live S)) out) (tree-limit N rows acc q n S s)
-      (sound-set N rows G q n (live S) h s)
+  pub save-goes : (G : State) (q n : ℕ) (S : Session) → Sound N rows G → SessionSound N rows q n S → Goes N rows false (saveWithin G q n S [])
+  save-goes G q n S h s =
+      at-require N rows false (within (S .tree)) Stuck (moved (setSlot G q n (live S)) []) (tree-limit N rows acc q n S s)
+      (sound-set N rows G q n (live S) h s, nothingSent)
 
   module _ (G : State) (hG : Sound N rows G) (q n : ℕ) (S : Session) (h : SessionSound N rows q n S) where
     abbrev p : Progresses
@@ -153,7 +152,7 @@ module _ (N : Network) (rows : ℕ) (acc : Accepted N rows) where
     assign-goes r x e a t =
         at-evaluation N rows (evaluate (S .tree) e) (λ b. unassigned G q n S x) (assigned G q n S r x) (assign-sound N rows acc q n S h r x e a t)
         (λ b u. at-require N rows true (within (setPayloadAt voidValue x voidValue (S .tree))) Stuck outOfRange u refl)
-        (λ y u. save-goes G q n _ [] hG u)
+        (λ y u. save-goes G q n _ hG u)
 
     pub if-goes : (r : ℕ) (e : Expression) (x y : Behaviour) → Reaches p (ifThenElse r e x y) (h .what) → p r ≡ undone
         → Goes N rows (isBeyond (evaluate (S .tree) e)) (onTruth (evaluate (S .tree) e) (decided G q n S r))
@@ -163,13 +162,13 @@ module _ (N : Network) (rows : ℕ) (acc : Accepted N rows) where
       where
         go : (c : Bool) → SessionSound N rows q n (withProgress S (advance p r (taken 0))) → SessionSound N rows q n (withProgress S (advance p r (taken 1)))
             → Goes N rows false (decided G q n S r c)
-        go true x y = sound-set N rows G q n (live (withProgress S (advance p r (taken 0)))) hG x
-        go false x y = sound-set N rows G q n (live (withProgress S (advance p r (taken 1)))) hG y
+        go true x y = (sound-set N rows G q n (live (withProgress S (advance p r (taken 0)))) hG x, nothingSent)
+        go false x y = (sound-set N rows G q n (live (withProgress S (advance p r (taken 1)))) hG y, nothingSent)
 
     repeated-goes : (r : ℕ) (b : Behaviour) (c : Bool) → SessionSound N rows q n (withProgress S (advance (reopen p b) r (taken 0)))
         → SessionSound N rows q n (withProgress S (advance p r done)) → Goes N rows false (repeated G q n S r b c)
-    repeated-goes r b true x y = sound-set N rows G q n (live (withProgress S (advance (reopen p b) r (taken 0)))) hG x
-    repeated-goes r b false x y = sound-set N rows G q n (live (withProgress S (advance p r done))) hG y
+    repeated-goes r b true x y = (sound-set N rows G q n (live (withProgress S (advance (reopen p b) r (taken 0)))) hG x, nothingSent)
+    repeated-goes r b false x y = (sound-set N rows G q n (live (withProgress S (advance p r done))) hG y, nothingSent)
 
     pub while-goes : (r : ℕ) (e : Expression) (b : Behaviour) → Reaches p (whileDo r e b) (h .what) → p r ≡ undone
         → Goes N rows (isBeyond (evaluate (S .tree) e)) (onTruth (evaluate (S .tree) e) (repeated G q n S r b))
@@ -263,7 +262,7 @@ module _ (N : Network) (rows : ℕ) (acc : Accepted N rows) where
           let eo = same-operation m o k (f .named) (made .1) in
           let no = suits-none N rows q (m .replyTo) (k .operation) (k .suit) (ap (λ (z : Operation). z .twoWay) eo ∙ tw) in
           goes-keeps N rows claims false (receiveMessage G q n S x settled r (message m l)) (λ t. absurd t)
-          (subst (λ (z : Optional Destination). Goes N rows false (saveWithin G q n (after x r m l z) [])) (sym no) (save-goes G q n (after x r m l none) [] hG
+          (subst (λ (z : Optional Destination). Goes N rows false (saveWithin G q n (after x r m l z) [])) (sym no) (save-goes G q n (after x r m l none) hG
           (oneWay-sound N rows acc q n (withProgress S settled) hs r o x (m .message) a u (message-good (m .message) (k .good))
           (subst (λ (z : Operation). Fits (m .message) (z .request)) eo (k .fit)) l (let z = f .fewer in let w = h .few in omega arith) (f .others))))
 
@@ -283,7 +282,7 @@ module _ (N : Network) (rows : ℕ) (acc : Accepted N rows) where
           subst (λ (z : Operation). ReplyFits N z (to .0)) (eo ∙ request-operation same) (subst (RepliesFit N (k .operation)) (to .1) (k .destination)) in
           goes-keeps N rows claims false (receiveMessage G q n S x settled r (message m l)) (λ t. absurd t)
           (subst (λ (z : Optional Destination). Goes N rows false (saveWithin G q n (after x r m l z) [])) (sym (to .1))
-          (save-goes G q n (after x r m l (some (to .0))) [] hG
+          (save-goes G q n (after x r m l (some (to .0))) hG
           (request-sound N rows acc q n (withProgress S settled) hs r o x c d (m .message) (to .0) a u (message-good (m .message) (k .good))
           (subst (λ (z : Operation). Fits (m .message) (z .request)) eo (k .fit)) (to .2) ans l
           (let z = f .fewer in let w = h .few in omega arith) (f .others))))
@@ -384,4 +383,4 @@ module _ (N : Network) (rows : ℕ) (acc : Accepted N rows) where
   pub close-move : (claims : Claims) (G : State) → Sound N rows G → (q n : ℕ) → Keeps N rows claims (closeMove N G q n)
   close-move claims G hG q n =
       by-session N rows claims G q n (λ B S. require (isDone (S .progress) B) MoveNotAllowed (moved (setSlot G q n free) []))
-      (λ B S e eS. by-require N rows claims (isDone (S .progress) B) (moved (setSlot G q n free) []) (λ t. sound-set N rows G q n free hG tt))
+      (λ B S e eS. by-require N rows claims (isDone (S .progress) B) (moved (setSlot G q n free) []) (λ t. (sound-set N rows G q n free hG tt, nothingSent)))

@@ -273,7 +273,7 @@ module _ (file : List ℕ) (acc : AcceptedFile file) where
 
       go : (R : Result) → Keeps N rows (claimsOf N G (t .move)) R → SoundBytes (finish (stateBytes G) (t .out) R .state)
       go (refused why) k = same
-      go (moved G2 out) k = record { state = G2; sound = k; bytes = refl }
+      go (moved G2 out) k = record { state = G2; sound = k .0; bytes = refl }
 
   after-sound : (l : List Turn) → AllGiven l → (s : List ℕ) → SoundBytes s → SoundBytes (after file s l)
   unfolding after AllGiven

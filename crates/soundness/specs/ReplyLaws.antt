@@ -37,7 +37,7 @@ use Rattle.soundness.specs.MadeLaws.{made-at, Plain, plain-request, plai
 use Rattle.network_syntax.specs.ViewLaws.{some-inj, input-is, output-is}
 use Rattle.soundness.specs.Invariant.{SessionSound, Sound}
 use Rattle.soundness.specs.SessionLaws.{once-of, made-of, advance-apart, answer-sound, waiting-sound, waits-received}
-use Rattle.soundness.specs.ResultLaws.{Claims, Keeps, goes-keeps, keeps-15, by-require, by-received, by-waiting, by-session, by-live, by-message}
+use Rattle.soundness.specs.ResultLaws.{Claims, Keeps, replySent, goes-keeps, keeps-15, by-require, by-received, by-waiting, by-session, by-live, by-message}
 use Rattle.soundness.specs.ResultLaws.{live-inj, set-elim, by-pick, keeps-tree, keeps-fit, outside-fit, sound-set}
 use Rattle.soundness.specs.LocalLaws.{save-goes}
 use Rattle.soundness.specs.SendLaws.{decoded-good}
@@ -77,7 +77,7 @@ module _ (N : Network) (rows : ℕ) (acc : Accepted N rows) where
       let ew = w S eS in
       let way = open-reached q n S h r (solicitResponse r o e x) at2 (subst (λ (s : Progress). T (isOpen s)) (sym ew) tt) in
       goes-keeps N rows claims false (saveWithin G q n (withProgress (withTree S (replaceAt voidValue x m (S .tree))) (advance (S .progress) r done)) [])
-      (λ t. absurd t) (save-goes N rows acc G q n (withProgress (withTree S (replaceAt voidValue x m (S .tree))) (advance (S .progress) r done)) [] hG
+      (λ t. absurd t) (save-goes N rows acc G q n (withProgress (withTree S (replaceAt voidValue x m (S .tree))) (advance (S .progress) r done)) hG
       (waiting-sound N rows acc q n S h r o e x m way ew gm f)))
 
   -- The row that waits, found wherever it stands.
@@ -129,7 +129,7 @@ module _ (N : Network) (rows : ℕ) (acc : Accepted N rows) where
             let f = acc .operations (o .row) o fo in
             keeps-tree N rows claims (found (read c (S .tree))) K (u .0) (λ b eb z. absurd z)
             (λ y v. keeps-fit N rows claims y (o .reply) (moved G2 (u32Bytes k ++ messageBytes y)) (v .1) (f .rising .1) (f .smallReply) (v .0)
-            (sound-set N rows G q n (live (withProgress S (advance p r done))) hG (u .1)))
+            (sound-set N rows G q n (live (withProgress S (advance p r done))) hG (u .1), replySent k y (v .1)))
         go (waitingRow q2 n2 r2) t u fo =
             let h2 = sound-set N rows G q n (live (withProgress S (advance p r done))) hG (u .1) in
             let K : Behaviour → Session → Result = λ B2 S2. onWaitingRow q2 S2 (atRow r2 B2)

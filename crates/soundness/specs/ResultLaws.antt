@@ -2,12 +2,13 @@
 use mathlib.Core.Path.{_≡_, refl, sym, ap, subst, _∙_}
 use Prim.Native.Nat.{ℕ, _+_, max}
 use mathlib.Core.Bool.{Bool, true, false, _&&_}
+use mathlib.Core.List.{List, [], _++_}
 use native.Mathlib.Omega.{arith}
 use lib.Dec.{T, eqb, leb, eqb→eq, le→leb}
 use Rattle.tree_forest.specs.Forest.{Tree, tree, Lookup, absent, present, RisingTree, nodes, levels}
 use Rattle.scalar.specs.Basic.{bool}
 use Rattle.scalar.specs.Value.{Value, value, basicOf}
-use Rattle.wire.specs.Wire.{unsignedOf}
+use Rattle.wire.specs.Wire.{unsignedOf, u32Bytes}
 use Rattle.basics.specs.Choice.{pick}
 use Rattle.basics.specs.TestLaws.{and-i, and-r, not-T-false, of-T}
 use Rattle.network_syntax.specs.Syntax.{MessageType, Optional, none, some, Network, Operation, Behaviour}
@@ -21,6 +22,7 @@ use Rattle.check_typing.specs.EnvironmentLaws.{sums, maxima}
 use Rattle.check_typing.specs.TypedLaws.{by-bool}
 use Rattle.tree_forest.specs.Limits.{messageLevelsBelow, messageNodesBelow}
 use Rattle.state.specs.Session.{Destination, Progress, undone, done, waits, received, taken, Session, Slot, free, live, State, setSlot}
+use Rattle.state.specs.Bytes.{messageBytes}
 use Rattle.state.specs.Shape.{behaviourIn}
 use Rattle.move_rules.specs.Evaluation.{Evaluation, missing, wrongKind, beyond, given}
 use Rattle.move_rules.specs.Moves.{Result, refused, moved, notAllowed, require, outOfRange, onEvaluation, onTree, rootValue, onBool, onTruth, onLive}
@@ -79,17 +81,25 @@ set-elim G q n x i j y f g e =
     (λ u. g (sym (ap (λ (b : Bool). pick b x (G i j)) (not-T-false (eqb j n) u)) ∙ e1)))
     (λ t. g (sym (ap (λ (b : Bool). pick b (pick (eqb j n) x (G i j)) (G i j)) (not-T-false (eqb i q) t)) ∙ e))
 
+-- What a move from fresh writes out: nothing; a message, every value of which is one of its basic type; or such a message after a reply
+-- number.
+pub data Sent : List ℕ → Type 0 where
+  nothingSent : Sent []
+  messageSent : (m : Tree Value) → GoodTree m → Sent (messageBytes m)
+  replySent : (k : ℕ) (m : Tree Value) → GoodTree m → Sent (u32Bytes k ++ messageBytes m)
+
 module _ (N : Network) (rows : ℕ) where
+  -- It is refused as claimed, or made: the state after it is sound, and so is what it writes out.
   abbrev pub Keeps : Claims → Result → Type 0
   Keeps claims (refused why) = Tolerated claims why
-  Keeps claims (moved G out) = Sound N rows G
+  Keeps claims (moved G out) = Sound N rows G × Sent out
 
   -- It is made, and the state after it is sound; with a result that is beyond (`past`) it is refused with 22 instead.
   abbrev pub Goes : Bool → Result → Type 0
   Goes true (refused why) = why ≡ OutOfRange
   Goes true (moved G out) = ⊥
   Goes false (refused why) = ⊥
-  Goes false (moved G out) = Sound N rows G
+  Goes false (moved G out) = Sound N rows G × Sent out
 
   pub goes-keeps : (claims : Claims) (past : Bool) (r : Result) → (T past → claims .cause) → Goes past r → Keeps claims r
   goes-keeps claims true (refused why) f g = subst (Tolerated claims) (sym g) (allowed-22 claims (f tt))

@@ -48,7 +48,7 @@ module _ (file : List ℕ) (acc : AcceptedFile file) where
   state-after-sound : (claims : Claims) (G : State) → Sound N (behaviourCount file) G → (R : Result) → Keeps N (behaviourCount file) claims R
       → Sound N (behaviourCount file) (stateAfter G R)
   state-after-sound claims G h (refused why) k = h
-  state-after-sound claims G h (moved G2 bytes) k = k
+  state-after-sound claims G h (moved G2 bytes) k = k .0
 
   pub numbers-on-bytes : (l : List Turn) → AllGiven l → AllRoomy l → (G : State) → Sound N (behaviourCount file) G
       → numbersOnBytes file (stateBytes G) l ≡ numbers N G l

@@ -43,7 +43,7 @@ use Rattle.soundness.specs.MadeLaws.{made-at, plain-solicit, reaches-atR
 use Rattle.network_syntax.specs.ViewLaws.{some-inj, output-is}
 use Rattle.soundness.specs.Invariant.{RepliesFit, SessionSound, Sound}
 use Rattle.soundness.specs.SessionLaws.{once-of, made-of, notification-sound, solicit-sound}
-use Rattle.soundness.specs.ResultLaws.{Claims, claimsOf, Keeps, keeps-15, by-require, by-undone, by-session, by-operation, by-message}
+use Rattle.soundness.specs.ResultLaws.{Claims, claimsOf, Keeps, messageSent, keeps-15, by-require, by-undone, by-session, by-operation, by-message}
 use Rattle.soundness.specs.ResultLaws.{live-inj, set-elim, by-pick, keeps-tree, keeps-fit, outside-fit, sound-set}
 use Rattle.soundness.specs.Property3.{outputExpression, isBeyond, LeavesRange}
 use Rattle.soundness.specs.LocalLaws.{permits-one, permits-two, permits-output, message-good, leaves-range}
@@ -126,7 +126,7 @@ module _ (N : Network) (rows : ℕ) (acc : Accepted N rows) where
         let K : Tree Value → Result = λ x. mustFit x (o .request) (moved G2 (messageBytes x)) in
         by-require N rows claims (eqb to 0) (onTree (evaluate (S .tree) e) K)
         (λ t. keeps-tree N rows claims (evaluate (S .tree) e) K g cause
-        (λ y k. keeps-fit N rows claims y (o .request) (moved G2 (messageBytes y)) (k .1) (fo2 .rising .0) (fo2 .smallRequest) (k .0) h2)))
+        (λ y k. keeps-fit N rows claims y (o .request) (moved G2 (messageBytes y)) (k .1) (fo2 .rising .0) (fo2 .smallRequest) (k .0) (h2, messageSent y (k .1)))))
       where
         cause : (b : ℕ) → evaluate (S .tree) e ≡ beyond b → Unit {0} → claims .cause
         cause b eb u = c (subst (λ (z : Evaluation (Tree Value)). T (isBeyond z)) (sym eb) tt)

@@ -40,7 +40,7 @@ read-requires : tie.Need-read-requires
 read-requires c κs = (search constant-laws depth 12, cc)
 
 alone-requires : tie.Need-alone-requires
-alone-requires c κs = search needs
+alone-requires c κs = search constant-laws depth 12
 
 returns : tie.Need-returns
 returns c = search constant-laws depth 12

@@ -1,5 +1,5 @@
 use Rattle.scalar.proofs.ByScalar.{kind-laws}
-use Rattle.scalar.proofs.ByScalar.{kind-double, kind-string, kind-raw}
+use Rattle.scalar.proofs.ByScalar.{kind-double, kind-raw}
 use mathlib.Core.Path.{_≡_}
 use lib.Dec.{T}
 use lib.ListN.{length}
@@ -48,10 +48,7 @@ returns-4 : tie.Need-returns-4
 returns-4 c = search kind-laws depth 12
 
 returns-5 : tie.Need-returns-5
-returns-5 c =
-    let a = c .before .before .args in
-    let l : length (a .v .bytes) ≡ 16 = search needs in
-    kind-string (a .v) l (c .enum-told4 .given .1)
+returns-5 c = search kind-laws depth 12
 
 returns-6 : tie.Need-returns-6
 returns-6 c =

@@ -1,7 +1,7 @@
 use native.Mathlib.Omega.{arith}
 use mathlib.Core.Path.{refl}
 use mir.Syntax.{w32, w64}
-use Rattle.scalar.specs.ValueLaws.{bool-value, bool-long, integer-value, double-plain, double-nan, double-long, text-value, void-value, no-value}
+use Rattle.scalar.specs.ValueLaws.{bool-value, bool-long, integer-value, double-plain, double-nan, double-long, string-value, raw-value, void-value, no-value, past-last}
 use borrow.Author.Needs.{needs}
 use Rattle.scalar.proofs.value_ok.Statement.{statement}
 use Rattle.scalar.proofs.value_ok.Tie as tie
@@ -48,13 +48,20 @@ returns-7 : tie.Need-returns-7
 returns-7 c = let a = c .before .before in integer-value (a .args .s .now) (a .args .at) (a .args .basic) (a .args .len) (a .pre) w64 (rw (c .match .keys4) refl)
 
 returns-8 : tie.Need-returns-8
-returns-8 c = let a = c .before .before in void-value (a .args .s .now) (a .args .at) (a .args .basic) (a .args .len) (a .pre) (c .match .keys5)
+returns-8 c = let a = c .before .before in string-value (a .args .s .now) (a .args .at) (a .args .basic) (a .args .len) (a .pre) (c .match .keys5)
 
 returns-9 : tie.Need-returns-9
-returns-9 c = let a = c .before .before .before in text-value (a .args .s .now) (a .args .at) (a .args .basic) (a .args .len) (a .pre) (omega arith) (omega arith)
+returns-9 c = let a = c .before .before in raw-value (a .args .s .now) (a .args .at) (a .args .basic) (a .args .len) (a .pre) (c .match .keys6)
 
 returns-10 : tie.Need-returns-10
-returns-10 c = let a = c .before .before .before in no-value (a .args .s .now) (a .args .at) (a .args .basic) (a .args .len) (a .pre) (omega arith)
+returns-10 c = let a = c .before .before in void-value (a .args .s .now) (a .args .at) (a .args .basic) (a .args .len) (a .pre) (c .match .keys7)
+
+returns-11 : tie.Need-returns-11
+returns-11 c =
+    let a = c .before .before in
+    let r = c .match .rest in
+    let past = past-last (a .args .basic) (r .0 .0 .0 .0 .0 .0 .1) (r .0 .0 .0 .0 .0 .1) (r .0 .0 .0 .0 .1) (r .0 .0 .0 .1) (r .0 .0 .1) (r .0 .1) (r .1) in
+    no-value (a .args .s .now) (a .args .at) (a .args .basic) (a .args .len) (a .pre) past
 
 pub value-ok-spec : {M : Type 1} → statement M
 value-ok-spec =
@@ -71,4 +78,5 @@ value-ok-spec =
     returns-7
     returns-8
     returns-9
-    returns-10)
+    returns-10
+    returns-11)

@@ -1,0 +1,34 @@
+-- What the code looks at: how many octets follow the first one of a character, in which range the second lies, and whether octets lie in
+-- their ranges.
+use mathlib.Core.List.{List, [], _∷_}
+use mathlib.Core.Bool.{Bool, true, false, _&&_}
+use Prim.Native.Nat.{ℕ, zero, suc}
+use lib.Dec.{ltb, eqb}
+use lib.ListN.{replicate}
+use Rattle.basics.specs.Choice.{pick}
+use Rattle.utf8.specs.Utf8.{Range, range, inRange, tail}
+
+-- How many octets follow a first one; 4 where the octet begins no character.
+abbrev pub countAfter : ℕ → ℕ
+countAfter a =
+    pick (ltb a 0x80) 0
+    (pick (ltb a 0xC2) 4 (pick (ltb a 0xE0) 1 (pick (ltb a 0xF0) 2 (pick (ltb a 0xF5) 3 4))))
+
+-- The least second octet after a first one.
+abbrev pub leastAfter : ℕ → ℕ
+leastAfter a = pick (eqb a 0xE0) 0xA0 (pick (eqb a 0xF0) 0x90 0x80)
+
+-- The greatest second octet after a first one.
+abbrev pub mostAfter : ℕ → ℕ
+mostAfter a = pick (eqb a 0xED) 0x9F (pick (eqb a 0xF4) 0x8F 0xBF)
+
+-- The ranges of n octets after a first one.
+abbrev pub rangesAfter : ℕ → ℕ → List Range
+rangesAfter zero a = []
+rangesAfter (suc n) a = range (leastAfter a) (mostAfter a) ∷ replicate n tail
+
+-- Do the octets begin with one in each of the ranges?
+abbrev pub follows : List Range → List ℕ → Bool
+follows [] v = true
+follows (r ∷ rs) [] = false
+follows (r ∷ rs) (a ∷ v) = inRange r a && follows rs v
