@@ -86,8 +86,6 @@ presence-out s e p row h f = record {
   tells = λ Γ g w l. ap (λ (t : Bool). withRow row (demand t PathNotFirm (yields (basicLeaf bool)))) (sym (h .tells Γ g w l) ∙ f);
 }
 
-pub ruleset path-laws = (value-missing, value-firm, presence-in, presence-out)
-
 -- ---- operators
 
 -- What an operator's rule answers: the basic type of the result alone, or a refusal, placed at the B row.

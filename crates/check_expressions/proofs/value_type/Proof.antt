@@ -1,4 +1,4 @@
-use Rattle.check_expressions.proofs.TypingLaws.{path-laws}
+use Rattle.check_expressions.proofs.TypingLaws.{value-missing, value-firm}
 use native.Mathlib.Omega.{arith}
 use borrow.Author.Needs.{needs}
 use Rattle.check_expressions.proofs.value_type.Statement.{statement}
@@ -17,10 +17,10 @@ enum-told : tie.Need-enum-told
 enum-told c = search needs
 
 returns : tie.Need-returns
-returns c = search path-laws depth 12
+returns c = value-missing _ _ _ _ (c .before .before .read-firm .ensures) (c .enum-told .given .1)
 
 returns-2 : tie.Need-returns-2
-returns-2 c = search path-laws depth 12
+returns-2 c = value-firm _ _ _ _ (c .before .before .before .read-firm .ensures) (c .before .at .given .1)
 
 pub value-type-spec : {M : Type 1} → statement M
 value-type-spec = tie.close (tie.spec read-firm-requires enum-known-at enum-told returns returns-2)
