@@ -2,8 +2,10 @@
 
 use second::tables::{BehaviourRow, ExpressionRow, ServiceRow, Tables, TypeRow, LONGEST};
 use second::value::NAN_BITS;
+use second::Basic;
 
 use crate::random::Random;
+use crate::strings;
 
 /// Files that have no rows worth the name.
 pub fn odd_bytes(random: &mut Random) -> Vec<u8> {
@@ -135,10 +137,35 @@ fn field(random: &mut Random, tables: &mut Tables) {
     }
 }
 
+/// Constants that are broken text, in one or two rows of string constants or a new row.
+pub fn strings(random: &mut Random, tables: &mut Tables) {
+    for _ in 0..if random.one_in(6) { 2 } else { 1 } {
+        let row = broken_string(random, &mut tables.data);
+        let alike = |other: &&mut ExpressionRow| (other.kind, other.basic) == (row.kind, row.basic);
+        let mut constants: Vec<&mut ExpressionRow> = tables.expressions.iter_mut().filter(alike).collect();
+        if let Some(constant) = pick(random, &mut constants) {
+            **constant = row;
+        } else if tables.expressions.len() < 256 {
+            tables.expressions.push(row);
+        }
+    }
+}
+
+/// A constant of broken text; now and then bytes beside it that would mend a lone tail or a cut character.
+fn broken_string(random: &mut Random, data: &mut Vec<u8>) -> ExpressionRow {
+    let text = strings::broken(random);
+    let beside = random.one_in(3);
+    data.extend(beside.then_some(0xC3));
+    let fields = [data.len() as u16, text.len() as u16, 0];
+    data.extend(text);
+    data.extend([0x80; 3].iter().filter(|_| beside));
+    ExpressionRow { kind: 0, basic: Basic::String.byte(), fields }
+}
+
 /// Constants whose bytes, start or length are wrong.
 fn data(random: &mut Random, tables: &mut Tables) {
     let start = tables.data.len() as u16;
-    let row = match random.below(4) {
+    let row = match random.below(5) {
         0 => {
             tables.data.extend((NAN_BITS | (1 + random.below(1 << 20) as u64)).to_le_bytes());
             ExpressionRow { kind: 0, basic: 2, fields: [start, 8, 0] }
@@ -148,6 +175,7 @@ fn data(random: &mut Random, tables: &mut Tables) {
             ExpressionRow { kind: 0, basic: 0, fields: [start, 1, 0] }
         }
         2 => ExpressionRow { kind: 0, basic: random.below(7) as u8, fields: [start, random.below(2) as u16, 0] },
+        3 => broken_string(random, &mut tables.data),
         _ => {
             ExpressionRow { kind: 0, basic: 4 + random.below(3) as u8, fields: [start + random.below(2) as u16, 0, 0] }
         }
@@ -176,7 +204,7 @@ pub fn links(random: &mut Random, tables: &mut Tables) {
         3 => {
             // A choice with more branches than it may have, or none.
             if let Some(row) = tables.behaviours.iter_mut().find(|row| row.kind == 10) {
-                row.fields[1] = *random.pick(&[0, 9, 65_535, row.fields[1] + 1]).expect("four");
+                row.fields[1] = *random.pick(&[0, 0, 9, 65_535, row.fields[1] + 1]).expect("five");
             }
         }
         4 => nine_branches(random, tables),

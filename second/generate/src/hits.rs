@@ -10,11 +10,16 @@ use second::{Basic, Cause, Environment, Network, Refusal, ServiceEnvironments};
 
 use crate::messages::Damage;
 use crate::nests;
+use crate::strings::{held, StringHits};
 
 /// Each name was to be hit often enough.
 pub struct Hits {
     counts: BTreeMap<String, usize>,
+    strings: StringHits,
 }
+
+/// Where strings stand.
+const PLACES: [&str; 2] = ["constant", "message"];
 
 /// Fields that can be the lowest to break a rule, by section and offset in the row. A path's second
 /// id can not: it breaks its rule only where the first id is 0.
@@ -91,7 +96,8 @@ impl Default for Hits {
         names.extend(READS.map(|read| format!("message: {read}")));
         names.extend(Basic::ALL.map(|basic| format!("message: a part of type {}", basic.name())));
         names.extend(Damage::ALL.map(|damage| format!("message: damaged, {damage:?}")));
-        Hits { counts: names.into_iter().map(|name| (name, 0)).collect() }
+        let counts = names.into_iter().map(|name| (name, 0)).collect();
+        Hits { counts, strings: StringHits::at(&PLACES) }
     }
 }
 
@@ -108,7 +114,7 @@ impl fmt::Display for Hits {
         for (name, count) in &self.counts {
             writeln!(f, "{count:8}  {name}")?;
         }
-        Ok(())
+        write!(f, "{}", self.strings)
     }
 }
 
@@ -125,7 +131,8 @@ impl Hits {
 
     /// Names that were hit less often.
     pub fn below(&self, least: usize) -> Vec<&str> {
-        self.counts.iter().filter(|(_, &count)| count < least).map(|(name, _)| name.as_str()).collect()
+        let few = self.counts.iter().filter(|(_, &count)| count < least).map(|(name, _)| name.as_str());
+        few.chain(self.strings.below(least)).collect()
     }
 
     /// Names of files only, or of messages only.
@@ -140,6 +147,27 @@ impl Hits {
         }
         if let Ok(network) = Network::read(file) {
             self.nests(&network, if verdict.is_ok() { "accepted" } else { "refused by 6 to 13" });
+        }
+        self.constants(file);
+    }
+
+    /// The string constants of a file that passes 2 to 5 but for them.
+    fn constants(&mut self, file: &[u8]) {
+        let constants = held::in_constants(file);
+        let mut mended = file.to_vec();
+        held::mend(&mut mended, &constants);
+        if Network::read(&mended).is_ok() {
+            self.strings.hit(0, &held::seen(file, &constants));
+        }
+    }
+
+    /// The strings of a message that has a part at the path but for them.
+    fn message_strings(&mut self, message: &[u8], ids: [u16; 4]) {
+        let strings = held::in_nodes(message);
+        let mut mended = message.to_vec();
+        held::mend(&mut mended, &strings);
+        if !second::part_range(&mended, ids).is_empty() {
+            self.strings.hit(1, &held::seen(message, &strings));
         }
     }
 
@@ -311,6 +339,7 @@ impl Hits {
     }
 
     pub fn message(&mut self, message: &[u8], ids: [u16; 4], damage: Option<Damage>) {
+        self.message_strings(message, ids);
         let Some(nodes) = second::message::nodes(message) else {
             self.hit("message: a malformed message".into());
             if let Some(damage) = damage {

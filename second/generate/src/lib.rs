@@ -11,15 +11,27 @@ pub mod nests;
 pub mod networks;
 pub mod operators;
 pub mod random;
+pub mod strings;
 pub mod walks;
 
 pub use hits::Hits;
 pub use random::Random;
 
+use networks::Blunder;
+
 /// A file with one mistake, made where it can be made.
 pub fn blunder(random: &mut Random) -> Vec<u8> {
-    let blunder = random.pick(&networks::Blunder::ALL).copied();
-    networks::tables(random, 0, blunder).write()
+    let blunder = some_blunder(random);
+    networks::tables(random, 0, Some(blunder)).write()
+}
+
+/// Any mistake; more often the one that has a place most seldom.
+fn some_blunder(random: &mut Random) -> Blunder {
+    if random.one_in(8) {
+        Blunder::AssignOptionalParent
+    } else {
+        *random.pick(&Blunder::ALL).expect("a blunder")
+    }
 }
 
 /// One network file: most are right or nearly so, the others are damaged on purpose.
@@ -35,13 +47,14 @@ pub fn file(random: &mut Random) -> Vec<u8> {
         7 | 8 => 30,
         _ => 100,
     };
-    let blunder = random.one_in(3).then(|| *random.pick(&networks::Blunder::ALL).expect("a blunder"));
+    let blunder = random.one_in(3).then(|| some_blunder(random));
     let mut tables = networks::tables(random, careless, blunder);
     match random.below(20) {
         0..=4 => damage::rows(random, &mut tables),
         5 => damage::links(random, &mut tables),
         6 => damage::sizes(random, &mut tables),
         7 => damage::wild(random, &mut tables),
+        8 => damage::strings(random, &mut tables),
         _ => {}
     }
     let mut file = tables.write();

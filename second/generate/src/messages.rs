@@ -5,6 +5,7 @@ use second::Basic;
 
 use crate::networks::value;
 use crate::random::Random;
+use crate::strings::held::{break_one, in_nodes};
 
 /// A node of a message before it is written.
 struct Tree {
@@ -64,7 +65,7 @@ impl Damage {
     };
 }
 
-/// A message, right or damaged, and a path.
+/// A message, right or damaged, and a path; now and then a string of it is broken.
 pub fn message(random: &mut Random) -> (Vec<u8>, [u16; 4], Option<Damage>) {
     let damage = random.one_in(3).then(|| Damage::ALL[random.below(13)]);
     let (nodes, levels) = match damage {
@@ -77,6 +78,10 @@ pub fn message(random: &mut Random) -> (Vec<u8>, [u16; 4], Option<Damage>) {
     let mut bytes = Vec::new();
     apply(random, &mut tree, damage);
     tree.write(&mut bytes);
+    if random.one_in(8) {
+        let strings = in_nodes(&bytes);
+        break_one(random, &mut bytes, &strings);
+    }
     apply_to_bytes(random, &mut bytes, damage);
     (bytes, ids, damage)
 }

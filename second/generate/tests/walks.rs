@@ -1,6 +1,7 @@
-//! Walks reach everything that they count, and none from fresh breaks property 3.
+//! Walks reach everything that they count, go on from well-formed strings alone, and none from fresh breaks property 3.
 
 use generate::damage;
+use generate::strings::held::{in_constants, in_queues, in_trees, seen};
 use generate::walks::choose::any_move;
 use generate::walks::{meetings, property, Walk, WalkHits};
 use generate::Random;
@@ -28,6 +29,7 @@ fn everything_is_hit() {
 fn walk(random: &mut Random, hits: &mut WalkHits) {
     let mut walk = Walk::begin(random);
     let accepted = second::check(&walk.file).is_ok();
+    assert!(!seen(&walk.file, &in_constants(&walk.file)).is_broken());
     for _ in 0..walk.moves {
         let call = walk.call(random);
         let mut state = call.state.clone();
@@ -43,6 +45,8 @@ fn walk(random: &mut Random, hits: &mut WalkHits) {
             assert_eq!(broken, None, "{:?}", call.named);
         }
         walk.made(&call, state);
+        let [trees, queues] = [in_trees(&walk.state), in_queues(&walk.state)];
+        assert!(!seen(&walk.state, &[trees, queues].concat()).is_broken(), "{:?}", call.named);
     }
     if walk.from_fresh {
         hits.feature(true, "a walk from fresh");

@@ -44,7 +44,9 @@ fn behaviour_line(behaviour: &Behaviour) -> String {
     match behaviour {
         Behaviour::Nil => "nil".to_string(),
         Behaviour::OneWay { operation, .. } => format!("one-way, operation {operation}"),
-        Behaviour::RequestResponse { operation, body, .. } => format!("request-response, operation {operation}, body {body}"),
+        Behaviour::RequestResponse { operation, body, .. } => {
+            format!("request-response, operation {operation}, body {body}")
+        }
         Behaviour::Notification { operation, .. } => format!("notification, operation {operation}"),
         Behaviour::SolicitResponse { operation, .. } => format!("solicit-response, operation {operation}"),
         Behaviour::If { then, otherwise, .. } => format!("if, then {then}, else {otherwise}"),

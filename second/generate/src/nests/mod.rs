@@ -256,20 +256,23 @@ pub fn some(random: &mut Random) -> Nest {
         1 => Leaf::ALL[random.below(15)],
         _ => Leaf::ALL[random.between(10, 14)],
     };
-    ending(random, leaf)
+    let level = Level::ALL[random.below(10)];
+    ending(random, level, leaf)
 }
 
-/// A nest at whose end there is something to do.
+/// A nest at whose end there is something to do: the least in ifs, which come more often.
 pub fn busy(random: &mut Random) -> Nest {
     let leaf = Leaf::ALL[random.between(1, 9)];
-    ending(random, leaf)
+    let ifs = if random.one_in(2) { Level::Then } else { Level::Else };
+    let level = if random.one_in(4) { ifs } else { Level::ALL[random.below(10)] };
+    ending(random, level, leaf)
 }
 
 /// A nest of one kind or of all, mostly as deep as it can be.
-fn ending(random: &mut Random, leaf: Leaf) -> Nest {
+fn ending(random: &mut Random, level: Level, leaf: Leaf) -> Nest {
     let mut nest = match random.below(4) {
         0 => mixed(random, leaf),
-        _ => Nest::full(Level::ALL[random.below(10)], leaf),
+        _ => Nest::full(level, leaf),
     };
     if random.one_in(3) {
         nest.levels.truncate(random.between(nest.levels.len() / 2, nest.levels.len()));

@@ -7,6 +7,7 @@ use second::Basic;
 
 use super::{Blunder, Maker, Scope};
 use crate::random::Random;
+use crate::strings;
 
 const NUMBERS: [Basic; 3] = [Basic::Int, Basic::Long, Basic::Double];
 
@@ -254,7 +255,7 @@ impl Maker<'_> {
     }
 }
 
-/// A value of a basic type, often at the edges.
+/// A value of a basic type, often at the edges; a string is well formed.
 pub fn value(random: &mut Random, basic: Basic) -> Vec<u8> {
     match basic {
         Basic::Bool => vec![random.below(2) as u8],
@@ -287,7 +288,8 @@ pub fn value(random: &mut Random, basic: Basic) -> Vec<u8> {
             let bits = if f64::from_bits(bits).is_nan() { NAN_BITS } else { bits };
             bits.to_le_bytes().to_vec()
         }
-        Basic::String | Basic::Raw => {
+        Basic::String => strings::well_formed(random),
+        Basic::Raw => {
             let length = if random.one_in(4) { 16 } else { random.below(17) };
             (0..length).map(|_| random.byte()).collect()
         }

@@ -8,11 +8,14 @@ use stepper::Tree;
 
 use super::ends::ends;
 use super::outside::{fitting, set_basic, some_node};
+use crate::messages;
 use crate::nests::reach::{finish, reach};
 use crate::networks::value;
 use crate::random::Random;
+use crate::strings::held::{break_one, in_nodes, in_queues, in_trees, seen};
+use crate::strings::well_formed;
 
-/// Changes a state of the shape into another one.
+/// Changes a state of the shape into another one; its strings stay well formed.
 pub fn state(random: &mut Random, network: &Network, state: &mut State) {
     let live = live_sessions(state);
     if random.one_in(12) || live.is_empty() {
@@ -180,7 +183,9 @@ fn fill(random: &mut Random, network: &Network, service: usize, session: &mut Se
         let row = &network.operations[operation];
         let mut message = fitting(random, network, row.request);
         if random.one_in(4) {
-            message = Tree::read_message(&crate::messages::message(random).0).unwrap_or(message);
+            let any = messages::message(random).0;
+            let right = !seen(&any, &in_nodes(&any)).is_broken();
+            message = Tree::read_message(&any).filter(|_| right).unwrap_or(message);
         }
         let destination = row.reply.map(|_| some_destination(random, network));
         session.queue.push(Queued { operation, message, destination });
@@ -315,7 +320,7 @@ pub fn bytes(random: &mut Random, network: &Network, state: &State, bytes: &mut 
     let start = slot(service, number);
     let rows = Rows::of(network);
     let own = rows.root(service, number).map_or(Vec::new(), |root| own_rows(&rows, root));
-    match random.below(11) {
+    match random.below(15) {
         0 => any_byte(random, bytes),
         1 => bytes[start] = *random.pick(&[0, 2, 255]).expect("three"),
         2 => {
@@ -328,6 +333,8 @@ pub fn bytes(random: &mut Random, network: &Network, state: &State, bytes: &mut 
         6 | 7 => queued(random, network, state, (service, number), bytes),
         8 => row(random, network, &mut bytes[start + ROWS..start + ROWS_END]),
         9 => part(random, network, &own, &mut bytes[start + ROWS..start + ROWS_END]),
+        10 | 11 => tree_string(random, state, (service, number), bytes),
+        12 | 13 => queued_string(random, network, state, (service, number), bytes),
         _ => destination(random, network, &own, &mut bytes[start + ROWS..start + ROWS_END]),
     }
 }
@@ -368,6 +375,20 @@ fn tree(random: &mut Random, slot: &mut [u8]) {
     }
 }
 
+/// A broken string in some session's tree; where there is none, at a root that nobody reads.
+fn tree_string(random: &mut Random, state: &State, (service, number): (usize, usize), bytes: &mut [u8]) {
+    if in_trees(bytes).is_empty() {
+        let mut state = state.clone();
+        let Some(session) = state.live_mut(service, number).filter(|session| session.tree.nodes() <= 48) else {
+            return;
+        };
+        session.tree.assign(&[60_000], &second::Value::String(well_formed(random)));
+        encode(&state, bytes);
+    }
+    let strings = in_trees(bytes);
+    break_one(random, bytes, &strings);
+}
+
 /// A byte in some entry, or an entry after an unused one.
 fn entry(random: &mut Random, queue: &mut [u8]) {
     let entry = random.below(QUEUE);
@@ -380,14 +401,33 @@ fn entry(random: &mut Random, queue: &mut [u8]) {
     }
 }
 
-/// A right queue with one field of an entry wrong.
-fn queued(random: &mut Random, network: &Network, state: &State, (service, number): (usize, usize), bytes: &mut [u8]) {
+/// The state with more messages in a session's queue; the operation of the first.
+fn write_filled(
+    random: &mut Random,
+    network: &Network,
+    state: &State,
+    (service, number): (usize, usize),
+    bytes: &mut [u8],
+) -> Option<usize> {
     let mut state = state.clone();
-    let Some(session) = state.live_mut(service, number) else { return };
+    let session = state.live_mut(service, number)?;
     fill(random, network, service, session);
-    let Some(first) = session.queue.first().map(|queued| queued.operation) else { return };
+    let first = session.queue.first()?.operation;
     encode(&state, bytes);
-    let start = slot(service, number) + ENTRIES;
+    Some(first)
+}
+
+/// A broken string in some session's queue.
+fn queued_string(random: &mut Random, network: &Network, state: &State, at: (usize, usize), bytes: &mut [u8]) {
+    write_filled(random, network, state, at, bytes);
+    let strings = in_queues(bytes);
+    break_one(random, bytes, &strings);
+}
+
+/// A right queue with one field of an entry wrong.
+fn queued(random: &mut Random, network: &Network, state: &State, at: (usize, usize), bytes: &mut [u8]) {
+    let Some(first) = write_filled(random, network, state, at, bytes) else { return };
+    let start = slot(at.0, at.1) + ENTRIES;
     let (at, byte) = match random.below(6) {
         0 => (0, other_operation(random, network, first) as u8 + 1),
         1 => (1, random.between(0, 3) as u8),

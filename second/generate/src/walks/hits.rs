@@ -10,12 +10,14 @@ use stepper::rows::{parts, Rows};
 use stepper::state::{Destination, Progress, Session};
 use stepper::{Bound, Event, Made, Misshape, Move, NotAllowed, Reason, Refused, State};
 
-use super::{sums, Call};
+use super::{strings, sums, Call};
 use crate::nests;
+use crate::strings::StringHits;
 
 /// Each name was to be hit often enough.
 pub struct WalkHits {
     counts: BTreeMap<String, usize>,
+    strings: StringHits,
 }
 
 /// The numbers that each kind of move can give.
@@ -132,7 +134,8 @@ impl Default for WalkHits {
         for result in ["made", "refused by 15 to 22"] {
             names.extend(nests::names().map(|name| format!("a move {result} below {name}")));
         }
-        WalkHits { counts: names.into_iter().map(|name| (name, 0)).collect() }
+        let counts = names.into_iter().map(|name| (name, 0)).collect();
+        WalkHits { counts, strings: StringHits::at(&strings::PLACES) }
     }
 }
 
@@ -141,7 +144,7 @@ impl fmt::Display for WalkHits {
         for (name, count) in &self.counts {
             writeln!(f, "{count:8}  {name}")?;
         }
-        Ok(())
+        write!(f, "{}", self.strings)
     }
 }
 
@@ -158,7 +161,8 @@ impl WalkHits {
 
     /// Names that were hit less often.
     pub fn below(&self, least: usize) -> Vec<&str> {
-        self.counts.iter().filter(|(_, &count)| count < least).map(|(name, _)| name.as_str()).collect()
+        let few = self.counts.iter().filter(|(_, &count)| count < least).map(|(name, _)| name.as_str());
+        few.chain(self.strings.below(least)).collect()
     }
 
     /// A call on a state from fresh, and its result.
@@ -175,6 +179,7 @@ impl WalkHits {
 
     /// A call by the second implementation and its result.
     pub fn call(&mut self, call: &Call, result: &Result<Made, Refused>) {
+        strings::deciding(call, result).iter().for_each(|(place, seen)| self.strings.hit(*place, seen));
         let kind = call.named.name();
         let read = || {
             let network = Network::read(&call.file).expect("a file that passes 2 to 5");

@@ -1,11 +1,12 @@
 //! Messages from outside: built from a type, nearly so, or broken.
 
 use second::{Basic, Network};
-use stepper::Tree;
+use stepper::{Move, Tree};
 
 use crate::messages;
 use crate::networks::value;
 use crate::random::Random;
+use crate::strings::held::{break_one, in_nodes};
 
 /// A tree of a type: every mandatory child, and some of the optional ones.
 pub fn fitting(random: &mut Random, network: &Network, type_row: usize) -> Tree {
@@ -19,21 +20,37 @@ pub fn fitting(random: &mut Random, network: &Network, type_row: usize) -> Tree 
     Tree { id: node.id, basic: node.basic, value: value(random, node.basic), children }
 }
 
-/// Bytes for a move that takes a message of a type.
-pub fn bytes(random: &mut Random, network: &Network, type_row: Option<usize>) -> Vec<u8> {
+/// Bytes for a move, which may take a message of a type. Few rows wait for an outsider: of replies every other one has a
+/// string broken.
+pub fn bytes(random: &mut Random, network: &Network, named: &Move, type_row: Option<usize>) -> Vec<u8> {
+    let bytes = message(random, network, type_row);
+    match named {
+        Move::OuterReply { .. } if random.one_in(2) => with_broken_string(random, bytes),
+        _ => bytes,
+    }
+}
+
+fn message(random: &mut Random, network: &Network, type_row: Option<usize>) -> Vec<u8> {
     let Some(type_row) = type_row else {
         return if random.one_in(2) { Vec::new() } else { messages::message(random).0 };
     };
     let mut tree = fitting(random, network, type_row);
-    match random.below(14) {
+    match random.below(16) {
         0 => retype(random, &mut tree),
         1 => drop_child(random, &mut tree),
         2 => add_child(random, &mut tree),
         3 => return broken(random, tree.bytes()),
         4 => return messages::message(random).0,
+        5 | 6 => return with_broken_string(random, tree.bytes()),
         _ => {}
     }
     tree.bytes()
+}
+
+fn with_broken_string(random: &mut Random, mut bytes: Vec<u8>) -> Vec<u8> {
+    let strings = in_nodes(&bytes);
+    break_one(random, &mut bytes, &strings);
+    bytes
 }
 
 fn broken(random: &mut Random, mut bytes: Vec<u8>) -> Vec<u8> {
