@@ -46,6 +46,12 @@ use Rattle.check_expressions.specs.TableLaws.{unary-table, binary-alike-
 
 -- ---- enums by cases
 
+pub entry-none : (row o b : ℕ) {c : ℕ} → c ≡ columnOf b → tableAt o c ≡ none → Typing.Refused (OperandType row) ≡ entryTyping row (tableAt o (columnOf b))
+entry-none row o b f e = rw (sym f, of-eq _ none e) refl
+
+pub entry-some : (row o b : ℕ) {c : ℕ} → c ≡ columnOf b → (tableAt o c ≡ none → ⊥) → Typing.Leaf (tableAt o c) ≡ entryTyping row (tableAt o (columnOf b))
+entry-some row o b {c} f h = rw (sym f, ne-eqb (tableAt o c) none h) refl
+
 given : (x : Typing) → OneOf (0 ∷ 1 ∷ []) (tagOf typings.the-type x) → isRefused x ≡ false
 given (Typing.At at b) k = refl
 given (Typing.Leaf b) k = refl
@@ -55,16 +61,17 @@ pub right-refused : (row o : ℕ) (x : Typing) {y : Typing} {why : Refusal} → 
     → y ≡ operatorTyped row o x y
 right-refused row o x k e = rw (given x k, e) refl
 
+pub alone : (row o : ℕ) (x : Typing) {i b : ℕ} {z : Typing} → OneOf (0 ∷ 1 ∷ []) (tagOf typings.the-type x) → i ≡ o → b ≡ rootTyped x
+    → z ≡ entryTyping row (tableAt i (columnOf b)) → z ≡ operatorTyped row o x x
+alone row o x {i} {b} k f g h = rw (given x k, sym g, of-eq b b refl, sym f) h
+
 module _ (row o : ℕ) (x y : Typing) (k : OneOf (0 ∷ 1 ∷ []) (tagOf typings.the-type x)) (l : OneOf (0 ∷ 1 ∷ []) (tagOf typings.the-type y)) where
   pub unlike : {b c : ℕ} → b ≡ rootTyped x → c ≡ rootTyped y → (b ≡ c → ⊥) → Typing.Refused (OperandType row) ≡ operatorTyped row o x y
   unlike {b} {c} g h n = rw (given x k, given y l, sym g, sym h, ne-eqb b c n) refl
 
-  module _ {b c d : ℕ} (g : b ≡ rootTyped x) (h : c ≡ rootTyped y) (e : b ≡ c) (f : d ≡ columnOf b) where
-    pub entry-none : tableAt o d ≡ none → Typing.Refused (OperandType row) ≡ operatorTyped row o x y
-    entry-none n = rw (given x k, given y l, sym g, sym h, of-eq b c e, sym f, of-eq _ none n) refl
-
-    pub entry-some : (tableAt o d ≡ none → ⊥) → Typing.Leaf (tableAt o d) ≡ operatorTyped row o x y
-    entry-some n = rw (given x k, given y l, sym g, sym h, of-eq b c e, sym f, ne-eqb (tableAt o d) none n) refl
+  pub alike : {i b c : ℕ} {z : Typing} → b ≡ rootTyped x → c ≡ rootTyped y → b ≡ c → i ≡ o → z ≡ entryTyping row (tableAt i (columnOf b))
+      → z ≡ operatorTyped row o x y
+  alike {i} {b} {c} g h e f d = rw (given x k, given y l, sym g, sym h, of-eq b c e, sym f) d
 
 -- ---- paths
 
@@ -193,10 +200,10 @@ unfolding expressionType
 presence-typed s e r row {x} {p} m n v = typed-as s e r row (λ Γ g w l. let u = part-is s w r l m n in (presence (pathOf s p), u .0, v .tells Γ g w (u .1)))
 
 pub unary-typed : (s : List ℕ) (e : Environment) (r row : ℕ) {x : Part} {o : UnaryOperator} {a : ℕ} {y z : Typing} → x ≡ expressionPart s r → x ≡ Part.Unary o a
-    → TypingTells s e a row y → {i : ℕ} → i ≡ unaryRow o → z ≡ operatorTyped row i y y → TypingTells s e r row z
+    → TypingTells s e a row y → z ≡ operatorTyped row (unaryRow o) y y → TypingTells s e r row z
 unfolding expressionType
-unary-typed s e r row {x} {o} {a} {y} {z} m n v {i} f k = subst (λ (t : Typing). TypingTells s e r row t)
-    (sym (k ∙ ap (λ (i : ℕ). operatorTyped row i y y) f ∙ unary-by-table row o y)) (typed-as s e r row (λ Γ g w l.
+unary-typed s e r row {x} {o} {a} {y} {z} m n v k = subst (λ (t : Typing). TypingTells s e r row t)
+    (sym (k ∙ unary-by-table row o y)) (typed-as s e r row (λ Γ g w l.
     let u = part-is s w r l m n in
     let i = u .1 in (
       unary (unaryOf o) (expressionOf s a),
@@ -205,10 +212,10 @@ unary-typed s e r row {x} {o} {a} {y} {z} m n v {i} f k = subst (λ (t : Typing)
     )))
 
 pub binary-typed : (s : List ℕ) (e : Environment) (r row : ℕ) {x : Part} {o : BinaryOperator} {a b : ℕ} {y t z : Typing} → x ≡ expressionPart s r → x ≡ Part.Binary o a b
-    → TypingTells s e a row y → TypingTells s e b row t → {i : ℕ} → i ≡ binaryRow o → z ≡ operatorTyped row i y t → TypingTells s e r row z
+    → TypingTells s e a row y → TypingTells s e b row t → z ≡ operatorTyped row (binaryRow o) y t → TypingTells s e r row z
 unfolding expressionType
-binary-typed s e r row {x} {o} {a} {b} {y} {t} {z} m n v v₂ {i} f k = subst (λ (c : Typing). TypingTells s e r row c)
-    (sym (k ∙ ap (λ (i : ℕ). operatorTyped row i y t) f ∙ binary-by-table row o y t)) (typed-as s e r row (λ Γ g w l.
+binary-typed s e r row {x} {o} {a} {b} {y} {t} {z} m n v v₂ k = subst (λ (c : Typing). TypingTells s e r row c)
+    (sym (k ∙ binary-by-table row o y t)) (typed-as s e r row (λ Γ g w l.
     let u = part-is s w r l m n in
     let i = u .1 in
     let j = u .2 in (
@@ -221,8 +228,8 @@ binary-typed s e r row {x} {o} {a} {b} {y} {t} {z} m n v v₂ {i} f k = subst (�
 
 -- An operand that stands on both sides is typed once.
 pub twice-typed : (s : List ℕ) (e : Environment) (r row : ℕ) {x : Part} {o : BinaryOperator} {a b : ℕ} {y z : Typing} → x ≡ expressionPart s r → x ≡ Part.Binary o a b
-    → TypingTells s e a row y → a ≡ b → {i : ℕ} → i ≡ binaryRow o → z ≡ operatorTyped row i y y → TypingTells s e r row z
-twice-typed s e r row {x} {o} {a} {b} {y} m n v i f k = binary-typed s e r row m n v (subst (λ (d : ℕ). TypingTells s e d row y) i v) f k
+    → TypingTells s e a row y → a ≡ b → z ≡ operatorTyped row (binaryRow o) y y → TypingTells s e r row z
+twice-typed s e r row {x} {o} {a} {b} {y} m n v i k = binary-typed s e r row m n v (subst (λ (d : ℕ). TypingTells s e d row y) i v) k
 
 pub broken-typed : (s : List ℕ) (e : Environment) (r row : ℕ) {x : Part} (y : Typing) → x ≡ expressionPart s r → x ≡ Part.Broken → TypingTells s e r row y
 broken-typed s e r row y p q = record { tells = λ Γ g w l. absurd (part-is s w r l p q) }

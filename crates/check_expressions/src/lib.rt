@@ -3,8 +3,8 @@
 ghost use mathlib.Core.Path.{_≡_};
 ghost use Prim.Native.Nat.{_<_};
 ghost use lib.ListN.{length};
-ghost use Rattle.check_expressions.specs.Table.{operatorRules, unaryRow, binaryRow};
-ghost use Rattle.check_expressions.specs.Typings.{rootTyped, operatorTyped, ValueTyped, PresenceTyped, TypingTells};
+ghost use Rattle.check_expressions.specs.Table.{operatorRules, tableAt, unaryRow, binaryRow, columnOf};
+ghost use Rattle.check_expressions.specs.Typings.{entryTyping, rootTyped, operatorTyped, ValueTyped, PresenceTyped, TypingTells};
 use check_environments::Environment;
 use check_environments::Reading;
 use network_row_parts::BinaryOperator;
@@ -12,11 +12,11 @@ use network_row_parts::Part;
 use network_row_parts::UnaryOperator;
 use refusal::Refusal;
 
-// The type of an expression: the tree at a place of the environment, with its basic type; a basic type alone; or a refusal, placed at the B
+// The type of an expression: a basic type alone; the tree at a place of the environment, with its basic type; or a refusal, placed at the B
 // row whose expression it is.
 pub enum Typing {
-    At(usize, u8),
     Leaf(u8),
+    At(usize, u8),
     Refused(Refusal),
 }
 
@@ -56,6 +56,23 @@ fn binary_row(o: BinaryOperator) -> usize
     }
 }
 
+// What the table's row o answers for a basic type. A number past the last one, which only a broken file has, is looked up as raw, as the
+// rule has it.
+fn looked_up(row: u16, o: usize, operand: u8) -> Typing
+    requires { ⌜ o < length operatorRules ⌝ }
+    ensures { λ x. ⌜ x ≡ entryTyping row (tableAt o (columnOf operand)) ⌝ }
+{
+    let mut c = operand as usize;
+    if scalar::LAST_BASIC < operand {
+        c = scalar::RAW as usize;
+    }
+    let b = OPERATORS[o][c];
+    if b == NONE {
+        return Typing::Refused(Refusal::OperandType(row));
+    }
+    Typing::Leaf(b)
+}
+
 // "as an operand its root value counts"; a refused operand has none.
 fn root_basic(x: Typing) -> u8
     ensures { λ b. ⌜ b ≡ rootTyped x ⌝ }
@@ -67,10 +84,19 @@ fn root_basic(x: Typing) -> u8
     }
 }
 
-// The type of an operator's result, by its row of the table. The one operand of a unary operator stands on both sides.
-fn operator_type(row: u16, o: usize, x: Typing, y: Typing) -> Typing
-    requires { ⌜ o < length operatorRules ⌝ }
-    ensures { λ z. ⌜ z ≡ operatorTyped row o x y ⌝ }
+// The type of an operator's result: a refused operand's refusal, or what its row of the table answers. The one operand of a unary operator
+// stands on both sides.
+fn unary(row: u16, o: UnaryOperator, x: Typing) -> Typing
+    ensures { λ z. ⌜ z ≡ operatorTyped row (unaryRow o) x x ⌝ }
+{
+    if let Typing::Refused(_) = x {
+        return x;
+    }
+    looked_up(row, unary_row(o), root_basic(x))
+}
+
+fn binary(row: u16, o: BinaryOperator, x: Typing, y: Typing) -> Typing
+    ensures { λ z. ⌜ z ≡ operatorTyped row (binaryRow o) x y ⌝ }
 {
     if let Typing::Refused(_) = x {
         return x;
@@ -83,26 +109,13 @@ fn operator_type(row: u16, o: usize, x: Typing, y: Typing) -> Typing
     if b != root_basic(y) {
         return Typing::Refused(Refusal::OperandType(row));
     }
-    // A number past the last basic type, which only a broken file has, is looked up as raw, as the rule has it.
-    let mut c = b as usize;
-    if scalar::LAST_BASIC < b {
-        c = scalar::RAW as usize;
-    }
-    let z = OPERATORS[o][c];
-    if z == NONE {
-        return Typing::Refused(Refusal::OperandType(row));
-    }
-    Typing::Leaf(z)
+    looked_up(row, binary_row(o), b)
 }
 
 // "A path expression has the tree there and must stand firm"
-fn value_type(file: &[u8], bytes: &[u8; 512], len: usize, p: u16, row: u16) -> Typing
-    ensures { λ x. ⌜ ValueTyped (now (file .entry)) (record { bytes = now (bytes .entry); len = len }) p row x ⌝ }
+fn value_type(file: &[u8], e: Environment, p: u16, row: u16) -> Typing
+    ensures { λ x. ⌜ ValueTyped (now (file .entry)) e p row x ⌝ }
 {
-    let e = Environment {
-        bytes: *bytes,
-        len: len,
-    };
     let Reading::Firm(at, b) = check_environments::read_firm(file, e, p) else {
         return Typing::Refused(Refusal::PathNotFirm(row));
     };
@@ -110,13 +123,9 @@ fn value_type(file: &[u8], bytes: &[u8; 512], len: usize, p: u16, row: u16) -> T
 }
 
 // "Presence needs a path in Γ and gives bool."
-fn presence_type(file: &[u8], bytes: &[u8; 512], len: usize, p: u16, row: u16) -> Typing
-    ensures { λ x. ⌜ PresenceTyped (now (file .entry)) (record { bytes = now (bytes .entry); len = len }) p row x ⌝ }
+fn presence_type(file: &[u8], e: Environment, p: u16, row: u16) -> Typing
+    ensures { λ x. ⌜ PresenceTyped (now (file .entry)) e p row x ⌝ }
 {
-    let e = Environment {
-        bytes: *bytes,
-        len: len,
-    };
     if check_environments::is_in(file, e, p) {
         return Typing::Leaf(scalar::BOOL);
     }
@@ -127,28 +136,21 @@ fn presence_type(file: &[u8], bytes: &[u8; 512], len: usize, p: u16, row: u16) -
 pub fn type_of(file: &[u8], e: Environment, r: u16, row: u16) -> Typing
     ensures { λ x. ⌜ TypingTells (now (file .entry)) e r row x ⌝ }
 {
-    typed(file, &e.bytes, e.len, r, row)
-}
-
-// The same with the environment's bytes lent, so that they are not copied for each operand.
-fn typed(file: &[u8], bytes: &[u8; 512], len: usize, r: u16, row: u16) -> Typing
-    ensures { λ x. ⌜ TypingTells (now (file .entry)) (record { bytes = now (bytes .entry); len = len }) r row x ⌝ }
-{
     match network_row_parts::part_of(file, r) {
         Part::Constant(b, _, _) => Typing::Leaf(b),
-        Part::ValueAt(p) => value_type(file, bytes, len, p, row),
-        Part::Presence(p) => presence_type(file, bytes, len, p, row),
+        Part::ValueAt(p) => value_type(file, e, p, row),
+        Part::Presence(p) => presence_type(file, e, p, row),
         Part::Unary(o, a) => {
-            let x = typed(file, bytes, len, a, row);
-            operator_type(row, unary_row(o), x, x)
+            let x = type_of(file, e, a, row);
+            unary(row, o, x)
         }
         Part::Binary(o, a, b) => {
-            let x = typed(file, bytes, len, a, row);
+            let x = type_of(file, e, a, row);
             if a == b {
-                return operator_type(row, binary_row(o), x, x);
+                return binary(row, o, x, x);
             }
-            let y = typed(file, bytes, len, b, row);
-            operator_type(row, binary_row(o), x, y)
+            let y = type_of(file, e, b, row);
+            binary(row, o, x, y)
         }
         Part::Broken => Typing::Refused(Refusal::OperandType(row)),
     }
