@@ -117,7 +117,10 @@ module _ (file s : List ℕ) (p : ℕ) {ids : List ℕ} {y : Found} (d : ids ≡
   read-none x e c = record { tells = λ F w wf le. stands-as s x (sym (ap found (spot e F w wf le))) (stands-alone s c); text = c .text }
 
   pub read-there : (x : Evaluated) {at : ℕ} → y ≡ Found.At at → StandsAt s at x → Reads file s p x
-  read-there x e c = record { tells = λ F w wf le. let u = spot e F w wf le in stands-as s x (sym (ap found (u .is))) (c .tells _ (u .there) (u .root)); text = c .text }
+  read-there x e c = record {
+    tells = λ F w wf le. let u = spot e F w wf le in stands-as s x (sym (ap found (u .is))) (c .tells _ (u .there) (u .root));
+    text = c .text;
+  }
 
   pub present-none : (x : Evaluated) → y ≡ Found.Nothing → Computes x (given (ofBool false)) → Presents file s p x
   present-none x e c = record {
@@ -198,7 +201,8 @@ module _ (s : List ℕ) (o : Binary) (x y : Evaluated) (a b : Evaluation (Tree V
 
 -- ---- rows
 
-evaluates-as : (file s : List ℕ) (r : ℕ) {x : Evaluated} → SoundText (valueOf (x .root)) → ((F : Forest Value) → Encodes sessionLevels sessionNodes s (tree empty F) → WellFormed file
+evaluates-as : (file s : List ℕ) (r : ℕ) {x : Evaluated} → SoundText (valueOf (x .root))
+    → ((F : Forest Value) → Encodes sessionLevels sessionNodes s (tree empty F) → WellFormed file
     → r < expressionCount file → (e : Expression) × (expressionOf file r ≡ e) × StandsFor s x (evaluate F e)) → Evaluates file s r x
 evaluates-as file s r {x} text h = record {
   tells = λ F g w l. let u = h F g w l in stands-as s x (ap (evaluate F) (sym (u .1))) (u .2);

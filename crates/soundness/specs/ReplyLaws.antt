@@ -37,8 +37,8 @@ use Rattle.soundness.specs.MadeLaws.{made-at, Plain, plain-request, plai
 use Rattle.network_syntax.specs.ViewLaws.{some-inj, input-is, output-is}
 use Rattle.soundness.specs.Invariant.{SessionSound, Sound}
 use Rattle.soundness.specs.SessionLaws.{once-of, made-of, advance-apart, answer-sound, waiting-sound, waits-received}
-use Rattle.soundness.specs.ResultLaws.{Claims, Keeps, replySent, goes-keeps, keeps-15, by-require, by-received, by-waiting, by-session, by-live, by-message}
-use Rattle.soundness.specs.ResultLaws.{live-inj, set-elim, by-pick, keeps-tree, keeps-fit, outside-fit, sound-set}
+use Rattle.soundness.specs.ResultLaws.{Claims, Keeps, replySent, goes-keeps, keeps-15, by-require, by-received, by-waiting, by-session}
+use Rattle.soundness.specs.ResultLaws.{by-live, by-message, live-inj, set-elim, by-pick, keeps-tree, keeps-fit, outside-fit, sound-set}
 use Rattle.soundness.specs.LocalLaws.{save-goes}
 use Rattle.soundness.specs.SendLaws.{decoded-good}
 

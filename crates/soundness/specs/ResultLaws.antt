@@ -94,7 +94,7 @@ module _ (N : Network) (rows : ℕ) where
   Keeps claims (refused why) = Tolerated claims why
   Keeps claims (moved G out) = Sound N rows G × Sent out
 
-  -- It is made, and the state after it is sound; with a result that is beyond (`past`) it is refused with 22 instead.
+  -- It is made, and the state after it and what it writes out are sound; with a result that is beyond (`past`) it is refused with 22 instead.
   abbrev pub Goes : Bool → Result → Type 0
   Goes true (refused why) = why ≡ OutOfRange
   Goes true (moved G out) = ⊥

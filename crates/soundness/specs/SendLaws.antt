@@ -126,7 +126,8 @@ module _ (N : Network) (rows : ℕ) (acc : Accepted N rows) where
         let K : Tree Value → Result = λ x. mustFit x (o .request) (moved G2 (messageBytes x)) in
         by-require N rows claims (eqb to 0) (onTree (evaluate (S .tree) e) K)
         (λ t. keeps-tree N rows claims (evaluate (S .tree) e) K g cause
-        (λ y k. keeps-fit N rows claims y (o .request) (moved G2 (messageBytes y)) (k .1) (fo2 .rising .0) (fo2 .smallRequest) (k .0) (h2, messageSent y (k .1)))))
+        (λ y k. keeps-fit N rows claims y (o .request) (moved G2 (messageBytes y)) (k .1) (fo2 .rising .0) (fo2 .smallRequest) (k .0)
+        (h2, messageSent y (k .1)))))
       where
         cause : (b : ℕ) → evaluate (S .tree) e ≡ beyond b → Unit {0} → claims .cause
         cause b eb u = c (subst (λ (z : Evaluation (Tree Value)). T (isBeyond z)) (sym eb) tt)

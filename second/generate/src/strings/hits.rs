@@ -65,18 +65,12 @@ impl fmt::Display for StringHits {
 mod tests {
     use super::*;
 
-    fn seen(text: &[u8]) -> Seen {
-        let mut seen = Seen::default();
-        seen.text(text);
-        seen
-    }
-
     #[test]
     fn a_string_counts_at_its_place_unless_two_breaks_could_decide() {
         let mut hits = StringHits::at(&["constant", "outer message"]);
-        hits.hit(0, &seen("aé".as_bytes()));
-        hits.hit(1, &seen(b"a\xED\xA0\x80"));
-        hits.hit(1, &seen(b"\x80\xED\xA0\x80"));
+        hits.hit(0, &Seen::of("aé".as_bytes()));
+        hits.hit(1, &Seen::of(b"a\xED\xA0\x80"));
+        hits.hit(1, &Seen::of(b"\x80\xED\xA0\x80"));
         let shown = hits.to_string();
         let lines: Vec<&str> = shown.lines().collect();
         assert_eq!(lines.len(), 12, "{shown}");

@@ -173,6 +173,14 @@ pub struct Seen {
 }
 
 impl Seen {
+    /// What one text holds.
+    #[cfg(test)]
+    pub fn of(text: &[u8]) -> Seen {
+        let mut seen = Seen::default();
+        seen.text(text);
+        seen
+    }
+
     pub fn is_broken(&self) -> bool {
         self.breaks.contains(&true)
     }
@@ -214,12 +222,6 @@ mod tests {
     use super::*;
     use std::str::from_utf8;
 
-    fn seen(text: &[u8]) -> Seen {
-        let mut seen = Seen::default();
-        seen.text(text);
-        seen
-    }
-
     #[test]
     fn well_formed_text_is_utf8_with_characters_of_each_length_and_their_ends() {
         let ends = "\0\u{7F}\u{80}\u{7FF}\u{800}\u{D7FF}\u{E000}\u{FFFF}\u{FDD0}\u{FEFF}\u{10000}\u{10FFFF}";
@@ -260,7 +262,7 @@ mod tests {
         for _ in 0..20_000 {
             let text = broken(&mut random);
             let error = from_utf8(&text).expect_err("broken text");
-            let found = seen(&text).breaks;
+            let found = Seen::of(&text).breaks;
             assert_eq!(found.iter().filter(|&&found| found).count(), 1, "{text:02x?}");
             kinds[found.iter().position(|&found| found).expect("a kind")] += 1;
             places[error.valid_up_to()] += 1;
@@ -275,7 +277,7 @@ mod tests {
     fn text_is_seen_as_broken_exactly_if_it_is_no_utf8() {
         let borders =
             [0, 0x7F, 0x80, 0x8F, 0x90, 0x9F, 0xA0, 0xBF, 0xC0, 0xC1, 0xC2, 0xE0, 0xED, 0xF0, 0xF4, 0xF5, 0xFF];
-        let agrees = |text: &[u8]| assert_eq!(seen(text).is_broken(), from_utf8(text).is_err(), "{text:02x?}");
+        let agrees = |text: &[u8]| assert_eq!(Seen::of(text).is_broken(), from_utf8(text).is_err(), "{text:02x?}");
         agrees(&[]);
         for first in 0..=255 {
             agrees(&[first]);
@@ -292,7 +294,7 @@ mod tests {
     #[test]
     fn each_kind_is_told_from_the_others() {
         let kinds = |text: &[u8]| {
-            let found = seen(text).breaks;
+            let found = Seen::of(text).breaks;
             Break::ALL.into_iter().filter(|&kind| found[kind as usize]).collect::<Vec<_>>()
         };
         for (text, kind) in [
