@@ -5,6 +5,9 @@
  * pointer may be NULL, even where the length beside it is 0, and each is good for that length; a buffer that is lent for writing, and each
  * pointer to a single result, shares no byte with the bytes that are read or with another such buffer.
  *
+ * Strings are well-formed UTF-8 (RFC 3629) of at most 16 bytes, wherever they stand; raw is any bytes. With another string a constant is
+ * refused with 4, a state with 14, a message from outside with 17, and every part of such a message is empty.
+ *
  * Stack: check, environments and fresh stay within 2 MiB, types within 1 MiB, each move within 128 KiB, part within 4 KiB, on the deepest
  * networks that 256 rows allow, the deepest texts that 8,192 bytes allow and on every other input that was tried. That is measured (bin/compare stack), not proved: the proofs speak of a machine without a
  * stack. A thread needs as much beside what it takes itself. */

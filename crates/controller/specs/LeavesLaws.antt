@@ -23,7 +23,7 @@ use Rattle.state.specs.Session.{State}
 use Rattle.state.specs.Shape.{decodeState}
 use Rattle.move_rules.specs.Moves.{Result, refused, moved, Move, move}
 use Rattle.move_rules.specs.Step.{Step, refuse, finish, onForm, onState, buffersFit, step}
-use Rattle.move_rules.specs.Fresh.{Freshened, freshRefused, afterCheck, fresh}
+use Rattle.move_rules.specs.Fresh.{freshRefused, afterCheck, fresh}
 
 module _ (file s : List ℕ) where
   -- A refused fresh leaves the state as it was.

@@ -1,3 +1,4 @@
 pub mod Parts
 pub mod LeavesLaws
 pub mod Promises
+pub mod RequestPromises

@@ -1,11 +1,11 @@
--- All that is promised of the controller. The contracts of its functions (src/lib.rt) say, for every input, that they give and leave what these
--- definitions say: `checkFile` of `check`, `fresh` and `step` of the functions of these names, `spanOf` and `partOf` of the message reader,
--- `writeTypes` of `write_types`.
+-- All that is promised of the controller; what 02 brings with names of its own is in RequestPromises. The contracts of its functions (src/lib.rt)
+-- say, for every input, that they give and leave what these definitions say: `checkFile` of `check`, `fresh` and `step` of the functions of these
+-- names, `spanOf` and `partOf` of the message reader, `writeTypes` of `write_types`.
 -- Here is what holds of the definitions, in 01's words; each statement is closed by the name of its proof.
 use mathlib.Core.Path.{_≡_, sym, _∙_}
 use mathlib.Core.Bool.{true}
-use mathlib.Core.List.{List, [], _∷_, _++_}
-use Prim.Native.Nat.{ℕ, _+_, _≤_, _<_}
+use mathlib.Core.List.{List, [], _∷_}
+use Prim.Native.Nat.{ℕ, _+_, _≤_}
 use lib.ListN.{length, take, drop}
 use Rattle.tree_forest.specs.Forest.{Tree}
 use Rattle.scalar.specs.Value.{Value}
@@ -20,15 +20,12 @@ use Rattle.tree.specs.DecodeLaws.{message-sound, message-complete, encode-injec
 use Rattle.tree_part.specs.Part.{partOf}
 use Rattle.tree_part.specs.Span.{spanOf}
 use Rattle.tree_part.specs.SpanLaws.{span-inside, span-part, span-empty, twice, span-twice}
-use Rattle.network_syntax.specs.Syntax.{MessageType, Optional, none, some, Network}
+use Rattle.network_syntax.specs.Syntax.{none, some, Network}
 use Rattle.network.specs.Form.{formOf, WellFormed}
-use Rattle.network.specs.Layout.{typeCount}
-use Rattle.network.specs.Rows.{rootFits}
-use Rattle.network.specs.Sizes.{typeWithin}
-use Rattle.network.specs.Decode.{networkOf, rowOperation, typeOf}
+use Rattle.network.specs.Decode.{networkOf, rowOperation}
 use Rattle.network.specs.Shapes.{NetworkShape}
 use Rattle.network.specs.NetworkLaws.{network-shape}
-use Rattle.network.specs.Breaks.{TypeBreaks, Breaks, TooLargeAt}
+use Rattle.network.specs.Breaks.{Breaks, TooLargeAt}
 use Rattle.network.specs.LowestLaws.{lowest-broken, lowest-large, none-broken}
 use Rattle.check_typing.specs.Result.{refused, passed}
 use Rattle.check_typing.specs.NetworkRules.{Environments, DerivesNetwork}
@@ -49,16 +46,6 @@ use Rattle.soundness.specs.Calls.{SoundCall}
 use Rattle.soundness.specs.CallsLaws.{call-sound}
 use Rattle.soundness.specs.Example.{file}
 use Rattle.soundness.specs.ExampleFileLaws.{accepted-file}
-use Rattle.type_text.specs.Grammar.{Declaration, TypeText}
-use Rattle.type_text.specs.Reader.{Item, parsed, offends, readText}
-use Rattle.type_text.specs.Meaning.{typesOf}
-use Rattle.type_text.specs.TypeRows.{rowCount}
-use Rattle.type_text.specs.TextLaws.{read-sound, read-complete, text-unique, SameThrough, offends-first}
-use Rattle.type_text.specs.BeginsLaws.{offends-begins}
-use Rattle.type_rows.specs.Ranged.{Small, EachType, TypeRowsOf}
-use Rattle.type_rows.specs.TextRows.{text-rows-mean, text-rows-root, text-rows-rules, text-rows-small}
-use Rattle.type_writing.specs.Answer.{writeTypes}
-use Rattle.type_writing.specs.AnswerLaws.{text-leaves, text-stays}
 use Rattle.controller.specs.LeavesLaws.{fresh-leaves, step-leaves, step-stays}
 
 -- ---- Network file: refusals 2 to 5
@@ -180,58 +167,6 @@ sound-call = call-sound
 -- There are files of which it speaks: this one is accepted, and its services send, receive and reply (soundness/ExampleFileLaws).
 pub some-file-accepted : AcceptedFile file
 some-file-accepted = accepted-file
-
--- ---- Types as text (02, Wish 1)
-
--- "Exactly the texts of this grammar are read, each in one way."
-pub read-is-text : (s : List ℕ) (ds : List Declaration) (r : List Item) → readText s ≡ parsed ds r → TypeText s ds
-read-is-text = read-sound
-
-pub text-is-read : (s : List ℕ) (ds : List Declaration) → TypeText s ds → readText s ≡ parsed ds []
-text-is-read = read-complete
-
-pub text-one-way : (s : List ℕ) (ds es : List Declaration) → TypeText s ds → TypeText s es → ds ≡ es
-text-one-way = text-unique
-
--- "at the text's first offending byte (of a word, taken whole, its first; the length if the text ends too soon)": no text that agrees with
--- this one through that byte is of the grammar.
-pub first-offending-byte : (s s′ : List ℕ) (p : ℕ) (ds : List Declaration) → readText s ≡ offends p
-    → SameThrough s s′ p → TypeText s′ ds → ⊥
-first-offending-byte = offends-first
-
--- The bytes before it begin one that is.
-pub offending-byte-first : (s : List ℕ) (p : ℕ) → length s ≤ 8192 → readText s ≡ offends p
-    → (r : List ℕ) × (ds : List Declaration) × TypeText (take p s ++ r) ds
-offending-byte-first = offends-begins
-
--- The rows mean the text: in every network file whose T section they are, each declaration's first row is the root of a message type, which is
--- the type declared, and neither 4 nor 5 refuses a row of T.
-pub rows-are-types : (text : List ℕ) (ds : List Declaration) → TypeText text ds → (file : List ℕ)
-    → TypeRowsOf file (typesOf ds)
-    → EachType Small (typesOf ds) → (before : List MessageType) (t : MessageType) (later : List MessageType)
-    → typesOf ds ≡ before ++ (t ∷ later)
-    → (typeOf file (rowCount before) ≡ t) × (rootFits file (rowCount before) ≡ true)
-rows-are-types text ds h file w small before t later e =
-    (text-rows-mean text ds h file w small before t later e, text-rows-root text ds h file w small before t later e)
-
-pub rows-keep-rules-of-4 : (text : List ℕ) (ds : List Declaration) → TypeText text ds → (file : List ℕ)
-    → TypeRowsOf file (typesOf ds)
-    → EachType Small (typesOf ds) → (r p : ℕ) → r < typeCount file → TypeBreaks file r p → ⊥
-rows-keep-rules-of-4 = text-rows-rules
-
-pub rows-are-within-5 : (text : List ℕ) (ds : List Declaration) → TypeText text ds → (file : List ℕ)
-    → TypeRowsOf file (typesOf ds)
-    → EachType Small (typesOf ds) → (r : ℕ) → r < typeCount file → typeWithin file r ≡ true
-rows-are-within-5 = text-rows-small
-
--- "a refusal changes no buffer"; the bytes past the rows stay.
-pub refused-text-leaves : (s out : List ℕ) → (outcomeNumber (writeTypes s out .outcome) ≡ 0 → ⊥)
-    → writeTypes s out .out ≡ out
-refused-text-leaves = text-leaves
-
-pub past-rows-stay : (s out : List ℕ) → drop (writeTypes s out .outcome .bytes) (writeTypes s out .out)
-    ≡ drop (writeTypes s out .outcome .bytes) out
-past-rows-stay = text-stays
 
 -- ---- Proved cases: rows a to i, one table and one proof
 

@@ -1,5 +1,5 @@
 // The controller, as a host calls it: the checker of network files, fresh state, the moves, the message reader and the reader of type
-// declarations. Nothing is asked of the caller. specs/Promises.antt has all that is promised of them.
+// declarations. Nothing is asked of the caller. specs/Promises.antt and specs/RequestPromises.antt have all that is promised of them.
 ghost use mathlib.Core.Path.{_≡_};
 ghost use Rattle.refusal.specs.Refusal.{outcomeNumber};
 ghost use Rattle.tree_part.specs.Part.{partOf};

@@ -1,5 +1,6 @@
 -- Values: a basic type and the bytes of a value of it. 01: "Value: bool one byte 0 or 1, int 4 bytes and long 8 (two's
--- complement), double 8 (IEEE 754; the only NaN is 7FF8000000000000 hexadecimal), string and raw 0 to 16 bytes, void none."
+-- complement), double 8 (IEEE 754; the only NaN is 7FF8000000000000 hexadecimal), string and raw 0 to 16 bytes, void none." 02: "Strings
+-- are now well-formed UTF-8 as in RFC 3629, still 0 to 16 bytes; raw stays free."
 use mathlib.Core.Path.{_≡_}
 use mathlib.Core.List.{List, [], _∷_}
 use mathlib.Core.Bool.{Bool, true, false, _&&_, _||_}
@@ -7,6 +8,7 @@ use Prim.Native.Nat.{ℕ, _%_}
 use lib.ListN.{length, getD}
 use lib.Dec.{eqb, leb}
 use Rattle.wire.specs.Wire.{unsignedOf}
+use Rattle.utf8.specs.Utf8.{isUtf8}
 use Rattle.scalar.specs.Basic.{string, void}
 use mir.Syntax.{Width, w32, w64}
 
@@ -78,16 +80,16 @@ longType = record {
   arithmetic = integral w64;
 }
 
--- `string`: "string and raw 0 to 16 bytes"
+-- `string`: "well-formed UTF-8 as in RFC 3629, still 0 to 16 bytes"
 abbrev pub stringType : BasicType
 stringType = record {
   word = 115 ∷ 116 ∷ 114 ∷ 105 ∷ 110 ∷ 103 ∷ [];
-  rule = λ v. leb (length v) 16;
+  rule = λ v. leb (length v) 16 && isUtf8 v;
   least = [];
   arithmetic = noArithmetic;
 }
 
--- `raw`
+-- `raw`: "0 to 16 bytes"
 abbrev pub rawType : BasicType
 rawType = record { word = 114 ∷ 97 ∷ 119 ∷ []; rule = λ v. leb (length v) 16; least = []; arithmetic = noArithmetic }
 

@@ -1,8 +1,8 @@
 -- Laws of values: bytes that stand in a slice as numbers, and what `isValue` says at each basic type.
 use mathlib.Core.Path.{_≡_, refl, sym, ap, _∙_}
 use mathlib.Core.List.{List, [], _∷_}
-use mathlib.Core.Bool.{Bool, true, false}
-use Prim.Native.Nat.{ℕ, zero, suc, _+_, _*_, _/_, _%_, _≤_, _<_}
+use mathlib.Core.Bool.{Bool, true, false, _&&_}
+use Prim.Native.Nat.{ℕ, zero, suc, _+_, _-_, _*_, _/_, _%_, _≤_, _<_}
 use native.Mathlib.Nat.{add-zero, add-suc}
 use native.Mathlib.Omega.{arith}
 use lib.ListN.{length, take, drop, getD, List·getD-eq-default}
@@ -18,6 +18,7 @@ use Rattle.scalar.specs.Basic.{bool, int, double, long, string, raw, voi
 use Rattle.scalar.specs.Value.{value, isValue, isDouble, SoundText, BasicType, boolType, intType, doubleType, longType, stringType}
 use Rattle.scalar.specs.Value.{rawType, voidType, noType, basicTypes, basicType, integral, noArithmetic}
 use Rattle.wire.specs.Wire.{unsignedOf}
+use Rattle.utf8.specs.Utf8.{isUtf8, goesOn}
 
 -- ---- every basic type
 
@@ -66,7 +67,7 @@ value-size b v =
     (λ e. omega (arith, eqb-true (length v) 4 e))
     (λ e. omega (arith, eqb-true (length v) 8 (and-of (eqb (length v) 8) (isDouble (unsignedOf v)) e .0)))
     (λ e. omega (arith, eqb-true (length v) 8 e))
-    (leb-true (length v) 16)
+    (λ e. leb-true (length v) 16 (and-of (leb (length v) 16) (isUtf8 v) e .0))
     (leb-true (length v) 16)
     (λ e. omega (arith, eqb-true (length v) 0 e))
     (λ e. let z : _≡_ {A = ℕ} 0 1 = cc in absurd (omega arith)) b
@@ -92,7 +93,7 @@ integer-bytes b u v e h = eqb-true (length v) (bits u / 8) (sym (integer-rule b 
 
 -- The least value of a basic type is a value of it.
 pub least-value : (b : ℕ) → b ≤ lastBasic → isValue b (basicType b .least) ≡ true
-unfolding isValue unsignedOf
+unfolding isValue unsignedOf goesOn
 least-value zero h = refl
 least-value (suc zero) h = refl
 least-value (suc (suc zero)) h = refl
@@ -167,9 +168,8 @@ module _ (s : List ℕ) (at b n : ℕ) (h : at + n ≤ length s) where
   unfolding isValue
   double-long e k = rw (e, length-part s at n h, ne-eqb n 8 k) refl
 
-  pub string-value : b ≡ string → Says (leb n 16)
-  unfolding isValue
-  string-value e = rw (e, length-part s at n h) refl
+  pub string-value : {t : Bool} → b ≡ string → t ≡ isValue string (take n (drop at s)) → Says t
+  string-value e q = q ∙ ap (λ (k : ℕ). isValue k (take n (drop at s))) (sym e)
 
   pub raw-value : b ≡ raw → Says (leb n 16)
   unfolding isValue
@@ -181,6 +181,19 @@ module _ (s : List ℕ) (at b n : ℕ) (h : at + n ≤ length s) where
 
   pub no-value : lastBasic < b → Says false
   no-value e = sym (past-table b (take n (drop at s)) e)
+
+-- ---- a string that stands in a slice, one law for each way out of `is_string`
+
+module _ (s : List ℕ) (at n : ℕ) (h : at + n ≤ length s) where
+  pub string-long : 16 < n → false ≡ isValue string (take n (drop at s))
+  unfolding isValue
+  string-long k = rw (length-part s at n h, lt-leb n 16 k) refl
+
+  pub string-short : {t : Bool} → n ≤ 16 → t ≡ isUtf8 (take (at + n - at) (drop at s)) → t ≡ isValue string (take n (drop at s))
+  unfolding isValue
+  string-short k q =
+      let e : at + n - at ≡ n = omega arith in
+      rw (length-part s at n h, le-leb n 16 k) (rw e at q)
 
 -- ---- what the value rule tells of the bytes
 
@@ -220,9 +233,17 @@ pub raw-short : (v : List ℕ) → length v ≤ 16 → isValue raw v ≡ true
 unfolding isValue
 raw-short v h = le-leb (length v) 16 h
 
+-- A string is well-formed UTF-8.
+pub string-rule : (v : List ℕ) → isValue string v ≡ (leb (length v) 16 && isUtf8 v)
+unfolding isValue
+string-rule v = refl
+
+pub string-utf8 : (v : List ℕ) → isValue string v ≡ true → isUtf8 v ≡ true
+string-utf8 v h = and-of (leb (length v) 16) (isUtf8 v) (sym (string-rule v) ∙ h) .1
+
 -- The empty string, and any value by the rule of its basic type, is sound as text.
 pub empty-string : isValue string [] ≡ true
-unfolding isValue
+unfolding isValue goesOn
 empty-string = refl
 
 pub value-text : (b : ℕ) (v : List ℕ) → isValue b v ≡ true → SoundText (value b v)

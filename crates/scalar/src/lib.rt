@@ -5,6 +5,7 @@ ghost use mathlib.Core.List.{[]};
 ghost use Prim.Native.Nat.{_+_, _≤_, min};
 ghost use lib.ListN.{length, take, drop};
 ghost use lib.Ieee.{binary64, ofBits, toBits, nanBits, lt, eq};
+ghost use Rattle.scalar.specs.Basic.{string};
 ghost use Rattle.scalar.specs.Value.{value, bytesOf, isValue, wordOf, SoundValue, SoundText};
 ghost use Rattle.wire.specs.Wire.{part, withPart};
 ghost use Rattle.scalar.specs.Operator.{notOf, negateOf, andOf, addOf, subtractOf, lessOf, equalOf, equalBytes, bit};
@@ -81,6 +82,17 @@ pub struct Word {
     pub len: usize,
 }
 
+// Are the `len` bytes at `at` a string's: at most 16, well-formed UTF-8?
+fn is_string(s: &[u8], at: usize, len: usize) -> bool
+    requires { ⌜ at + len ≤ length (now s) ⌝ }
+    ensures { λ r. ⌜ r ≡ isValue string (take len (drop at (now (s .entry)))) ⌝ }
+{
+    if 16 < len {
+        return false;
+    }
+    utf8::is_utf8(&s[at..at + len])
+}
+
 // Are the `len` bytes at `at` a value of the basic type?
 pub fn value_ok(s: &[u8], at: usize, basic: u8, len: usize) -> bool
     requires { ⌜ at + len ≤ length (now s) ⌝ }
@@ -105,7 +117,7 @@ pub fn value_ok(s: &[u8], at: usize, basic: u8, len: usize) -> bool
             false
         }
         LONG => len == 8,
-        STRING => len <= 16,
+        STRING => is_string(s, at, len),
         RAW => len <= 16,
         VOID => len == 0,
         _ => false,

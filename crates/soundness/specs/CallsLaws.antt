@@ -12,7 +12,8 @@ use Rattle.state.specs.ShapeLaws.{stands-unique}
 use Rattle.move_rules.specs.Moves.{Move}
 use Rattle.move_rules.specs.Step.{step}
 use Rattle.move_rules.specs.Fresh.{freshBytes}
-use Rattle.soundness.specs.Property3.{Ready, Causes22, Turn, Given, AllGiven, after, numberOfNext}
+use Rattle.soundness.specs.Property3.{Ready, Causes22, Turn, Given, AllGiven, after, numberOfNext, outgoingOfNext}
+use Rattle.soundness.specs.Texts.{TextOut}
 use Rattle.soundness.specs.Property3Laws.{property3}
 use Rattle.soundness.specs.Calls.{SoundCall}
 
@@ -47,8 +48,10 @@ call-sound file s t g l f =
           ∙ P .holds .readyMoves q n r S w (t .bytes) (t .out) (subst (λ (z : State). Ready (networkOf file) z q n r S w) (one G h) k));
       only22 = λ G h e. subst (λ (z : State). Causes22 (networkOf file) z (t .move)) (sym (one G h))
           (P .holds .only22 t g (ap (λ (b : List ℕ). numberOfNext file b t) (sym same) ∙ e));
+      writesText = subst (λ (b : List ℕ). TextOut (outgoingOfNext file b t)) (sym same) (P .holds .writesText t g);
       leaves = left;
       state = Q .state;
       stands = record { shape = Q .stands .shape; bytes = left ∙ Q .stands .bytes };
       wellTyped = Q .holds .wellTyped;
+      texts = Q .holds .texts;
     }

@@ -1,27 +1,23 @@
 -- Delivering a message that fits keeps the invariant: queued at a live session, or starting a free one.
 use mathlib.Core.Path.{_≡_, refl, sym, ap, subst, _∙_}
-use Prim.Native.Nat.{ℕ, zero, suc, _≤_, _<_, _+_, max}
+use Prim.Native.Nat.{ℕ, zero, suc, _≤_, _<_, _+_}
 use mathlib.Core.Bool.{Bool, true, false}
 use mathlib.Core.List.{List, [], _∷_, _++_}
 use native.Mathlib.Omega.{arith}
 use lib.Dec.{T, eqb, ltb, leb, eqb→eq, ltb→lt, leb→le}
 use lib.ListN.{length}
-use Rattle.tree_forest.specs.Forest.{Tree, tree, end, RisingTree}
+use Rattle.tree_forest.specs.Forest.{Tree, end}
 use Rattle.tree_forest.specs.Path.{Path}
 use Rattle.scalar.specs.Value.{Value}
 use Rattle.basics.specs.Choice.{pick}
-use Rattle.network_syntax.specs.Syntax.{Types, MessageType, Optional, none, some, Service, Network, Operation, input, Behaviour, oneWay, requestResponse}
+use Rattle.network_syntax.specs.Syntax.{Types, Optional, none, some, Service, Network, Operation, input, Behaviour, oneWay, requestResponse}
 use Rattle.network_syntax.specs.Syntax.{sequence, choice, Branches}
-use Rattle.network_syntax.specs.Rows.{rowOf, hasRow, hasRowIn, Response, Input, fromInput, choiceOf, entry}
+use Rattle.network_syntax.specs.Rows.{rowOf, hasRow, Response, Input, fromInput, choiceOf, entry}
 use Rattle.network.specs.Shapes.{EachRowOnce}
 use Rattle.network_syntax.specs.Meets.{firstOf}
 use Rattle.check_subtyping.specs.Own.{Fits}
-use Rattle.check_subtyping.specs.OwnLaws.{tree-within}
-use Rattle.check_typing.specs.EnvironmentLaws.{sums, maxima}
 use Rattle.check_typing.specs.Rules.{Derives}
-use Rattle.tree.specs.Encode.{WellFormedTree}
-use Rattle.tree_forest.specs.Limits.{messageLevelsBelow, messageNodesBelow}
-use Rattle.state.specs.Session.{Destination, Progresses, undone, received, taken, advance, Queued, Session}
+use Rattle.state.specs.Session.{Destination, Progresses, undone, taken, advance, Queued, Session}
 use Rattle.state.specs.Session.{withQueue, withProgress, newSession, Slot, free, live, State, setSlot}
 use Rattle.state.specs.Shape.{serviceOfRow, clientOf, starterOf, behaviourIn, operationOfRow, suitsOperation, branches}
 use Rattle.move_rules.specs.Targets.{Target, noTarget, queueFull, queued, starts, startFrom, startOf, targetOf, targetIn, target}
@@ -30,22 +26,15 @@ use Rattle.state.specs.Session.{receivedBy}
 use Rattle.soundness.specs.GoodTrees.{GoodTree}
 use Rattle.soundness.specs.Parts.{branchAt, Reaches, atSelf, atFirst, atBranch}
 use Rattle.soundness.specs.RowLaws.{in-first, branch-rows}
-use Rattle.soundness.specs.Accepted.{OfFile, MadeOf, SmallType, Accepted, DerivedStarter}
+use Rattle.soundness.specs.Accepted.{OfFile, MadeOf, Accepted, DerivedStarter}
 use Rattle.soundness.specs.MadeLaws.{made-at, plain-request, reaches-atRow}
 use Rattle.network_syntax.specs.ViewLaws.{own-row, some-inj}
 use Rattle.soundness.specs.Invariant.{ReplyFits, RepliesFit, AnswersAt, QueuedSound, AllQueued, SessionSound, Sound}
 use Rattle.soundness.specs.SessionLaws.{advance-here, advance-below-branches, once-of, made-of, oneWay-sound, request-sound, queue-sound}
 use Rattle.soundness.specs.StartLaws.{StartedBy, FoundStart, startFrom-found, start-sound}
-use Rattle.soundness.specs.ResultLaws.{Claims, Keeps, nothingSent, goes-keeps, keeps-15, allowed-16, by-require, by-live, sound-set, live-inj}
+use Rattle.soundness.specs.Texts.{nothingOut}
+use Rattle.soundness.specs.ResultLaws.{Claims, Keeps, goes-keeps, keeps-15, allowed-16, by-require, by-live, sound-set, live-inj, message-formed}
 use Rattle.soundness.specs.LocalLaws.{permits-one, permits-two, save-goes, suits-destination, suits-none}
-
--- What fits a type of the file is a message.
-pub message-formed : (m : Tree Value) (t : MessageType) → GoodTree m → RisingTree t → SmallType t → Fits m t
-    → WellFormedTree messageLevelsBelow messageNodesBelow m
-message-formed (tree v k) (tree a l) g rt st f =
-    let few = tree-within (_+_) sums k l (g .1 .0) rt (f .children) in
-    let low = tree-within max maxima k l (g .1 .0) rt (f .children) in
-    record { root = g .0; sound = g .1 .1; rising = g .1 .0; shallow = let z = st .0 in omega arith; few = let z = st .1 in omega arith }
 
 -- The operation found is one of the list, and passes the test.
 pub first-there : (test : Operation → Bool) (l : List Operation) (i : Operation) → firstOf test l ≡ some i
@@ -282,7 +271,7 @@ module _ (N : Network) (rows : ℕ) (acc : Accepted N rows) where
       by-live N rows claims (G (i .service) n) (λ S. moved (setSlot G (i .service) n (live (withQueue S (S .queue ++ (msg ∷ []))))) [])
       (λ S e.
       let made = queue-sound N rows acc (i .service) n S (hG .sessions (i .service) n S e) msg (queued-sound i x back arr) (f S e) in
-      (sound-set N rows G (i .service) n (live (withQueue S (S .queue ++ (msg ∷ [])))) hG made, nothingSent))
+      (sound-set N rows G (i .service) n (live (withQueue S (S .queue ++ (msg ∷ [])))) hG made, nothingOut))
   deliver-keeps claims G hG i n x back arr (starts c k a) f ad =
       goes-keeps N rows claims false (saveWithin G (i .service) n (started c k a back x) []) (λ t. absurd t)
       (save-goes N rows acc G (i .service) n (started c k a back x) hG (started-sound i n c k a x back arr f ad))

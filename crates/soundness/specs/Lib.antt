@@ -16,7 +16,9 @@ pub mod SessionLaws
 pub mod FilePartsLaws
 pub mod AcceptedLaws
 pub mod StartLaws
+pub mod Texts
 pub mod Property3
+pub mod TextLaws
 pub mod ResultLaws
 pub mod LocalLaws
 pub mod DeliverLaws

@@ -45,8 +45,9 @@ use Rattle.network_syntax.specs.ViewLaws.{own-row, some-inj, input-is, local-is
 use Rattle.soundness.specs.Invariant.{ReplyFits, RepliesFit, AnswersAt, QueuedSound, AllQueued, SessionSound, Sound}
 use Rattle.soundness.specs.SessionLaws.{advance-here, advance-below-branches, advance-apart, once-of, made-of, tree-limit, assign-sound, oneWay-sound}
 use Rattle.soundness.specs.SessionLaws.{request-sound, if-sound, while-sound, again-sound, select-sound}
-use Rattle.soundness.specs.ResultLaws.{Claims, claimsOf, Keeps, Goes, nothingSent, goes-keeps, keeps-15, by-require, by-undone, by-session, at-evaluation}
+use Rattle.soundness.specs.ResultLaws.{Claims, claimsOf, Keeps, Goes, goes-keeps, keeps-15, by-require, by-undone, by-session, at-evaluation}
 use Rattle.soundness.specs.ResultLaws.{at-require, at-truth, sound-set}
+use Rattle.soundness.specs.Texts.{nothingOut}
 use Rattle.soundness.specs.Property3.{localExpression, isBeyond, LeavesRange}
 
 -- A message taken from a queue.
@@ -140,7 +141,7 @@ module _ (N : Network) (rows : ℕ) (acc : Accepted N rows) where
   pub save-goes : (G : State) (q n : ℕ) (S : Session) → Sound N rows G → SessionSound N rows q n S → Goes N rows false (saveWithin G q n S [])
   save-goes G q n S h s =
       at-require N rows false (within (S .tree)) Stuck (moved (setSlot G q n (live S)) []) (tree-limit N rows acc q n S s)
-      (sound-set N rows G q n (live S) h s, nothingSent)
+      (sound-set N rows G q n (live S) h s, nothingOut)
 
   module _ (G : State) (hG : Sound N rows G) (q n : ℕ) (S : Session) (h : SessionSound N rows q n S) where
     abbrev p : Progresses
@@ -162,13 +163,13 @@ module _ (N : Network) (rows : ℕ) (acc : Accepted N rows) where
       where
         go : (c : Bool) → SessionSound N rows q n (withProgress S (advance p r (taken 0))) → SessionSound N rows q n (withProgress S (advance p r (taken 1)))
             → Goes N rows false (decided G q n S r c)
-        go true x y = (sound-set N rows G q n (live (withProgress S (advance p r (taken 0)))) hG x, nothingSent)
-        go false x y = (sound-set N rows G q n (live (withProgress S (advance p r (taken 1)))) hG y, nothingSent)
+        go true x y = (sound-set N rows G q n (live (withProgress S (advance p r (taken 0)))) hG x, nothingOut)
+        go false x y = (sound-set N rows G q n (live (withProgress S (advance p r (taken 1)))) hG y, nothingOut)
 
     repeated-goes : (r : ℕ) (b : Behaviour) (c : Bool) → SessionSound N rows q n (withProgress S (advance (reopen p b) r (taken 0)))
         → SessionSound N rows q n (withProgress S (advance p r done)) → Goes N rows false (repeated G q n S r b c)
-    repeated-goes r b true x y = (sound-set N rows G q n (live (withProgress S (advance (reopen p b) r (taken 0)))) hG x, nothingSent)
-    repeated-goes r b false x y = (sound-set N rows G q n (live (withProgress S (advance p r done))) hG y, nothingSent)
+    repeated-goes r b true x y = (sound-set N rows G q n (live (withProgress S (advance (reopen p b) r (taken 0)))) hG x, nothingOut)
+    repeated-goes r b false x y = (sound-set N rows G q n (live (withProgress S (advance p r done))) hG y, nothingOut)
 
     pub while-goes : (r : ℕ) (e : Expression) (b : Behaviour) → Reaches p (whileDo r e b) (h .what) → p r ≡ undone
         → Goes N rows (isBeyond (evaluate (S .tree) e)) (onTruth (evaluate (S .tree) e) (repeated G q n S r b))
@@ -383,4 +384,4 @@ module _ (N : Network) (rows : ℕ) (acc : Accepted N rows) where
   pub close-move : (claims : Claims) (G : State) → Sound N rows G → (q n : ℕ) → Keeps N rows claims (closeMove N G q n)
   close-move claims G hG q n =
       by-session N rows claims G q n (λ B S. require (isDone (S .progress) B) MoveNotAllowed (moved (setSlot G q n free) []))
-      (λ B S e eS. by-require N rows claims (isDone (S .progress) B) (moved (setSlot G q n free) []) (λ t. (sound-set N rows G q n free hG tt, nothingSent)))
+      (λ B S e eS. by-require N rows claims (isDone (S .progress) B) (moved (setSlot G q n free) []) (λ t. (sound-set N rows G q n free hG tt, nothingOut)))

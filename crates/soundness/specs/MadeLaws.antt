@@ -11,7 +11,7 @@ use Rattle.network_syntax.specs.Syntax.{solicitResponse, ifThenElse, whileDo, s
 use Rattle.network_syntax.specs.Syntax.{lastBranch, branch}
 use Rattle.network_syntax.specs.Rows.{rowOf, hasRow, hasRowIn, atRow, atRowIn, orElseSome, itself}
 use Rattle.network_syntax.specs.ViewLaws.{own-row, some-inj}
-use Rattle.network.specs.Shapes.{Outside, Apart, EachRowOnce, EachBranchRowOnce}
+use Rattle.network.specs.Shapes.{Outside, EachRowOnce, EachBranchRowOnce}
 use Rattle.check_typing.specs.Occurs.{occurs, occursInBranches}
 use Rattle.check_typing.specs.Rules.{RisingOperation, WellSorted, WellSortedBranches}
 use Rattle.check_typing.specs.Typed.{Typed, TypedBranches}
@@ -19,7 +19,7 @@ use Rattle.state.specs.Session.{Progress, Progresses, undone, done, waits, rece
 use Rattle.move_rules.specs.Readiness.{unlessDone, unlessWaits, unlessReceived, unlessTaken, thenOrElse, rest, branchRest}
 use Rattle.soundness.specs.Parts.{branchAt, Reaches, atSelf, atFirst, atSecond, atLeft, atRight, atThen, atElse}
 use Rattle.soundness.specs.Parts.{atLoop, atServed, atBranch}
-use Rattle.soundness.specs.RowLaws.{in-own, in-first, in-second, in-only, in-branches, in-input}
+use Rattle.soundness.specs.RowLaws.{in-first, in-second, in-only, in-branches, in-input}
 use Rattle.soundness.specs.RowLaws.{in-then, in-others, branch-rows, branch-once, reaches-rows}
 use Rattle.soundness.specs.Accepted.{OfFile, MadeOf, MadeOfBranches, Accepted}
 

@@ -2,13 +2,14 @@
 -- empty, and each move in it has any numbers, outside bytes and out buffer. Property 3 is a single claim about the list, not one per move:
 -- after it live sessions are well typed, no next move, on the same file and the state so left, gives 18, no send or reply gives 19, one
 -- to an outsider included, and a ready assign, if or while gives 0, or 1 for its out buffer." 02: "From fresh, a ready local row of an
--- accepted network therefore moves, has such a result or gives 1 for its out buffer".
+-- accepted network therefore moves, has such a result or gives 1 for its out buffer"; "State trees and queues hold only well-formed strings
+-- from a fresh state on".
 use mathlib.Core.Path.{_≡_}
 use mathlib.Core.Bool.{Bool, true, false, _&&_, _||_}
 use mathlib.Core.List.{List, [], _∷_}
 use Prim.Native.Nat.{ℕ, _<_}
 use lib.Dec.{T, leb}
-use lib.ListN.{length}
+use lib.ListN.{length, take}
 use Rattle.tree_forest.specs.Forest.{Rising}
 use Rattle.basics.specs.Choice.{pick}
 use Rattle.network_syntax.specs.Syntax.{Types, Optional, none, some, Network, Operation, Expression, Behaviour}
@@ -31,9 +32,10 @@ use Rattle.state.specs.Shape.{isUndone, behaviourIn, operationOfRow, Stands}
 use Rattle.move_rules.specs.Readiness.{isDone, rest}
 use Rattle.move_rules.specs.Evaluation.{Evaluation, missing, wrongKind, beyond, given, evaluate}
 use Rattle.move_rules.specs.Moves.{Move, local, receive, send, reply, outerMessage, outerReply, close}
-use Rattle.move_rules.specs.Step.{step}
+use Rattle.move_rules.specs.Step.{Step, step}
 use Rattle.move_rules.specs.Fresh.{freshBytes}
 use Rattle.soundness.specs.Parts.{Reaches}
+use Rattle.soundness.specs.Texts.{AllText, TextQueue, TextOut}
 
 -- "each queued message fits its operation's request type"
 pub record FitsOperation (N : Network) (m : Queued) : Type 0 where
@@ -131,6 +133,10 @@ Causes22 N G (outerMessage q id n k) = ⊥
 Causes22 N G (outerReply q n r) = ⊥
 Causes22 N G (close q n) = ⊥
 
+-- A move's result is "a number and the bytes written out": as many of the out buffer as its outcome counts.
+abbrev pub outgoing : Step → List ℕ
+outgoing x = take (x .outcome .bytes) (x .out)
+
 -- A move with its outside bytes and its out buffer.
 pub record Turn : Type 0 where
   pub move : Move
@@ -163,6 +169,9 @@ after file s (t ∷ l) = after file (step file s (t .out) (t .move) (t .bytes) .
 
 abbrev pub numberOfNext : List ℕ → List ℕ → Turn → ℕ
 numberOfNext file s t = outcomeNumber (step file s (t .out) (t .move) (t .bytes) .outcome)
+
+abbrev pub outgoingOfNext : List ℕ → List ℕ → Turn → List ℕ
+outgoingOfNext file s t = outgoing (step file s (t .out) (t .move) (t .bytes))
 
 abbrev pub sendsOrReplies : Move → Bool
 sendsOrReplies (local q n r) = false
@@ -198,6 +207,14 @@ ReadyMoves file G =
 abbrev pub Only22 : List ℕ → State → Type 0
 Only22 file G = (t : Turn) → Given t → numberOfNext file (stateBytes G) t ≡ 22 → Causes22 (networkOf file) G (t .move)
 
+-- "State trees and queues hold only well-formed strings": those of every live session.
+abbrev pub AllTexts : State → Type 0
+AllTexts G = (q n : ℕ) (S : Session) → G q n ≡ live S → AllText (S .tree) × TextQueue (S .queue)
+
+-- A next move writes out no other.
+abbrev pub WritesText : List ℕ → State → Type 0
+WritesText file G = (t : Turn) → Given t → TextOut (outgoingOfNext file (stateBytes G) t)
+
 -- What holds of a state from fresh.
 pub record Holds (file : List ℕ) (G : State) : Type 0 where
   pub wellTyped : AllWellTyped file G
@@ -205,6 +222,8 @@ pub record Holds (file : List ℕ) (G : State) : Type 0 where
   pub never19 : Never19 file G
   pub readyMoves : ReadyMoves file G
   pub only22 : Only22 file G
+  pub texts : AllTexts G
+  pub writesText : WritesText file G
 
 -- An accepted file: bytes that the checker, which tries 2 to 13, passes.
 pub record AcceptedFile (file : List ℕ) : Type 0 where

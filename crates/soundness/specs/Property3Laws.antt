@@ -5,7 +5,8 @@ use mathlib.Core.Bool.{Bool, true, false, _&&_, _||_}
 use mathlib.Core.List.{List, [], _∷_}
 use native.Mathlib.Omega.{arith}
 use lib.Dec.{T, eqb, leb}
-use lib.ListN.{length}
+use lib.ListN.{length, drop}
+use lib.Seq.{take-append-seam}
 use Rattle.basics.specs.Choice.{pick}
 use Rattle.basics.specs.TestLaws.{of-T}
 use Rattle.network_syntax.specs.Syntax.{Optional, none, some, Network, Expression, Behaviour}
@@ -23,7 +24,7 @@ use Rattle.state.specs.Places.{outRoom}
 use Rattle.state.specs.Session.{Progress, Progresses, undone, done, waits, received, taken, Queued, Session, Slot, State}
 use Rattle.state.specs.Bytes.{stateBytes}
 use Rattle.state.specs.Shape.{isUndone, Stands, freshState}
-use Rattle.state.specs.ShapeLaws.{decode-state-complete, stands-length}
+use Rattle.state.specs.ShapeLaws.{decode-state-complete, stands-length, stands-unique}
 use Rattle.move_rules.specs.Readiness.{isDone, Reached, reached, reach, rest}
 use Rattle.move_rules.specs.Evaluation.{evaluate}
 use Rattle.move_rules.specs.Moves.{Result, refused, moved, require, onEvaluation, onTruth, ifUndone, ifReadyWhile, assigned, unassigned, decided, repeated}
@@ -47,9 +48,11 @@ use Rattle.soundness.specs.AcceptedLaws.{accepted}
 use Rattle.soundness.specs.FreshLaws.{fresh-sound}
 use Rattle.soundness.specs.ShapeLaws.{sound-shape}
 use Rattle.soundness.specs.Property3.{QueueFits, LiveWellTyped, isTaken, canMove, isReadyLocal, localExpression, isBeyond, Ready, Causes22}
-use Rattle.soundness.specs.Property3.{Turn, NumberFits, Given, AllGiven, after}
+use Rattle.soundness.specs.Texts.{TextOut, nothingOut}
+use Rattle.soundness.specs.Property3.{Turn, NumberFits, Given, AllGiven, after, outgoing}
+use Rattle.soundness.specs.TextLaws.{shape-texts}
 use Rattle.move_rules.specs.Fresh.{freshBytes, fresh}
-use Rattle.soundness.specs.Property3.{AllWellTyped, Never18, Never19, ReadyMoves, Only22, Holds, AcceptedFile, Property3}
+use Rattle.soundness.specs.Property3.{AllWellTyped, Never18, Never19, ReadyMoves, Only22, AllTexts, WritesText, Holds, AcceptedFile, Property3}
 
 is-undone : (s : Progress) → T (isUndone s) → s ≡ undone
 is-undone undone t = refl
@@ -255,9 +258,27 @@ module _ (file : List ℕ) (acc : AcceptedFile file) where
         go (refused why) k e = k .only22 e
         go (moved G2 out) k e = absurd (omega arith)
 
+    pub sound-texts : AllTexts G
+    sound-texts = shape-texts N rows G (sound-stands .shape)
+
+    pub sound-writes : WritesText file G
+    sound-writes t = step-by (λ x. TextOut (outgoing x)) t nothingOut go
+      where
+        go : (R : Result) → Keeps N rows (claimsOf N G (t .move)) R → TextOut (outgoing (finish (stateBytes G) (t .out) R))
+        go (refused why) k = nothingOut
+        go (moved G2 out) k = subst TextOut (sym (take-append-seam out (drop (length out) (t .out)))) (k .1)
+
     pub sound-holds : Holds file G
     sound-holds =
-        record { wellTyped = sound-typed; never18 = sound-never-18; never19 = sound-never-19; readyMoves = sound-ready; only22 = sound-only-22 }
+        record {
+          wellTyped = sound-typed;
+          never18 = sound-never-18;
+          never19 = sound-never-19;
+          readyMoves = sound-ready;
+          only22 = sound-only-22;
+          texts = sound-texts;
+          writesText = sound-writes;
+        }
 
   -- The bytes are those of a sound state.
   pub record SoundBytes (s : List ℕ) : Type 0 where
@@ -295,6 +316,14 @@ module _ (file : List ℕ) (acc : AcceptedFile file) where
         stands = record { shape = sound-stands (h .state) (h .sound) .shape; bytes = h .bytes };
         holds = sound-holds (h .state) (h .sound);
       }
+
+  -- "State trees and queues hold only well-formed strings from a fresh state on", whichever state the bytes stand for; nor does a next move write
+  -- another.
+  pub texts-from-fresh : (l : List Turn) → AllGiven l → (G : State) → Stands (networkOf file) (behaviourCount file) (after file (freshBytes file) l) G
+      → AllTexts G × WritesText file G
+  texts-from-fresh l g G s =
+      let P = property3 l g in
+      subst (λ (H : State). AllTexts H × WritesText file H) (stands-unique (P .stands) s) (P .holds .texts, P .holds .writesText)
 
 -- Of an accepted file, fresh writes the state that the list of moves starts from.
 pub fresh-writes : (file state : List ℕ) → AcceptedFile file → length state ≡ 65536

@@ -1,18 +1,18 @@
 -- Reached rows: what `reach` finds is reached; a row that waits or was received stays reached while other rows move.
 use mathlib.Core.Path.{_≡_, refl, sym, subst, _∙_}
 use Prim.Native.Nat.{ℕ, zero, suc, _+_}
-use mathlib.Core.Bool.{Bool, true, false, _||_, _&&_}
+use mathlib.Core.Bool.{Bool, true, false, _||_}
 use native.Mathlib.Omega.{arith}
 use lib.Dec.{T, eqb, ltb, eqb→eq, eqb-refl, ltb→lt, lt→ltb}
 use Rattle.basics.specs.TestLaws.{and-l, and-r}
-use Rattle.network_syntax.specs.Syntax.{Network, Behaviour, nil, oneWay, requestResponse, notification, solicitResponse, ifThenElse, whileDo}
+use Rattle.network_syntax.specs.Syntax.{Behaviour, nil, oneWay, requestResponse, notification, solicitResponse, ifThenElse, whileDo}
 use Rattle.network_syntax.specs.Syntax.{sequence, parallel, assign, choice, waiting, answering, Branches, lastBranch, branch}
 use Rattle.network_syntax.specs.Rows.{rowOf, hasRow, hasRowIn}
 use Rattle.network_syntax.specs.ViewLaws.{own-row}
 use Rattle.network.specs.Shapes.{EachRowOnce, EachBranchRowOnce}
 use Rattle.check_typing.specs.TypedLaws.{by-bool}
 use Rattle.state.specs.Session.{Progress, Progresses, Destination, undone, done, waits, received, taken}
-use Rattle.state.specs.Shape.{branches, isUndone, undoneDoneOrReceived, undoneOrTaken, undoneDoneOrBody, suits}
+use Rattle.state.specs.Shape.{branches}
 use Rattle.move_rules.specs.Readiness.{unlessDone, unlessReceived, unlessTaken, thenOrElse, isDone}
 use Rattle.move_rules.specs.Readiness.{branchDone, Reached, unreached, reached, offered, here, orElse, onlyIf}
 use Rattle.move_rules.specs.Readiness.{offeredIf, offer, reach, reachBranch, served}

@@ -2,18 +2,18 @@
 use mathlib.Core.Path.{_≡_, refl, sym, ap, subst, _∙_}
 use Prim.Native.Nat.{ℕ, zero, suc}
 use native.Mathlib.Omega.{arith}
-use mathlib.Core.Bool.{Bool, true, false, _&&_, _||_}
+use mathlib.Core.Bool.{Bool, true, false}
 use lib.Dec.{T, eqb, eqb→eq, eqb-refl}
 use Rattle.basics.specs.TestLaws.{not-T-false, of-T}
 use Rattle.network_syntax.specs.Syntax.{Behaviour, requestResponse, ifThenElse, whileDo, sequence, parallel, choice, Branches, lastBranch, branch}
 use Rattle.network_syntax.specs.Rows.{rowOf, hasRow, hasRowIn, Local, assigns, decides, repeats, fromLocal}
 use Rattle.network_syntax.specs.ViewLaws.{own-row}
-use Rattle.network.specs.Shapes.{Outside, EachRowOnce, EachBranchRowOnce}
-use Rattle.state.specs.Session.{Progress, Progresses, received, taken}
+use Rattle.network.specs.Shapes.{Outside, EachRowOnce}
+use Rattle.state.specs.Session.{Progress, Progresses}
 use Rattle.move_rules.specs.Readiness.{unlessReceived, unlessTaken, thenOrElse, isDone, Reached}
 use Rattle.move_rules.specs.Readiness.{unreached, reached, offered, here, orElse, onlyIf, offer, reach}
 use Rattle.move_rules.specs.Readiness.{reachBranch, served}
-use Rattle.soundness.specs.Parts.{branchAt, Clean, CleanBranches, Reaches, atSelf, atFirst, atSecond, atLeft, atRight, atThen, atElse, atLoop}
+use Rattle.soundness.specs.Parts.{branchAt, Clean, Reaches, atSelf, atFirst, atSecond, atLeft, atRight, atThen, atElse, atLoop}
 use Rattle.soundness.specs.Parts.{atServed, atBranch}
 use Rattle.soundness.specs.RowLaws.{in-first, in-branches, taken-at, branch-rows, branch-once, branch-clean, reaches-rows}
 use Rattle.soundness.specs.ReachLaws.{Found, Offered, reach-found}

@@ -37,8 +37,9 @@ use Rattle.soundness.specs.MadeLaws.{made-at, Plain, plain-request, plai
 use Rattle.network_syntax.specs.ViewLaws.{some-inj, input-is, output-is}
 use Rattle.soundness.specs.Invariant.{SessionSound, Sound}
 use Rattle.soundness.specs.SessionLaws.{once-of, made-of, advance-apart, answer-sound, waiting-sound, waits-received}
-use Rattle.soundness.specs.ResultLaws.{Claims, Keeps, replySent, goes-keeps, keeps-15, by-require, by-received, by-waiting, by-session}
+use Rattle.soundness.specs.ResultLaws.{Claims, Keeps, goes-keeps, keeps-15, by-require, by-received, by-waiting, by-session}
 use Rattle.soundness.specs.ResultLaws.{by-live, by-message, live-inj, set-elim, by-pick, keeps-tree, keeps-fit, outside-fit, sound-set}
+use Rattle.soundness.specs.TextLaws.{reply-out}
 use Rattle.soundness.specs.LocalLaws.{save-goes}
 use Rattle.soundness.specs.SendLaws.{decoded-good}
 
@@ -129,7 +130,7 @@ module _ (N : Network) (rows : ℕ) (acc : Accepted N rows) where
             let f = acc .operations (o .row) o fo in
             keeps-tree N rows claims (found (read c (S .tree))) K (u .0) (λ b eb z. absurd z)
             (λ y v. keeps-fit N rows claims y (o .reply) (moved G2 (u32Bytes k ++ messageBytes y)) (v .1) (f .rising .1) (f .smallReply) (v .0)
-            (sound-set N rows G q n (live (withProgress S (advance p r done))) hG (u .1), replySent k y (v .1)))
+            (λ w. (sound-set N rows G q n (live (withProgress S (advance p r done))) hG (u .1), reply-out k y w)))
         go (waitingRow q2 n2 r2) t u fo =
             let h2 = sound-set N rows G q n (live (withProgress S (advance p r done))) hG (u .1) in
             let K : Behaviour → Session → Result = λ B2 S2. onWaitingRow q2 S2 (atRow r2 B2)
@@ -146,7 +147,7 @@ module _ (N : Network) (rows : ℕ) (acc : Accepted N rows) where
             (λ y v.
             let fit2 : Fits y (o2 .reply) = subtype-trans (v .0) (h .replies r (waitingRow q2 n2 r2) t r o x c d at B2 eB r2 o2 e2 x2 at2) in
             keeps-fit N rows claims y (o2 .reply) (takeReply G2 q2 n2 r2 x2 y) (v .1) (f2 .rising .1) (f2 .smallReply) fit2
-            (take-keeps claims G2 h2 q2 n2 r2 B2 eB o2 e2 x2 at2 y (v .1) fit2
+            (λ w. take-keeps claims G2 h2 q2 n2 r2 B2 eB o2 e2 x2 at2 y (v .1) fit2
             (λ S3 e3. set-elim G q n (live (withProgress S (advance p r done))) q2 n2 (live S3)
             (λ a b c3.
             let sameS : S2 ≡ S = live-inj (sym eS2 ∙ (subst (λ (z : ℕ). G z n2 ≡ live S) (sym a) (subst (λ (z : ℕ). G q z ≡ live S) (sym b) eS))) in

@@ -2,13 +2,12 @@
 use mathlib.Core.Path.{_≡_, refl, sym, ap, subst, _∙_}
 use Prim.Native.Nat.{ℕ, _+_, max}
 use mathlib.Core.Bool.{Bool, true, false, _&&_}
-use mathlib.Core.List.{List, [], _++_}
 use native.Mathlib.Omega.{arith}
 use lib.Dec.{T, eqb, leb, eqb→eq, le→leb}
 use Rattle.tree_forest.specs.Forest.{Tree, tree, Lookup, absent, present, RisingTree, nodes, levels}
 use Rattle.scalar.specs.Basic.{bool}
 use Rattle.scalar.specs.Value.{Value, value, basicOf}
-use Rattle.wire.specs.Wire.{unsignedOf, u32Bytes}
+use Rattle.wire.specs.Wire.{unsignedOf}
 use Rattle.basics.specs.Choice.{pick}
 use Rattle.basics.specs.TestLaws.{and-i, and-r, not-T-false, of-T}
 use Rattle.network_syntax.specs.Syntax.{MessageType, Optional, none, some, Network, Operation, Behaviour}
@@ -22,13 +21,14 @@ use Rattle.check_typing.specs.EnvironmentLaws.{sums, maxima}
 use Rattle.check_typing.specs.TypedLaws.{by-bool}
 use Rattle.tree_forest.specs.Limits.{messageLevelsBelow, messageNodesBelow}
 use Rattle.state.specs.Session.{Destination, Progress, undone, done, waits, received, taken, Session, Slot, free, live, State, setSlot}
-use Rattle.state.specs.Bytes.{messageBytes}
 use Rattle.state.specs.Shape.{behaviourIn}
 use Rattle.move_rules.specs.Evaluation.{Evaluation, missing, wrongKind, beyond, given}
 use Rattle.move_rules.specs.Moves.{Result, refused, moved, notAllowed, require, outOfRange, onEvaluation, onTree, rootValue, onBool, onTruth, onLive}
 use Rattle.move_rules.specs.Moves.{onBehaviour, onOperation, inSession, ifUndone, ifWaiting, onReceived, onMessage, isMessageTree, mustFit, Move}
 use Rattle.soundness.specs.EvaluationLaws.{GivesBy}
 use Rattle.soundness.specs.LeafLaws.{GivesBool}
+use Rattle.tree.specs.Encode.{WellFormedTree}
+use Rattle.soundness.specs.Texts.{TextOut}
 use Rattle.soundness.specs.Property3.{isBeyond, Causes22, sendsOrReplies}
 use Rattle.soundness.specs.GoodTrees.{GoodTree}
 use Rattle.soundness.specs.Accepted.{SmallType}
@@ -81,25 +81,27 @@ set-elim G q n x i j y f g e =
     (λ u. g (sym (ap (λ (b : Bool). pick b x (G i j)) (not-T-false (eqb j n) u)) ∙ e1)))
     (λ t. g (sym (ap (λ (b : Bool). pick b (pick (eqb j n) x (G i j)) (G i j)) (not-T-false (eqb i q) t)) ∙ e))
 
--- What a move from fresh writes out: nothing; a message, every value of which is one of its basic type; or such a message after a reply
--- number.
-pub data Sent : List ℕ → Type 0 where
-  nothingSent : Sent []
-  messageSent : (m : Tree Value) → GoodTree m → Sent (messageBytes m)
-  replySent : (k : ℕ) (m : Tree Value) → GoodTree m → Sent (u32Bytes k ++ messageBytes m)
+-- What fits a type of the file is a message.
+pub message-formed : (m : Tree Value) (t : MessageType) → GoodTree m → RisingTree t → SmallType t → Fits m t
+    → WellFormedTree messageLevelsBelow messageNodesBelow m
+message-formed (tree v k) (tree a l) g rt st f =
+    let few = tree-within (_+_) sums k l (g .1 .0) rt (f .children) in
+    let low = tree-within max maxima k l (g .1 .0) rt (f .children) in
+    record { root = g .0; sound = g .1 .1; rising = g .1 .0; shallow = let z = st .0 in omega arith; few = let z = st .1 in omega arith }
 
 module _ (N : Network) (rows : ℕ) where
-  -- It is refused as claimed, or made: the state after it is sound, and so is what it writes out.
+  -- It is refused as claimed, or made: the state after it is sound, and what it writes out is well formed.
   abbrev pub Keeps : Claims → Result → Type 0
   Keeps claims (refused why) = Tolerated claims why
-  Keeps claims (moved G out) = Sound N rows G × Sent out
+  Keeps claims (moved G out) = Sound N rows G × TextOut out
 
-  -- It is made, and the state after it and what it writes out are sound; with a result that is beyond (`past`) it is refused with 22 instead.
+  -- It is made, the state after it is sound and what it writes out well formed; with a result that is beyond (`past`) it is refused with 22
+  -- instead.
   abbrev pub Goes : Bool → Result → Type 0
   Goes true (refused why) = why ≡ OutOfRange
   Goes true (moved G out) = ⊥
   Goes false (refused why) = ⊥
-  Goes false (moved G out) = Sound N rows G × Sent out
+  Goes false (moved G out) = Sound N rows G × TextOut out
 
   pub goes-keeps : (claims : Claims) (past : Bool) (r : Result) → (T past → claims .cause) → Goes past r → Keeps claims r
   goes-keeps claims true (refused why) f g = subst (Tolerated claims) (sym g) (allowed-22 claims (f tt))
@@ -197,17 +199,17 @@ module _ (N : Network) (rows : ℕ) where
   -- A tree that fits a type of the file is a message, and passes the test.
   fit-test : (m : Tree Value) (t : MessageType) → GoodTree m → RisingTree t → SmallType t → Fits m t → T (isMessageTree m && fits m t)
   fit-test (tree v k) (tree a l) g rt st f =
-      let few = tree-within (_+_) sums k l (g .1 .0) rt (f .children) in
-      let low = tree-within max maxima k l (g .1 .0) rt (f .children) in
+      let w = message-formed (tree v k) (tree a l) g rt st f in
       and-i (isMessageTree (tree v k)) (fits (tree v k) (tree a l))
-      (and-i (leb (levels k) messageLevelsBelow) (leb (nodes k) messageNodesBelow) (le→leb (levels k) messageLevelsBelow (let z = st .0 in omega arith))
-      (le→leb (nodes k) messageNodesBelow (let z = st .1 in omega arith)))
+      (and-i (leb (levels k) messageLevelsBelow) (leb (nodes k) messageNodesBelow) (le→leb (levels k) messageLevelsBelow (w .shallow))
+      (le→leb (nodes k) messageNodesBelow (w .few)))
       (subtype-complete (ownType (tree v k)) (tree a l) (own-rising k (g .1 .0)) rt f)
 
   pub keeps-fit : (claims : Claims) (m : Tree Value) (t : MessageType) (r : Result) → GoodTree m → RisingTree t → SmallType t → Fits m t
-      → Keeps claims r → Keeps claims (mustFit m t r)
+      → (WellFormedTree messageLevelsBelow messageNodesBelow m → Keeps claims r) → Keeps claims (mustFit m t r)
   keeps-fit claims m t r g rt st f h =
-      subst (λ (z : Bool). Keeps claims (require z MessageMisfit r)) (sym (of-T (isMessageTree m && fits m t) (fit-test m t g rt st f))) h
+      subst (λ (z : Bool). Keeps claims (require z MessageMisfit r)) (sym (of-T (isMessageTree m && fits m t) (fit-test m t g rt st f)))
+      (h (message-formed m t g rt st f))
 
   -- An outsider's message may be refused with 19.
   pub outside-fit : (claims : Claims) → (T (claims .strict) → ⊥) → (m : Tree Value) (t : MessageType) (r : Result) → (T (fits m t) → Keeps claims r)

@@ -3,14 +3,14 @@ use mathlib.Core.Path.{_≡_, refl, sym, ap, subst, _∙_}
 use Prim.Native.Nat.{ℕ, _<_}
 use mathlib.Core.Bool.{Bool, true, false, _&&_}
 use mathlib.Core.List.{List}
-use lib.Dec.{T, eqb, leb, ltb, eqb→eq, eqb-refl, le→leb, lt→ltb}
+use lib.Dec.{T, eqb, leb, ltb, eqb-refl, le→leb, lt→ltb}
 use lib.ListN.{length}
 use Rattle.tree_forest.specs.Forest.{Tree, tree, present}
 use Rattle.tree_forest.specs.Path.{Path}
 use Rattle.scalar.specs.Value.{Value}
 use Rattle.basics.specs.Choice.{pick}
 use Rattle.basics.specs.TestLaws.{and-i, and-l, and-r}
-use Rattle.network_syntax.specs.Syntax.{Optional, none, some, Network, Direction, Operation, output, Expression, Behaviour, notification, solicitResponse}
+use Rattle.network_syntax.specs.Syntax.{Optional, none, some, Network, Direction, Operation, output, Expression, Behaviour, solicitResponse}
 use Rattle.network_syntax.specs.Rows.{rowOf, atRow, Output, outputOf, fromOutput, isInputOperation}
 use Rattle.network_syntax.specs.Meets.{inFile, metInput}
 use Rattle.network.specs.MeetsLaws.{met-input, met-entry}
@@ -43,11 +43,12 @@ use Rattle.soundness.specs.MadeLaws.{made-at, plain-solicit, reaches-atR
 use Rattle.network_syntax.specs.ViewLaws.{some-inj, output-is}
 use Rattle.soundness.specs.Invariant.{RepliesFit, SessionSound, Sound}
 use Rattle.soundness.specs.SessionLaws.{once-of, made-of, notification-sound, solicit-sound}
-use Rattle.soundness.specs.ResultLaws.{Claims, claimsOf, Keeps, messageSent, keeps-15, by-require, by-undone, by-session, by-operation, by-message}
+use Rattle.soundness.specs.ResultLaws.{Claims, claimsOf, Keeps, keeps-15, by-require, by-undone, by-session, by-operation, by-message}
 use Rattle.soundness.specs.ResultLaws.{live-inj, set-elim, by-pick, keeps-tree, keeps-fit, outside-fit, sound-set}
+use Rattle.soundness.specs.TextLaws.{message-out}
 use Rattle.soundness.specs.Property3.{outputExpression, isBeyond, LeavesRange}
 use Rattle.soundness.specs.LocalLaws.{permits-one, permits-two, permits-output, message-good, leaves-range}
-use Rattle.soundness.specs.DeliverLaws.{TargetInfo, target-info, LetsPass, allowed-keeps, deliver-keeps, first-there, behaviour-place}
+use Rattle.soundness.specs.DeliverLaws.{TargetInfo, target-info, allowed-keeps, deliver-keeps, first-there, behaviour-place}
 
 solicit-same : {r r2 : ℕ} {o o2 : Operation} {e e2 : Expression} {x x2 : Path} → solicitResponse r o e x ≡ solicitResponse r2 o2 e2 x2 → o ≡ o2
 solicit-same h = cc
@@ -119,7 +120,7 @@ module _ (N : Network) (rows : ℕ) (acc : Accepted N rows) where
         (λ y k.
         let fit2 : Fits y (i .request) = subtype-trans (k .0) (ag .requests) in
         keeps-fit N rows claims y (i .request) (deliver G2 i to t back y) (k .1) (fi .rising .0) (fi .smallRequest) fit2
-        (deliver-keeps N rows acc claims G2 h2 i to y back
+        (λ w. deliver-keeps N rows acc claims G2 h2 i to y back
         (record { ofFile = m .ofFile; suit = suit-of i back (m .isIn) (d .1); good = k .1; fit = fit2; destination = d .0 })
         t (gone-info G q n S (advance p r after) eS i to t (target-info N rows acc G i to)) ad)))))
         (λ outside.
@@ -127,7 +128,7 @@ module _ (N : Network) (rows : ℕ) (acc : Accepted N rows) where
         by-require N rows claims (eqb to 0) (onTree (evaluate (S .tree) e) K)
         (λ t. keeps-tree N rows claims (evaluate (S .tree) e) K g cause
         (λ y k. keeps-fit N rows claims y (o .request) (moved G2 (messageBytes y)) (k .1) (fo2 .rising .0) (fo2 .smallRequest) (k .0)
-        (h2, messageSent y (k .1)))))
+        (λ w. (h2, message-out y w)))))
       where
         cause : (b : ℕ) → evaluate (S .tree) e ≡ beyond b → Unit {0} → claims .cause
         cause b eb u = c (subst (λ (z : Evaluation (Tree Value)). T (isBeyond z)) (sym eb) tt)

@@ -1,19 +1,20 @@
 -- One law for each way out of the functions; that the tests of the code agree with the forms is computed for all 256 octets.
-use Prim.Native.Nat.{ℕ, zero, suc, _+_, _-_, _<_, _≤_}
+use Prim.Native.Nat.{ℕ, zero, suc, _+_, _-_, _/_, _<_, _≤_}
 use mathlib.Core.Path.{_≡_, refl, sym, _∙_, ap}
 use mathlib.Core.List.{List, [], _∷_}
 use mathlib.Core.Bool.{Bool, true, false, not, _&&_}
 use native.Mathlib.Omega.{arith}
+use native.Mathlib.Nat.{add-zero}
 use native.Mathlib.Numerals.{add-one}
 use lib.Dec.{T, leb, ltb, eqb}
 use lib.ListN.{length, drop, getD, replicate, length-drop, length-replicate, drop-of-length-le}
 use lib.Seq.{drop-cons, drop-drop}
-use borrow.Author.Tests.{lt-ltb, le-ltb, le-leb, lt-leb, eq-eqb, ne-eqb, eqb-true}
+use borrow.Author.Tests.{lt-ltb, le-ltb, le-leb, lt-leb, ne-eqb, eqb-true, leb-true}
 use Rattle.basics.specs.Choice.{pick}
-use Rattle.basics.specs.TestLaws.{of-T, apart, and-of, and-assoc, not-true, not-false, and-true, and-false, one-less}
+use Rattle.basics.specs.TestLaws.{of-T, apart, and-of, and-assoc, not-true, not-false, and-true, and-false}
 use Rattle.basics.specs.TableLaws.{below, at}
 use Rattle.utf8.specs.Utf8.{Range, range, inRange, tail, forms, begins, othersAfter, goesOn, isUtf8}
-use Rattle.utf8.specs.Octets.{countAfter, leastAfter, mostAfter, rangesAfter, follows}
+use Rattle.utf8.specs.Octets.{countAfter, leastAfter, mostAfter, rangesAfter, follows, highFrom, Whole}
 
 -- ---- how many octets follow
 
@@ -43,18 +44,6 @@ pub ruleset count-laws = (count-low, count-lone, count-two, count-three, count-f
 
 -- ---- the range of the second
 
-module _ (a b c x y z : ℕ) where
-  pub chosen-first : a ≡ b → x ≡ pick (eqb a b) x (pick (eqb a c) y z)
-  chosen-first e = rw (eq-eqb a b e) refl
-
-  pub chosen-second : (a ≡ b → ⊥) → a ≡ c → y ≡ pick (eqb a b) x (pick (eqb a c) y z)
-  chosen-second e f = rw (ne-eqb a b e, eq-eqb a c f) refl
-
-  pub chosen-neither : (a ≡ b → ⊥) → (a ≡ c → ⊥) → z ≡ pick (eqb a b) x (pick (eqb a c) y z)
-  chosen-neither e f = rw (ne-eqb a b e, ne-eqb a c f) refl
-
-pub ruleset chosen-laws = (chosen-first, chosen-second, chosen-neither)
-
 module _ (low high a : ℕ) where
   pub within-below : a < low → false ≡ inRange (range low high) a
   within-below h = rw (lt-leb low a h) refl
@@ -63,6 +52,56 @@ module _ (low high a : ℕ) where
   within-above h = rw (le-leb low a h) refl
 
 pub ruleset within-laws = (within-below, within-above)
+
+-- Whatever the first octet is, the second lies in UTF8-tail.
+of-three : (P : ℕ → Type 0) (s t : Bool) {x y z : ℕ} → P x → P y → P z → P (pick s x (pick t y z))
+of-three P true t p q r = p
+of-three P false true p q r = q
+of-three P false false p q r = r
+
+least-tail : (a : ℕ) → 0x80 ≤ leastAfter a
+least-tail a = of-three (λ (n : ℕ). 0x80 ≤ n) (eqb a 0xE0) (eqb a 0xF0) (omega arith) (omega arith) (omega arith)
+
+most-tail : (a : ℕ) → mostAfter a ≤ 0xBF
+most-tail a = of-three (λ (n : ℕ). n ≤ 0xBF) (eqb a 0xED) (eqb a 0xF4) (omega arith) (omega arith) (omega arith)
+
+-- One law for each way out of `is_second`.
+module _ (a b : ℕ) {t : Bool} (e : t ≡ inRange tail b) where
+  abbrev Says : Bool → Type 0
+  Says x = x ≡ inRange (range (leastAfter a) (mostAfter a)) b
+
+  pub second-no-tail : not t ≡ true → Says false
+  second-no-tail f = by (leb (leastAfter a) b) (leb b (mostAfter a)) refl refl
+    where
+      by : (x y : Bool) → leb (leastAfter a) b ≡ x → leb b (mostAfter a) ≡ y → false ≡ x && y
+      by false y p q = refl
+      by true false p q = refl
+      by true true p q =
+          let low : 0x80 ≤ b = omega (arith, least-tail a, leb-true (leastAfter a) b p) in
+          let high : b ≤ 0xBF = omega (arith, most-tail a, leb-true b (mostAfter a) q) in
+          sym (not-true t f) ∙ e ∙ rw (le-leb 0x80 b low, le-leb b 0xBF high) refl
+
+  module _ (f : not t ≡ false) where
+    in-tail : (leb 0x80 b ≡ true) × (leb b 0xBF ≡ true)
+    in-tail = and-of (leb 0x80 b) (leb b 0xBF) (sym e ∙ not-false t f)
+
+    pub second-E0 : a ≡ 0xE0 → Says (leb 0xA0 b)
+    second-E0 p = rw (p, in-tail .1) (sym (and-true (leb 0xA0 b)))
+
+    pub second-ED : a ≡ 0xED → Says (leb b 0x9F)
+    second-ED p = rw (p, in-tail .0) refl
+
+    pub second-F0 : a ≡ 0xF0 → Says (leb 0x90 b)
+    second-F0 p = rw (p, in-tail .1) (sym (and-true (leb 0x90 b)))
+
+    pub second-F4 : a ≡ 0xF4 → Says (leb b 0x8F)
+    second-F4 p = rw (p, in-tail .0) refl
+
+    pub second-any : (a ≡ 0xE0 → ⊥) → (a ≡ 0xED → ⊥) → (a ≡ 0xF0 → ⊥) → (a ≡ 0xF4 → ⊥) → Says true
+    second-any p q r s =
+        rw (ne-eqb a 0xE0 p, ne-eqb a 0xED q, ne-eqb a 0xF0 r, ne-eqb a 0xF4 s) (rw (in-tail .0, in-tail .1) refl)
+
+pub ruleset second-laws = (second-no-tail, second-E0, second-ED, second-F0, second-F4, second-any)
 
 -- ---- the octets that follow
 
@@ -76,45 +115,50 @@ module _ (v : List ℕ) (r : Range) (rs : List Range) (at : ℕ) {t : Bool} (e :
   passes : not t ≡ false → follows rs (drop (at + 1) v) ≡ follows (r ∷ rs) (drop at v)
   passes f = ap (_&& follows rs (drop (at + 1) v)) (sym (not-false t f)) ∙ next
 
-module _ (v : List ℕ) (at n a : ℕ) (h : at + n ≤ length v) where
+-- The range of the octet after the one at `at`.
+abbrev secondOf : List ℕ → ℕ → Range
+secondOf v at = range (leastAfter (getD v at 0)) (mostAfter (getD v at 0))
+
+-- The second octet is outside, or inside and the last; likewise the third and the fourth. `m` more may follow.
+module _ (v : List ℕ) (at : ℕ) {t : Bool} (e : t ≡ inRange (secondOf v at) (getD v (at + 1) 0)) where
+  abbrev Follow : Bool → ℕ → Type 0
+  Follow x n = x ≡ follows (rangesAfter n (getD v at 0)) (drop (at + 1) v)
+
   abbrev own : Range
-  own = range (leastAfter a) (mostAfter a)
+  own = secondOf v at
 
-  module _ {low high : ℕ} (p : low ≡ leastAfter a) (q : high ≡ mostAfter a) {t : Bool} (e : t ≡ inRange (range low high) (getD v at 0)) where
-    first-told : t ≡ inRange own (getD v at 0)
-    first-told = rw (p, q) at e
+  pub second-outside : (m : ℕ) → at + 1 < length v → not t ≡ true → Follow false (suc m)
+  second-outside m h f = stops v own (replicate m tail) (at + 1) e h f
 
-    pub first-outside : (n ≡ 0 → ⊥) → not t ≡ true → false ≡ follows (rangesAfter n a) (drop at v)
-    first-outside k f = rw (one-less n k) (stops v own (replicate (n - 1) tail) at first-told (omega arith) f)
+  pub second-last : at + 1 < length v → not t ≡ false → Follow true 1
+  second-last h f = passes v own [] (at + 1) e h f
 
-    pub first-alone : not t ≡ false → n ≡ 1 → true ≡ follows (rangesAfter n a) (drop at v)
-    first-alone f m = rw m (passes v own [] at first-told (omega arith) f)
+  module _ (f : not t ≡ false) {t₁ : Bool} (e₁ : t₁ ≡ inRange tail (getD v (at + 2) 0)) where
+    third : t₁ ≡ inRange tail (getD v (at + 1 + 1) 0)
+    third = let two : at + 2 ≡ at + 1 + 1 = omega arith in rw two at e₁
 
-    module _ {t₁ : Bool} (e₁ : t₁ ≡ inRange tail (getD v (at + 1) 0)) (f : not t ≡ false) where
-      pub second-outside : (n ≡ 0 → ⊥) → (n ≡ 1 → ⊥) → not t₁ ≡ true → false ≡ follows (rangesAfter n a) (drop at v)
-      second-outside k l g =
-          let m : n ≡ suc (suc (n - 2)) = omega arith in
-          rw m
-          (stops v tail (replicate (n - 2) tail) (at + 1) e₁ (omega arith) g
-          ∙ passes v own (tail ∷ replicate (n - 2) tail) at first-told (omega arith) f)
+    pub third-outside : (m : ℕ) → at + 2 < length v → not t₁ ≡ true → Follow false (suc (suc m))
+    third-outside m h g =
+        stops v tail (replicate m tail) (at + 1 + 1) third (omega arith) g ∙ passes v own (tail ∷ replicate m tail) (at + 1) e (omega arith) f
 
-      pub second-last : not t₁ ≡ false → n ≡ 2 → true ≡ follows (rangesAfter n a) (drop at v)
-      second-last g m =
-          rw m
-          (passes v tail [] (at + 1) e₁ (omega arith) g ∙ passes v own (tail ∷ []) at first-told (omega arith) f)
+    pub third-last : at + 2 < length v → not t₁ ≡ false → Follow true 2
+    third-last h g = passes v tail [] (at + 1 + 1) third (omega arith) g ∙ passes v own (tail ∷ []) (at + 1) e (omega arith) f
 
-      pub third-last : {t₂ : Bool} → t₂ ≡ inRange tail (getD v (at + 2) 0) → (n ≡ 0 → ⊥) → (n ≡ 1 → ⊥) → not t₁ ≡ false → (n ≡ 2 → ⊥) →
-          n ≤ 3 → t₂ ≡ follows (rangesAfter n a) (drop at v)
-      third-last {t₂} e₂ k l g m b =
-          let three : n ≡ 3 = omega arith in
-          let two : at + 2 ≡ at + 1 + 1 = omega arith in
-          rw three
-          (sym (and-true t₂)
-          ∙ next v tail [] (at + 1 + 1) (rw two at e₂) (omega arith)
-          ∙ passes v tail (tail ∷ []) (at + 1) e₁ (omega arith) g
-          ∙ passes v own (tail ∷ tail ∷ []) at first-told (omega arith) f)
+    module _ (g : not t₁ ≡ false) {t₂ : Bool} (e₂ : t₂ ≡ inRange tail (getD v (at + 3) 0)) (h : at + 3 < length v) where
+      fourth : t₂ ≡ inRange tail (getD v (at + 1 + 1 + 1) 0)
+      fourth = let three : at + 3 ≡ at + 1 + 1 + 1 = omega arith in rw three at e₂
 
-pub ruleset follow-laws = (first-outside, first-alone, second-outside, second-last, third-last)
+      pub fourth-outside : not t₂ ≡ true → Follow false 3
+      fourth-outside k =
+          stops v tail [] (at + 1 + 1 + 1) fourth (omega arith) k
+          ∙ passes v tail (tail ∷ []) (at + 1 + 1) third (omega arith) g
+          ∙ passes v own (tail ∷ tail ∷ []) (at + 1) e (omega arith) f
+
+      pub fourth-last : not t₂ ≡ false → Follow true 3
+      fourth-last k =
+          passes v tail [] (at + 1 + 1 + 1) fourth (omega arith) k
+          ∙ passes v tail (tail ∷ []) (at + 1 + 1) third (omega arith) g
+          ∙ passes v own (tail ∷ tail ∷ []) (at + 1) e (omega arith) f
 
 -- ---- the octets of a form
 
@@ -173,6 +217,9 @@ module _ (a : ℕ) (small : a < 256) where
 
 -- ---- along the sequence
 
+none-whole : (v : List ℕ) (at : ℕ) → at ≤ length v → isUtf8 (drop at v) ≡ false → Whole v at 0
+none-whole v at h e = record { inside = omega arith; none = λ z. e; some = λ z. absurd (z refl) }
+
 goes : (rs : List Range) (w : List ℕ) → goesOn rs w ≡ follows rs w && goesOn [] (drop (length rs) w)
 unfolding goesOn
 goes [] w = refl
@@ -193,10 +240,10 @@ module _ (v : List ℕ) (i n : ℕ) (h : i < length v) (small : getD v i 0 < 256
   unfolding goesOn
   head = rw (drop-cons v i 0 h, add-one) refl
 
-  pub no-character : 3 < n → isUtf8 (drop i v) ≡ false
+  pub no-character : 3 < n → Whole v i 0
   no-character k =
       let m = none-begins (getD v i 0) small (omega (arith, e)) in
-      head ∙ ap (_&& goesOn (othersAfter forms (getD v i 0)) (drop (i + 1) v)) m
+      none-whole v i (omega arith) (head ∙ ap (_&& goesOn (othersAfter forms (getD v i 0)) (drop (i + 1) v)) m)
 
   module _ (k : n ≤ 3) where
     character : isUtf8 (drop i v) ≡ follows (rangesAfter n (getD v i 0)) (drop (i + 1) v) && isUtf8 (drop (i + 1 + n) v)
@@ -213,18 +260,47 @@ module _ (v : List ℕ) (i n : ℕ) (h : i < length v) (small : getD v i 0 < 256
             b && goesOn rs (drop (i + 1) v) ≡ goesOn (rangesAfter n (getD v i 0)) (drop (i + 1) v)
         by b rs p q = rw (p, q) refl
 
-    pub cut-short : length v - i ≤ n → isUtf8 (drop i v) ≡ false
+    pub cut-short : length v - i < suc n → Whole v i 0
     cut-short l =
         let m = few (rangesAfter n (getD v i 0)) (drop (i + 1) v) (omega (arith, length-drop (i + 1) v, as-many n (getD v i 0))) in
-        character ∙ ap (_&& isUtf8 (drop (i + 1 + n) v)) m
+        none-whole v i (omega arith) (character ∙ ap (_&& isUtf8 (drop (i + 1 + n) v)) m)
 
-    module _ {t : Bool} (f : t ≡ follows (rangesAfter n (getD v i 0)) (drop (i + 1) v)) where
-      pub broken : not t ≡ true → isUtf8 (drop i v) ≡ false
-      broken g = character ∙ ap (_&& isUtf8 (drop (i + 1 + n) v)) (sym f ∙ not-true t g)
+    pub broken : false ≡ follows (rangesAfter n (getD v i 0)) (drop (i + 1) v) → Whole v i 0
+    broken f = none-whole v i (omega arith) (character ∙ ap (_&& isUtf8 (drop (i + 1 + n) v)) (sym f))
 
-      pub whole : not t ≡ false → isUtf8 (drop i v) ≡ isUtf8 (drop (i + 1 + n) v)
-      whole g = character ∙ ap (_&& isUtf8 (drop (i + 1 + n) v)) (sym f ∙ not-false t g)
+    pub whole : i + n < length v → true ≡ follows (rangesAfter n (getD v i 0)) (drop (i + 1) v) → Whole v i (suc n)
+    whole l f =
+        let q : i + 1 + n ≡ i + suc n = omega arith in
+        let one = character ∙ ap (_&& isUtf8 (drop (i + 1 + n) v)) (sym f) in
+        record { inside = omega arith; none = λ z. absurd (omega (arith, z)); some = λ z. rw q at one }
 
 pub all-read : (v : List ℕ) (i : ℕ) → length v ≤ i → isUtf8 (drop i v) ≡ true
 unfolding goesOn
 all-read v i h = rw (drop-of-length-le v h) refl
+
+-- ---- characters of one octet, eight at a time
+
+abbrev eight : List ℕ → ℕ → ℕ
+eight v at =
+    let low = getD v at 0 / 0x80 + getD v (at + 1) 0 / 0x80 + getD v (at + 2) 0 / 0x80 + getD v (at + 3) 0 / 0x80 in
+    low + (getD v (at + 4) 0 / 0x80 + getD v (at + 5) 0 / 0x80 + getD v (at + 6) 0 / 0x80 + getD v (at + 7) 0 / 0x80)
+
+pub eight-sum : (v : List ℕ) (at x : ℕ) → x ≡ eight v at → eqb x 0 ≡ eqb (highFrom v at 0 8) 0
+eight-sum v at x e =
+    let q : x ≡ highFrom v at 0 8 = rw (add-zero at) (omega (arith, e)) in
+    ap (λ (k : ℕ). eqb k 0) q
+
+low-run : (v : List ℕ) (at j n : ℕ) → at + j + n ≤ length v → highFrom v at j n ≡ 0 → isUtf8 (drop (at + j) v) ≡ isUtf8 (drop (at + j + n) v)
+low-run v at j zero h e = rw (add-zero (at + j)) refl
+low-run v at j (suc n) h e =
+    let low : getD v (at + j) 0 < 0x80 = omega (arith, e) in
+    let p : at + j + 1 ≡ at + suc j = omega arith in
+    let q : at + suc j + n ≡ at + j + suc n = omega arith in
+    let one = whole v (at + j) 0 (omega arith) (omega (arith, low)) (count-low low) (omega arith) (omega arith) refl in
+    rw p at (one .some (λ z. omega (arith, z))) ∙ rw q at (low-run v at (suc j) n (omega arith) (omega (arith, e)))
+
+-- Eight octets below 80 are eight characters.
+pub eight-read : (v : List ℕ) (at : ℕ) {t : Bool} → at + 8 ≤ length v → t ≡ eqb (highFrom v at 0 8) 0 → not t ≡ false
+    → isUtf8 (drop (at + 8) v) ≡ isUtf8 (drop at v)
+eight-read v at {t} h e f =
+    sym (rw (add-zero at) at (low-run v at 0 8 (omega arith) (eqb-true (highFrom v at 0 8) 0 (sym e ∙ not-false t f))))

@@ -1,12 +1,13 @@
 -- What the code looks at: how many octets follow the first one of a character, in which range the second lies, and whether octets lie in
 -- their ranges.
+use mathlib.Core.Path.{_≡_}
 use mathlib.Core.List.{List, [], _∷_}
 use mathlib.Core.Bool.{Bool, true, false, _&&_}
-use Prim.Native.Nat.{ℕ, zero, suc}
+use Prim.Native.Nat.{ℕ, zero, suc, _+_, _/_, _≤_}
 use lib.Dec.{ltb, eqb}
-use lib.ListN.{replicate}
+use lib.ListN.{length, drop, getD, replicate}
 use Rattle.basics.specs.Choice.{pick}
-use Rattle.utf8.specs.Utf8.{Range, range, inRange, tail}
+use Rattle.utf8.specs.Utf8.{Range, range, inRange, tail, isUtf8}
 
 -- How many octets follow a first one; 4 where the octet begins no character.
 abbrev pub countAfter : ℕ → ℕ
@@ -32,3 +33,14 @@ abbrev pub follows : List Range → List ℕ → Bool
 follows [] v = true
 follows (r ∷ rs) [] = false
 follows (r ∷ rs) (a ∷ v) = inRange r a && follows rs v
+
+-- How many of the n octets from at + j on are 80 or more.
+abbrev pub highFrom : List ℕ → ℕ → ℕ → ℕ → ℕ
+highFrom v at j zero = 0
+highFrom v at j (suc n) = getD v (at + j) 0 / 0x80 + highFrom v at (suc j) n
+
+-- The n octets from `at` on are whole characters; where n is 0, no character is there.
+pub record Whole (v : List ℕ) (at n : ℕ) : Type 0 where
+  pub inside : at + n ≤ length v
+  pub none : n ≡ 0 → isUtf8 (drop at v) ≡ false
+  pub some : (n ≡ 0 → ⊥) → isUtf8 (drop at v) ≡ isUtf8 (drop (at + n) v)

@@ -1,5 +1,6 @@
 -- UTF-8, after RFC 3629: which octets are UTF-8, by the grammar of its section 4, and the octets of a character, by the table of its
 -- section 3. That the two agree is proved in utf8/Utf8Laws.
+use mathlib.Core.Path.{_≡_}
 use mathlib.Core.List.{List, [], _∷_, _++_}
 use mathlib.Core.Bool.{Bool, true, false, _&&_, _||_}
 use Prim.Native.Nat.{ℕ, _+_, _/_, _%_}
@@ -92,3 +93,9 @@ written (u ∷ us) = octets u ++ written us
 abbrev pub areScalarValues : List ℕ → Bool
 areScalarValues [] = true
 areScalarValues (u ∷ us) = isScalarValue u && areScalarValues us
+
+-- Scalar values whose octets these are.
+pub record Written (v : List ℕ) : Type 0 where
+  pub values : List ℕ
+  pub scalars : areScalarValues values ≡ true
+  pub is : written values ≡ v

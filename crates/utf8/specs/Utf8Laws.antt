@@ -12,7 +12,7 @@ use borrow.Author.Tests.{le-leb, lt-leb, leb-true, leb-false, ltb-true, lt-ltb, 
 use Rattle.basics.specs.Choice.{pick}
 use Rattle.basics.specs.TestLaws.{and-of, or-of, both-true, or-left, or-right}
 use Rattle.utf8.specs.Utf8.{Range, range, inRange, tail, Form, forms, begins, othersAfter, goesOn, isUtf8}
-use Rattle.utf8.specs.Utf8.{isScalarValue, octets, written, areScalarValues}
+use Rattle.utf8.specs.Utf8.{isScalarValue, octets, written, areScalarValues, Written}
 use Rattle.utf8.specs.FormLaws.{Lies, in-range, lies, In, here, later, form-begun, InRanges, split, Character, character-first}
 
 -- ---- the octets of a scalar value are a character
@@ -186,12 +186,6 @@ written-utf8 [] e = refl
 written-utf8 (u ∷ us) e =
     let k = and-of (isScalarValue u) (areScalarValues us) e in
     character-first (octets u) (written us) (in-form u (k .0) .1) ∙ written-utf8 us (k .1)
-
--- Scalar values whose octets these are.
-pub record Written (v : List ℕ) : Type 0 where
-  pub values : List ℕ
-  pub scalars : areScalarValues values ≡ true
-  pub is : written values ≡ v
 
 one-more : {l v : List ℕ} → Decoded l → Written v → Written (l ++ v)
 one-more d w = record { values = d .value ∷ w .values; scalars = both-true (d .scalar) (w .scalars); is = rw (d .is, w .is) refl }

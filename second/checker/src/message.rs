@@ -164,6 +164,19 @@ mod tests {
         broken(&|bytes| bytes.clear());
     }
 
+    /// A broken string is no value: the message is none, for its other children too.
+    #[test]
+    fn a_broken_string_anywhere_gives_the_empty_part() {
+        let with = |basic: Basic, text: &[u8]| {
+            let below = node(9, basic, text, &[]);
+            node(0, Basic::Void, &[], &[node(3, Basic::Int, &[7, 0, 0, 0], &[]), node(5, Basic::Void, &[], &[below])])
+        };
+        let found = |message: &[u8]| [[3, 0, 0, 0], [5, 0, 0, 0], [5, 9, 0, 0]].map(|ids| part_range(message, ids));
+        assert_eq!(found(&with(Basic::String, "荷重".as_bytes())), [5..14, 14..30, 19..30]);
+        assert_eq!(found(&with(Basic::String, b"\xE8\x8D")), [0..0, 0..0, 0..0]);
+        assert_eq!(found(&with(Basic::Raw, b"\xE8\x8D")), [5..14, 14..26, 19..26]);
+    }
+
     #[test]
     fn sixteen_nodes_and_four_levels() {
         let wide = |children: u16| {

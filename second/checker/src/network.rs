@@ -133,8 +133,18 @@ pub const EXPRESSION_LEVELS: usize = 8;
 impl Network {
     /// Refusals 2 to 5.
     pub fn read(file: &[u8]) -> Result<Network, Refusal> {
+        Network::read_sparing(file, None)
+    }
+
+    /// The same, but a file whose string constants alone are refused, for their text, is read.
+    pub fn read_any_text(file: &[u8]) -> Result<Network, Refusal> {
+        let spared = |refusal| Network::read_sparing(file, Some(Cause::BrokenText)).map_err(|_| refusal);
+        Network::read(file).or_else(spared)
+    }
+
+    fn read_sparing(file: &[u8], spared: Option<Cause>) -> Result<Network, Refusal> {
         let (tables, layout) = Tables::read(file)?;
-        let mut rules = Rules { tables: &tables, layout, lowest: None };
+        let mut rules = Rules { tables: &tables, layout, spared, lowest: None };
         rules.judge();
         if let Some((place, cause)) = rules.lowest {
             return Err(Refusal::new(cause, place));
@@ -288,6 +298,8 @@ const BRANCH: u8 = 11;
 struct Rules<'a> {
     tables: &'a Tables,
     layout: Layout,
+    /// A rule that is not tried.
+    spared: Option<Cause>,
     lowest: Option<(usize, Cause)>,
 }
 
@@ -303,7 +315,8 @@ impl Rules<'_> {
     }
 
     fn require(&mut self, holds: bool, place: usize, cause: Cause) {
-        if !holds && self.lowest.is_none_or(|(lowest, _)| place < lowest) {
+        let broken = !holds && self.spared != Some(cause);
+        if broken && self.lowest.is_none_or(|(lowest, _)| place < lowest) {
             self.lowest = Some((place, cause));
         }
     }
@@ -355,11 +368,9 @@ impl Rules<'_> {
             let [a, b, _] = expression.fields.map(usize::from);
             let named = match expression.kind {
                 0 => {
-                    if let Some(basic) = Basic::from_byte(expression.basic) {
-                        let right = self.tables.data.get(a..a + b).is_some_and(|bytes| basic.holds(bytes));
-                        self.require(right, start + 2, Cause::Constant);
-                    } else {
-                        self.field(false, start + 1);
+                    match Basic::from_byte(expression.basic) {
+                        Some(basic) => self.constant(basic, a..a + b, start + 2),
+                        None => self.field(false, start + 1),
                     }
                     2
                 }
@@ -388,6 +399,15 @@ impl Rules<'_> {
                 self.field(expression.fields[unused] == 0, start + 2 + 2 * unused);
             }
         }
+    }
+
+    /// The constant's bytes are a value of its type. Of a string that is in the data and not too long, only the text
+    /// can be wrong.
+    fn constant(&mut self, basic: Basic, run: Range<usize>, place: usize) {
+        let bytes = self.tables.data.get(run);
+        let text = basic == Basic::String && bytes.is_some_and(|bytes| Basic::Raw.holds(bytes));
+        let cause = if text { Cause::BrokenText } else { Cause::Constant };
+        self.require(bytes.is_some_and(|bytes| basic.holds(bytes)), place, cause);
     }
 
     fn behaviours(&mut self) {

@@ -16,6 +16,7 @@ pub enum Cause {
     TypeRun,
     ChoiceRun,
     Constant,
+    BrokenText,
     TypeRoot,
     ChildId,
     NeverUsed,
@@ -66,7 +67,7 @@ pub enum Cause {
 }
 
 impl Cause {
-    pub const ALL: [Cause; 46] = {
+    pub const ALL: [Cause; 47] = {
         use Cause::*;
         [
             Length,
@@ -77,6 +78,7 @@ impl Cause {
             TypeRun,
             ChoiceRun,
             Constant,
+            BrokenText,
             TypeRoot,
             ChildId,
             NeverUsed,
@@ -123,8 +125,8 @@ impl Cause {
         match self {
             Length | Trailer => 2,
             TooManyRows | NoService => 3,
-            Field | TypeRun | ChoiceRun | Constant | TypeRoot | ChildId | NeverUsed | SecondUse | RepeatedInput
-            | RepeatedOutput | RepeatedLocation => 4,
+            Field | TypeRun | ChoiceRun | Constant | BrokenText | TypeRoot | ChildId | NeverUsed | SecondUse
+            | RepeatedInput | RepeatedOutput | RepeatedLocation => 4,
             TypeSize | ExpressionSize => 5,
             OtherService | OtherDirection | OtherKind => 6,
             ReadMissing
@@ -156,6 +158,7 @@ impl Cause {
             TypeRun => "the children are no run of later rows",
             ChoiceRun => "the branches are no run of later branch rows",
             Constant => "the constant is no value of its basic type in the data",
+            BrokenText => "the string constant is not well-formed UTF-8",
             TypeRoot => "the operation's type is no mandatory root row with id 0",
             ChildId => "child ids must rise strictly and not be 0",
             NeverUsed => "the behaviour row is never used",

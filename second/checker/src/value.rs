@@ -56,7 +56,8 @@ impl Basic {
                 let bits = u64::from_le_bytes(eight);
                 !f64::from_bits(bits).is_nan() || bits == NAN_BITS
             }),
-            Basic::String | Basic::Raw => bytes.len() <= LONGEST,
+            Basic::String => bytes.len() <= LONGEST && std::str::from_utf8(bytes).is_ok(),
+            Basic::Raw => bytes.len() <= LONGEST,
             Basic::Void => bytes.is_empty(),
         }
     }
@@ -245,6 +246,35 @@ mod tests {
     }
 
     #[test]
+    fn a_string_is_well_formed_utf8() {
+        for text in ["", "\0", "\u{7f}", "é", "荷重", "\u{d7ff}\u{e000}", "\u{feff}\u{ffff}", "\u{10000}\u{10ffff}"]
+        {
+            assert!(Basic::String.holds(text.as_bytes()), "{text:?}");
+        }
+        for broken in [
+            &b"a\x80"[..],
+            b"\xc3",
+            b"\xe2\x82a",
+            b"\xc1\xbf",
+            b"\xe0\x9f\xbf",
+            b"\xf0\x8f\xbf\xbf",
+            b"\xed\xa0\x80",
+            b"\xf4\x90\x80\x80",
+            b"\xf5",
+            b"\xff",
+        ] {
+            assert!(!Basic::String.holds(broken) && Basic::Raw.holds(broken), "{broken:02x?}");
+        }
+    }
+
+    /// 16 counts bytes: five characters of three bytes and one of one, then of two.
+    #[test]
+    fn a_string_is_as_long_as_its_bytes() {
+        assert!(Basic::String.holds("荷荷荷荷荷a".as_bytes()));
+        assert!(!Basic::String.holds("荷荷荷荷荷é".as_bytes()));
+    }
+
+    #[test]
     fn one_nan_only() {
         let holds = |bits: u64| Basic::Double.holds(&bits.to_le_bytes());
         assert!(holds(NAN_BITS));
@@ -356,7 +386,7 @@ mod tests {
             (Basic::Int, vec![1, 2, 3, 4]),
             (Basic::Double, vec![1, 2, 3, 4, 5, 6, 7, 8]),
             (Basic::Long, vec![1, 2, 3, 4, 5, 6, 7, 8]),
-            (Basic::String, vec![0, 255]),
+            (Basic::String, vec![0, 0xC3, 0xA9]),
             (Basic::Raw, vec![7; 16]),
             (Basic::Void, vec![]),
         ] {
@@ -364,6 +394,7 @@ mod tests {
             assert_eq!((value.basic(), value.bytes()), (basic, bytes));
         }
         assert_eq!(Value::read(Basic::Int, &[1, 2, 3]), None);
+        assert_eq!(Value::read(Basic::String, &[0, 255]), None);
         assert_eq!(Value::read(Basic::Int, &[254, 255, 255, 255]), Some(Value::Int(-2)));
     }
 }

@@ -190,6 +190,54 @@ fn four_constants() {
     assert!(check(&tables.write()).is_ok());
 }
 
+/// The base network with one more constant, which nobody uses, and the place of its start field.
+fn with_constant(basic: u8, bytes: &[u8]) -> (Tables, usize) {
+    let mut tables = base();
+    tables.expressions.push(with_basic(basic, tables.data.len() as u16, bytes.len() as u16));
+    tables.data.extend(bytes);
+    let place = tables.layout().row(E, tables.expressions.len() - 1) + 2;
+    (tables, place)
+}
+
+#[test]
+fn four_texts_of_constants() {
+    for text in [&b"\x80"[..], b"abc\xc3", b"\xed\xa0\x80", b"0123456789abcde\xff"] {
+        let (tables, place) = with_constant(STRING, text);
+        assert_eq!(refusal(&tables), Refusal::new(BrokenText, place), "{text:02x?}");
+        assert!(check(&with_constant(RAW, text).0.write()).is_ok(), "raw stays free");
+    }
+    for text in ["\0", "\u{feff}", "\u{ffff}\u{10ffff}", "荷荷荷荷荷a"] {
+        assert!(check(&with_constant(STRING, text.as_bytes()).0.write()).is_ok(), "{text:?}");
+    }
+    // Too long, or past the data, is no matter of the text.
+    let (tables, place) = with_constant(STRING, "荷荷荷荷荷é".as_bytes());
+    assert_eq!(refusal(&tables), Refusal::new(Constant, place));
+    let (mut tables, place) = with_constant(STRING, b"\xff");
+    tables.data.pop();
+    assert_eq!(refusal(&tables), Refusal::new(Constant, place));
+}
+
+/// Only the text of string constants is let pass, and only where nothing else is refused.
+#[test]
+fn any_text_is_read_where_that_is_all() {
+    use second::Network;
+    let (tables, place) = with_constant(STRING, b"a\xff");
+    let network = Network::read_any_text(&tables.write()).expect("a network");
+    assert_eq!(network.data[4..], *b"a\xff");
+    for (change, cause) in [
+        ((|tables| tables.services[0].unused = 1) as fn(&mut Tables), BrokenText),
+        (|tables| tables.types[2].first_child = 9, TypeRun),
+        (|tables| tables.expressions[0].fields[1] = 3, Constant),
+        (|tables| tables.types.extend(vec![mandatory(1, INT); 300]), TooManyRows),
+    ] {
+        let mut tables = tables.clone();
+        change(&mut tables);
+        let found = Network::read_any_text(&tables.write()).expect_err("a refusal");
+        assert_eq!((found, found.cause), (refusal(&tables), cause));
+    }
+    assert_eq!(refusal(&tables), Refusal::new(BrokenText, place));
+}
+
 fn with_basic(basic: u8, start: u16, length: u16) -> second::tables::ExpressionRow {
     second::tables::ExpressionRow { kind: 0, basic, fields: [start, length, 0] }
 }

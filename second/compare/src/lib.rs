@@ -15,6 +15,7 @@ use std::fmt;
 use std::ops::Range;
 use std::process::ExitCode;
 
+use generate::strings::decide::{wrong_part, wrong_refusal};
 use second::ServiceEnvironments;
 use stepper::{Move, Refused};
 
@@ -191,6 +192,19 @@ pub fn differing_check(file: &[u8], left: &dyn Side, right: &dyn Side) -> Option
 pub fn differing_part(message: &[u8], ids: [u16; 4], left: &dyn Side, right: &dyn Side) -> Option<String> {
     let (a, b) = (left.part(message, ids), right.part(message, ids));
     (a != b).then(|| format!("message {} path {ids:?}\n{}: {a:?}\n{}: {b:?}", hex(message), left.name(), right.name()))
+}
+
+/// The library's verdict where the string constants of a file ask for another.
+pub fn wrong_by_constants(file: &[u8]) -> Option<String> {
+    let wrong = wrong_refusal(file, second::check(file).as_ref().err());
+    wrong.then(|| format!("file {}\nnot by its string constants: {}", hex(file), Second.check(file)))
+}
+
+/// The library's part where the strings of a message ask for another.
+pub fn wrong_by_strings(message: &[u8], ids: [u16; 4]) -> Option<String> {
+    let part = Second.part(message, ids);
+    let wrong = wrong_part(message, ids, part.is_empty());
+    wrong.then(|| format!("message {} path {ids:?}\nnot by its strings: {part:?}", hex(message)))
 }
 
 #[cfg(test)]

@@ -8,6 +8,7 @@ use std::process::ExitCode;
 use std::time::Instant;
 
 use compare::{differing_check, differing_part, other, texts, walks, with_large_stack, Second, Side};
+use compare::{wrong_by_constants, wrong_by_strings};
 use generate::declarations::DeclarationHits;
 use generate::walks::WalkHits;
 use generate::{file, messages, Hits, Random};
@@ -93,14 +94,16 @@ fn files_and_messages(options: &Options, other: &dyn Side) -> Result<Vec<String>
     let mut hits = Hits::default();
     for index in 0..options.files {
         let file = file(&mut random);
-        if let Some(difference) = differing_check(&file, &Second, other) {
+        let difference = differing_check(&file, &Second, other).or_else(|| wrong_by_constants(&file));
+        if let Some(difference) = difference {
             return Err(format!("file number {index} of seed {}\n{difference}", options.seed));
         }
         hits.file(&file, &second::check(&file));
     }
     for index in 0..options.messages {
         let (message, ids, damage) = messages::message(&mut random);
-        if let Some(difference) = differing_part(&message, ids, &Second, other) {
+        let difference = differing_part(&message, ids, &Second, other).or_else(|| wrong_by_strings(&message, ids));
+        if let Some(difference) = difference {
             return Err(format!("message number {index} of seed {}\n{difference}", options.seed));
         }
         hits.message(&message, ids, damage);
@@ -132,7 +135,7 @@ fn all_walks(options: &Options, other: &dyn Side) -> Result<Vec<String>, String>
         moves += walk.map_err(|report| format!("walk number {index} of seed {}\n{report}", options.seed))?;
     }
     print!("{hits}");
-    println!("{} walks of {moves} moves agree and keep property 3", options.walks);
+    println!("{} walks of {moves} moves agree and keep property 3 and well-formed strings", options.walks);
     Ok(hits.below(LEAST).into_iter().map(String::from).collect())
 }
 

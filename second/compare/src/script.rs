@@ -1,22 +1,24 @@
 //! Scripts: moves and states in the lines that `bin/play` reads and prints.
 
+use std::ops::Range;
+
 use second::Network;
 use stepper::decode::decode;
-use stepper::encode::encode;
-use stepper::state::{Progress, Queued, Session};
-use stepper::{Move, State, Tree};
+use stepper::encode::{encode, slot, ENTRIES, ENTRY, MESSAGE, ROW, ROWS, ROWS_END, SLOT, STATE, TREE};
+use stepper::state::{Progress, SESSIONS};
+use stepper::{Move, State};
 
 use crate::{hex, Side, UNTOUCHED};
 
 /// Plays a script by one side and gives its lines with the results. A line is a move, perhaps with a result, which
 /// is passed over; `state`, after which the live sessions follow, those that stand there already being passed over;
-/// or a line of such a list elsewhere, which together with those around it is the state for the next move. Comments
-/// and blank lines stay. Before the first move the state is the fresh one: clients live, all else free.
+/// or a line of such a list elsewhere, which together with those around it gives the bytes of the state for the next
+/// move. Comments and blank lines stay. Before the first move the state is the fresh one: clients live, all else free.
 pub fn play(side: &dyn Side, file: &[u8], script: &str) -> Result<Vec<String>, String> {
     let network = Network::read(file).map_err(|refusal| refusal.to_string())?;
-    let mut state = vec![0; 65_536];
+    let mut state = vec![0; STATE];
     encode(&State::fresh(&network), &mut state);
-    let mut given: Option<State> = None;
+    let mut given = false;
     let mut shown = false;
     let mut played = Vec::new();
     for line in script.lines() {
@@ -26,17 +28,14 @@ pub fn play(side: &dyn Side, file: &[u8], script: &str) -> Result<Vec<String>, S
         if shown {
             continue;
         }
+        if is_of_state && !given {
+            state.fill(0);
+        }
+        given = is_of_state;
         if is_of_state {
-            let state = given.get_or_insert_with(|| State::free(&network));
-            read_session(&network, state, line).ok_or_else(|| wrong("no line of a state"))?;
+            read_session(&mut state, line).ok_or_else(|| wrong("no line of a state"))?;
             played.push(line.into());
-            continue;
-        }
-        if let Some(given) = given.take() {
-            encode(&given, &mut state);
-            decode(&network, &state).map_err(|misshape| wrong(&format!("{misshape:?} before it")))?;
-        }
-        if line.is_empty() || line.starts_with('#') {
+        } else if line.is_empty() || line.starts_with('#') {
             played.push(line.into());
         } else if line == "state" {
             shown = true;
@@ -126,32 +125,45 @@ fn show(state: &State) -> Vec<String> {
     lines
 }
 
-/// A line of `show`, into a state: a session's tree first. Whom a row or message answers is not in such a line.
-fn read_session(network: &Network, state: &mut State, line: &str) -> Option<()> {
+/// A line of `show`, into a state's bytes (docs/STATE.md): a session's tree first. Trees and messages are written as
+/// they are, so that the bytes may stand for no state (14). Whom a row or message answers is not in such a line.
+fn read_session(state: &mut [u8], line: &str) -> Option<()> {
     let words: Vec<&str> = line.split_whitespace().collect();
     let (numbers, words) = words.split_at_checked(2)?;
-    let slot = state.services.get_mut(numbers[0].parse::<usize>().ok()?)?.get_mut(numbers[1].parse::<usize>().ok()?)?;
+    let (service, session) = (numbers[0].parse::<usize>().ok()?, numbers[1].parse::<usize>().ok()?);
+    let start = (service < 4 && session < SESSIONS).then(|| slot(service, session))?;
+    let slot = &mut state[start..start + SLOT];
     if let ["tree", digits] = words {
-        let tree = Tree::read_session(&bytes(digits)?)?;
-        *slot = Some(Session { tree, ..Session::new(network) });
-        return Some(());
+        slot[0] = 1;
+        return put(slot, 2, TREE..ENTRIES, &bytes(digits)?);
     }
-    let session = slot.as_mut()?;
+    if slot[0] == 0 {
+        return None;
+    }
     match words {
         ["queued", operation, digits] => {
-            let (operation, message) = (operation.parse().ok()?, Tree::read_message(&bytes(digits)?)?);
-            session.queue.push(Queued { operation, message, destination: None });
+            let entry = (ENTRIES..ROWS).step_by(ENTRY).find(|&entry| slot[entry] == 0)?;
+            slot[entry] = operation.parse::<u8>().ok()?.checked_add(1)?;
+            put(slot, entry + 2, entry + MESSAGE..entry + ENTRY, &bytes(digits)?)
         }
         ["row", row, progress @ ..] => {
-            *session.progress.get_mut(row.parse::<usize>().ok()?)? = match progress {
-                ["done"] => Progress::Done,
-                ["waits"] => Progress::Waiting,
-                ["part", part] => Progress::Taken(part.parse().ok()?),
+            let at = Some(ROWS + ROW * row.parse::<usize>().ok()?).filter(|&at| at < ROWS_END)?;
+            (slot[at], slot[at + 1]) = match progress {
+                ["done"] => (1, 0),
+                ["waits"] => (2, 0),
+                ["part", part] => (3, part.parse().ok()?),
                 _ => return None,
             };
+            Some(())
         }
-        _ => return None,
+        _ => None,
     }
+}
+
+/// Writes the bytes of a tree or message where there is room for them, and their length.
+fn put(slot: &mut [u8], length: usize, room: Range<usize>, bytes: &[u8]) -> Option<()> {
+    slot[room].get_mut(..bytes.len())?.copy_from_slice(bytes);
+    slot[length..length + 2].copy_from_slice(&(bytes.len() as u16).to_le_bytes());
     Some(())
 }
 
@@ -201,11 +213,36 @@ mod tests {
         let script = lines.join("\n") + "\nstate\n";
         let played = play(&Second, &file, &script).unwrap_or_else(|error| panic!("{error}"));
         assert_eq!(played, [&lines[..], &["state"], &lines[..]].concat());
-        for wrong in ["0 0 row 1 done", "0 0 tree 00", "9 0 tree 0000060000", "local 0 0", "lift 0 0 1", "local 0 0 x"]
-        {
+        for wrong in [
+            "0 0 row 1 done",
+            "0 0 tree 000",
+            "0 4 tree 0000060000",
+            "4 0 tree 0000060000",
+            "local 0 0",
+            "lift 0 0 1",
+            "local 0 0 x",
+        ] {
             assert!(play(&Second, &file, wrong).is_err(), "{wrong}");
         }
-        // A destination is missing: the operation is two-way.
-        assert!(play(&Second, &file, "1 1 tree 0000060000\n1 1 queued 3 0000060000\nstate").is_err());
+        let long = format!("0 0 tree {}", "00".repeat(1_025));
+        assert!(play(&Second, &file, &long).is_err() && play(&Second, &file, &long[..long.len() - 2]).is_ok());
+        assert!(play(&Second, &file, "0 0 tree 0000060000\n0 0 row 256 done").is_err());
+    }
+
+    /// Lines that give no state are refused with 14; there is none to show.
+    #[test]
+    fn lines_may_give_bytes_that_stand_for_no_state() {
+        let file = std::fs::read(folder("examples/scale.bin")).expect("a file");
+        for lines in [
+            "0 0 tree 00",
+            "1 1 tree 0000060000\n1 1 queued 4 ff",
+            // A destination is missing: the operation is two-way.
+            "1 1 tree 0000060000\n1 1 queued 3 0000060000",
+            "0 0 tree 0000060000\n0 0 row 255 done",
+        ] {
+            let played = play(&Second, &file, &format!("{lines}\nclose 9 9")).unwrap_or_else(|error| panic!("{error}"));
+            assert_eq!(played.last().map(String::as_str), Some("close 9 9: 14"), "{lines}");
+            assert!(play(&Second, &file, &format!("{lines}\nstate")).is_err(), "{lines}");
+        }
     }
 }

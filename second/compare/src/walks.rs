@@ -1,6 +1,6 @@
-//! Walks by both sides: fresh and each move, with the whole state and out buffer; and property 3.
+//! Walks by both sides: fresh and each move, with the whole state and out buffer; and what holds from fresh.
 
-use generate::walks::{meetings, property, Call, Walk, WalkHits};
+use generate::walks::{meetings, property, strings, Call, Walk, WalkHits};
 use generate::Random;
 use stepper::decode::decode;
 use stepper::{Made, Refused};
@@ -81,8 +81,15 @@ pub fn differing_step(call: &Call, left: &dyn Side, right: &dyn Side) -> Option<
     (a != b).then(|| given(call) + &report(left, &a, &call.state, &out) + &report(right, &b, &call.state, &out))
 }
 
-/// The library's result, after which a refused call has left every buffer as it was.
-fn second_step(call: &Call) -> Result<(Result<Made, Refused>, Vec<u8>), String> {
+/// What the library has done: its result, the state after it and the bytes that went out.
+struct Stepped {
+    result: Result<Made, Refused>,
+    state: Vec<u8>,
+    written: Vec<u8>,
+}
+
+/// A move by the library, which leaves every buffer as it was if it is refused, and refuses a broken string.
+fn second_step(call: &Call) -> Result<Stepped, String> {
     let mut state = call.state.clone();
     let mut out = vec![UNTOUCHED; call.out_size];
     let result = stepper::step(&call.file, &mut state, &mut out, &call.named, &call.outside);
@@ -91,7 +98,11 @@ fn second_step(call: &Call) -> Result<(Result<Made, Refused>, Vec<u8>), String> 
     if !kept || out[written..].iter().any(|&byte| byte != UNTOUCHED) {
         return Err(format!("{}second: {result:?} changes a buffer that it should leave\n", given(call)));
     }
-    Ok((result, state))
+    if strings::wrong(call, &result) {
+        return Err(format!("{}second: {result:?} for a broken string\n", given(call)));
+    }
+    out.truncate(written);
+    Ok(Stepped { result, state, written: out })
 }
 
 /// One walk. An error is the report of a difference, or of a result that breaks property 3.
@@ -107,17 +118,15 @@ pub fn walk(random: &mut Random, hits: &mut WalkHits, other: &dyn Side) -> Resul
     let accepted = walk.from_fresh;
     for _ in 0..walk.moves {
         let call = walk.call(random);
-        let (result, state) = compared(&call, hits, other)?;
+        let stepped = compared(&call, hits, other)?;
         hits.feature(!accepted, "a move on a file that 6 to 13 refuse");
-        if walk.from_fresh && call.keeps {
-            hits.from_fresh(&walk.network, &call.named, &result);
-            let number = answer(result.map(|made| made.bytes)).number;
-            let before = decode(&walk.network, &call.state).map_err(|wrong| format!("{}{wrong:?}", given(&call)))?;
-            if let Some(what) = property::broken(&walk.network, &before, &call.named, call.out_size, number) {
-                return Err(format!("{}property 3: {what}\n", given(&call)));
-            }
+        if call.keeps {
+            keeps_strings(&call, &stepped)?;
         }
-        walk.made(&call, state);
+        if walk.from_fresh && call.keeps {
+            from_fresh(&walk, &call, &stepped, hits)?;
+        }
+        walk.made(&call, stepped.state);
         if walk.from_fresh && random.one_in(16) {
             sweep(random, &walk)?;
         }
@@ -129,14 +138,35 @@ pub fn walk(random: &mut Random, hits: &mut WalkHits, other: &dyn Side) -> Resul
     Ok(walk.moves)
 }
 
-/// A move by both sides, counted: the library's result and the state after it.
-fn compared(call: &Call, hits: &mut WalkHits, other: &dyn Side) -> Result<(Result<Made, Refused>, Vec<u8>), String> {
+/// The report of a string that is broken after a move on a state, from fresh or not.
+fn keeps_strings(call: &Call, stepped: &Stepped) -> Result<(), String> {
+    match property::broken_string(&call.named, &stepped.state, &stepped.written) {
+        Some(what) => Err(format!("{}second: {what}\n", given(call))),
+        None => Ok(()),
+    }
+}
+
+/// A move on a state from fresh, counted; the report of a result that breaks property 3.
+fn from_fresh(walk: &Walk, call: &Call, stepped: &Stepped, hits: &mut WalkHits) -> Result<(), String> {
+    let Stepped { result, state, written } = stepped;
+    let after = property::strings_after(&call.named, state, written);
+    hits.from_fresh(&walk.network, &call.named, result, &after);
+    let number = answer(result.map(|made| made.bytes)).number;
+    let before = decode(&walk.network, &call.state).map_err(|wrong| format!("{}{wrong:?}", given(call)))?;
+    match property::broken(&walk.network, &before, &call.named, call.out_size, number) {
+        Some(what) => Err(format!("{}property 3: {what}\n", given(call))),
+        None => Ok(()),
+    }
+}
+
+/// A move by both sides, counted; what the library has done.
+fn compared(call: &Call, hits: &mut WalkHits, other: &dyn Side) -> Result<Stepped, String> {
     if let Some(difference) = differing_step(call, &Second, other) {
         return Err(difference);
     }
-    let (result, state) = second_step(call)?;
-    hits.call(call, &result);
-    Ok((result, state))
+    let stepped = second_step(call)?;
+    hits.call(call, &stepped.result);
+    Ok(stepped)
 }
 
 fn fresh(file: &[u8], size: usize, hits: &mut WalkHits, other: &dyn Side) -> Result<(), String> {
@@ -152,7 +182,7 @@ fn sweep(random: &mut Random, walk: &Walk) -> Result<(), String> {
     match property::sweep(random, &walk.file, &walk.network, &walk.state) {
         None => Ok(()),
         Some((named, outside, what)) => Err(format!(
-            "file {}\nstate {}\nmove {named:?}\noutside {}\nproperty 3: {what}\n",
+            "file {}\nstate {}\nmove {named:?}\noutside {}\nfrom fresh: {what}\n",
             hex(&walk.file),
             hex_without_end(&walk.state),
             hex(&outside)

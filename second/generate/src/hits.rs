@@ -10,7 +10,7 @@ use second::{Basic, Cause, Environment, Network, Refusal, ServiceEnvironments};
 
 use crate::messages::Damage;
 use crate::nests;
-use crate::strings::{held, StringHits};
+use crate::strings::{decide, StringHits};
 
 /// Each name was to be hit often enough.
 pub struct Hits {
@@ -148,27 +148,7 @@ impl Hits {
         if let Ok(network) = Network::read(file) {
             self.nests(&network, if verdict.is_ok() { "accepted" } else { "refused by 6 to 13" });
         }
-        self.constants(file);
-    }
-
-    /// The string constants of a file that passes 2 to 5 but for them.
-    fn constants(&mut self, file: &[u8]) {
-        let constants = held::in_constants(file);
-        let mut mended = file.to_vec();
-        held::mend(&mut mended, &constants);
-        if Network::read(&mended).is_ok() {
-            self.strings.hit(0, &held::seen(file, &constants));
-        }
-    }
-
-    /// The strings of a message that has a part at the path but for them.
-    fn message_strings(&mut self, message: &[u8], ids: [u16; 4]) {
-        let strings = held::in_nodes(message);
-        let mut mended = message.to_vec();
-        held::mend(&mut mended, &strings);
-        if !second::part_range(&mended, ids).is_empty() {
-            self.strings.hit(1, &held::seen(message, &strings));
-        }
+        decide::constants(file).iter().for_each(|seen| self.strings.hit(0, seen));
     }
 
     fn nests(&mut self, network: &Network, verdict: &str) {
@@ -339,10 +319,11 @@ impl Hits {
     }
 
     pub fn message(&mut self, message: &[u8], ids: [u16; 4], damage: Option<Damage>) {
-        self.message_strings(message, ids);
+        decide::message(message, ids).iter().for_each(|seen| self.strings.hit(1, seen));
         let Some(nodes) = second::message::nodes(message) else {
             self.hit("message: a malformed message".into());
-            if let Some(damage) = damage {
+            let by_string = second::message::nodes(&decide::mended(message)).is_some();
+            if let Some(damage) = damage.filter(|_| !by_string) {
                 self.hit(format!("message: damaged, {damage:?}"));
             }
             return;

@@ -1,5 +1,6 @@
 //! The generator reaches everything that it counts, and its files survive the text's round trip.
 
+use generate::strings::decide::{wrong_part, wrong_refusal};
 use generate::{file, messages, Hits, Random};
 
 #[test]
@@ -8,10 +9,14 @@ fn everything_is_hit() {
     let mut hits = Hits::default();
     for _ in 0..12_000 {
         let file = file(&mut random);
-        hits.file(&file, &second::check(&file));
+        let verdict = second::check(&file);
+        assert!(!wrong_refusal(&file, verdict.as_ref().err()), "{file:02x?}");
+        hits.file(&file, &verdict);
     }
     for _ in 0..20_000 {
         let (message, ids, damage) = messages::message(&mut random);
+        let empty = second::part(&message, ids).is_empty();
+        assert!(!wrong_part(&message, ids, empty), "{message:02x?} {ids:?}");
         hits.message(&message, ids, damage);
     }
     assert!(hits.below(5).is_empty(), "{hits}\n{:?}", hits.below(5));

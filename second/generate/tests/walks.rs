@@ -1,9 +1,9 @@
-//! Walks reach everything that they count, go on from well-formed strings alone, and none from fresh breaks property 3.
+//! Walks reach everything that they count, hold well-formed strings alone, and none from fresh breaks property 3.
 
 use generate::damage;
 use generate::strings::held::{in_constants, in_queues, in_trees, seen};
 use generate::walks::choose::any_move;
-use generate::walks::{meetings, property, Walk, WalkHits};
+use generate::walks::{meetings, property, strings, Walk, WalkHits};
 use generate::Random;
 use stepper::decode::decode;
 
@@ -36,9 +36,13 @@ fn walk(random: &mut Random, hits: &mut WalkHits) {
         let mut out = vec![0xa5; call.out_size];
         let result = stepper::step(&call.file, &mut state, &mut out, &call.named, &call.outside);
         hits.call(&call, &result);
+        assert!(!strings::wrong(&call, &result), "{:?}: {result:?}", call.named);
         hits.feature(!accepted, "a move on a file that 6 to 13 refuse");
         if walk.from_fresh && call.keeps {
-            hits.from_fresh(&walk.network, &call.named, &result);
+            let written = &out[..result.map_or(0, |made| made.bytes)];
+            let after = property::strings_after(&call.named, &state, written);
+            hits.from_fresh(&walk.network, &call.named, &result, &after);
+            assert_eq!(property::broken_string(&call.named, &state, written), None, "{:?}", call.named);
             let number = result.map_or_else(|refused| refused.number.into(), |_| 0);
             let before = decode(&walk.network, &call.state).expect("a state");
             let broken = property::broken(&walk.network, &before, &call.named, call.out_size, number);

@@ -51,7 +51,8 @@ pub fn assemble(text: &str) -> Result<Assembled, Error> {
     assemble_with(text, &mut |_| Err("this text can name no file".into()))
 }
 
-/// Makes the network file of a text and of the file that it names. A file that is made passes refusals 2 to 5.
+/// Makes the network file of a text and of the file that it names. A file that is made passes refusals 2 to 5, but
+/// for the text of string constants: 4 of these is left to the checker, as 6 to 13 are.
 pub fn assemble_with(text: &str, read: &mut ReadFile) -> Result<Assembled, Error> {
     let mut assembler = Assembler { text, ..Assembler::default() };
     for item in parse(text, read)? {
@@ -59,7 +60,7 @@ pub fn assemble_with(text: &str, read: &mut ReadFile) -> Result<Assembled, Error
     }
     let (tables, origins) = assembler.finish()?;
     let file = tables.write();
-    match Network::read(&file) {
+    match Network::read_any_text(&file) {
         Ok(_) => Ok(Assembled { file, origins }),
         Err(refusal) => {
             let spot = origin(&file, &origins, &refusal).unwrap_or(0);

@@ -8,6 +8,7 @@ use second::tables::Tables;
 use second::{Basic, Network, Refusal};
 
 use crate::assemble::assemble;
+use crate::quoted::quoted;
 
 /// What the text says in full because leaving it to the order of the text would give other rows.
 #[derive(Clone, Copy, Default)]
@@ -19,9 +20,10 @@ struct Detail {
     behaviours: bool,
 }
 
-/// The text of a file that passes refusals 2 to 5. The plainest text that assembles to the file.
+/// The text of a file that passes refusals 2 to 5, but for the text of string constants. The plainest text that
+/// assembles to the file.
 pub fn disassemble(file: &[u8]) -> Result<String, Refusal> {
-    let network = Network::read(file)?;
+    let network = Network::read_any_text(file)?;
     let (wanted, _) = Tables::read(file)?;
     let mut detail =
         Detail { expressions: shares_expressions(&network), paths: repeats_paths(&wanted), ..Detail::default() };
@@ -508,16 +510,6 @@ fn constant(basic: Basic, bytes: &[u8]) -> String {
         Basic::Double => format!("double {:?}", f64::from_le_bytes(eight())),
         Basic::Raw => format!("raw {{ {} }}", bytes.iter().map(|byte| format!("{byte:02x} ")).collect::<String>()),
         Basic::Void => "void".to_string(),
-        Basic::String => {
-            let mut text = String::from("\"");
-            for &byte in bytes {
-                match byte {
-                    b'"' | b'\\' => text.extend(['\\', byte.into()]),
-                    b' '..=b'~' => text.push(byte.into()),
-                    _ => write!(text, "\\x{byte:02x}").expect("a string"),
-                }
-            }
-            text + "\""
-        }
+        Basic::String => quoted(bytes),
     }
 }

@@ -5,6 +5,7 @@ pub mod assemble;
 pub mod declared;
 pub mod disassemble;
 pub mod parse;
+mod quoted;
 pub mod rows;
 pub mod source;
 pub mod syntax;

@@ -105,7 +105,8 @@ fn each_kind_of_row_is_accepted() {
     assert_eq!(expressions, (0..=9).collect());
 }
 
-/// The table in cases/README.md: for each file what it shows, the sentence of 01 and the answer.
+/// The table in cases/README.md: for each file what it shows, the sentence of 01 (or `02: ` and one of 02) and the
+/// answer.
 fn table() -> BTreeMap<String, [String; 3]> {
     let page = std::fs::read_to_string(folder().join("README.md")).expect("cases/README.md");
     let mut rows = BTreeMap::new();
@@ -124,7 +125,9 @@ fn the_table_says_what_the_files_say() {
     for (name, [shows, sentence, answer]) in &table {
         assert_eq!(answers[name].lines().next(), Some(answer.as_str()), "{name}");
         if let Some(text) = texts.get(name) {
-            assert_eq!(text.lines().next(), Some(format!("// {shows}. 01: \"{sentence}\"").as_str()), "{name}");
+            let (paper, sentence) =
+                sentence.strip_prefix("02: ").map_or(("01", sentence.as_str()), |of_02| ("02", of_02));
+            assert_eq!(text.lines().next(), Some(format!("// {shows}. {paper}: \"{sentence}\"").as_str()), "{name}");
         }
     }
 }
@@ -188,7 +191,7 @@ fn whiles(tables: &mut Tables) {
     tables.behaviours = (1..=256).map(around).chain([BehaviourRow::default()]).collect();
 }
 
-/// The files without a text that break 2 or 3: what the assembler makes passes 2 to 5.
+/// The files without a text that break 2 or 3: what the assembler makes passes 2 to 5, but for texts of constants.
 fn damaged_sections() -> Vec<(&'static str, Vec<u8>)> {
     let steps = changed("ok_steps", |_| ());
     let (sections, trailer) = steps.split_at(steps.len() - TRAILER);
@@ -225,6 +228,11 @@ fn damaged_rows() -> Vec<(&'static str, Vec<u8>)> {
         seventeen(tables);
         tables.behaviours[0].unused = 7;
     };
+    let seventeen_and_text: fn(&mut Tables) = |tables| {
+        seventeen(tables);
+        tables.data.push(0xff);
+        tables.expressions.push(ExpressionRow { kind: 0, basic: 4, fields: [0, 1, 0] });
+    };
     let seventeen_and_ninth: fn(&mut Tables) = |tables| {
         seventeen(tables);
         ninth_level(tables);
@@ -234,6 +242,7 @@ fn damaged_rows() -> Vec<(&'static str, Vec<u8>)> {
         ("04_before_05", changed("ok_type_nodes", seventeen_and_row)),
         ("04_before_07", unread(service)),
         ("04_lowest_place", unread(service_and_row)),
+        ("04_text_before_05", changed("ok_type_nodes", seventeen_and_text)),
         ("05_type_nodes", changed("ok_type_nodes", seventeen)),
         ("05_type_levels", changed("ok_type_levels", fifth_level)),
         ("05_expression_levels", changed("ok_expression_levels", ninth_level)),

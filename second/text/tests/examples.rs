@@ -12,13 +12,14 @@ fn folder() -> PathBuf {
 /// Name, first line of the report, lines of the report, line and column of a refusal.
 type Verdict = (&'static str, &'static str, usize, Option<(usize, usize)>);
 
-const VERDICTS: [Verdict; 10] = [
+const VERDICTS: [Verdict; 11] = [
     ("assign", "accepted", 3, None),
     ("branches", "accepted", 5, None),
     ("counter", "accepted", 9, None),
     ("flag_refused", "refused 7 3", 1, Some((18, 13))),
     ("hall", "accepted", 18, None),
     ("hall_refused", "refused 9 5", 1, Some((21, 53))),
+    ("labels", "accepted", 9, None),
     ("lift", "accepted", 12, None),
     ("nested", "accepted", 15, None),
     ("parallel", "accepted", 4, None),
@@ -101,6 +102,16 @@ fn the_worked_example_of_the_page_is_as_it_says() {
     let text = block("id load = 1                     // children of messages");
     let made = assemble(&text).unwrap_or_else(|error| panic!("{error}\n{text}"));
     assert_eq!(second::report(&second::check(&made.file)).trim_end(), block("accepted"));
+}
+
+#[test]
+fn the_broken_label_of_the_page_is_refused_as_it_says() {
+    let [text, told] = ["service 1 { client set 5 = \"φ\\xcf\" }", "refused 4 10"].map(block);
+    let text = text.lines().next().expect("a line");
+    let made = assemble(text).unwrap_or_else(|error| panic!("{error}"));
+    let refusal = second::check(&made.file).expect_err("broken text");
+    let (line, column) = made.origin(text, &refusal).expect("a row");
+    assert_eq!(told, format!("{refusal}\na.net: line {line}, column {column}: {}", refusal.cause.sentence()));
 }
 
 #[test]

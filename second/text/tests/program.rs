@@ -133,6 +133,25 @@ fn what_is_refused_with_2_to_5_is_not_made() {
     says(&folder, &["assemble", "a.net", "out"], 0, "");
 }
 
+/// A string constant of broken text is the checker's too.
+#[test]
+fn broken_text_is_assembled_refused_by_its_line_and_disassembled() {
+    let folder = folder("broken_text");
+    let text = "service 1 {\n    client set 5 = \"荷\\xe9\\x87\"\n}\n";
+    fs::write(folder.join("a.net"), text).expect("a file");
+    says(&folder, &["assemble", "a.net", "out"], 0, "");
+    let (status, out, said) = net(&folder, &["check", "a.net"]);
+    assert_eq!((status, said.as_str()), (1, ""));
+    let told = "refused 4 10\na.net: line 2, column 20: the string constant is not well-formed UTF-8\n";
+    assert_eq!(String::from_utf8_lossy(&out), told);
+    let (status, out, said) = net(&folder, &["disassemble", "out"]);
+    assert_eq!((status, String::from_utf8_lossy(&out).as_ref(), said.as_str()), (0, text, ""));
+    says(&folder, &["rows", "out"], 1, "out: refused 4 10: the string constant");
+    // With another fault of 2 to 5 no file is made.
+    fs::write(folder.join("a.net"), [text, TWO_LOCATIONS].concat()).expect("a file");
+    says(&folder, &["assemble", "a.net", "out"], 1, "a.net: line 2, column 20: refused 4 10: the string constant");
+}
+
 #[test]
 fn the_input_is_never_written_over() {
     let folder = folder("over");

@@ -13,7 +13,7 @@ fn tables(text: &str) -> Tables {
 }
 
 /// Texts with line, column and a part of their error.
-const ERRORS: [(&str, usize, usize, &str); 33] = [
+const ERRORS: [(&str, usize, usize, &str); 35] = [
     ("", 1, 1, "a network has a service"),
     ("servic 1 {}", 1, 1, "service expected"),
     ("service 0 {}", 1, 9, "not 0"),
@@ -22,6 +22,9 @@ const ERRORS: [(&str, usize, usize, &str); 33] = [
     ("service 1 {\n  client set x = int 1\n}", 2, 14, "no id `x`"),
     ("service 1 {\n  client set 5 = int 3000000000\n}", 2, 22, "an int"),
     ("service 1 {\n  client set 5 = \"12345678901234567\"\n}", 2, 18, "at most 16"),
+    // A string's 16 are bytes, a column is of characters.
+    ("service 1 {\n  client set 5 = \"荷重荷重荷重\"\n}", 2, 18, "at most 16 bytes, this one has 18"),
+    ("service 1 {\n  client set 5 = \"荷重\" == \"荷重荷重荷é\"\n}", 2, 26, "at most 16 bytes, this one has 17"),
     ("service 1 {\n  client set 5 = \"abc\n}", 2, 18, "does not end"),
     ("service 1 {\n  client set 5 =\n}", 3, 1, "an expression expected"),
     ("service 1 {\n  client receive 3 into 5\n}", 2, 18, "no such input"),
@@ -84,6 +87,7 @@ fn constants_have_their_bytes() {
     assert_eq!(data("double -inf"), [0, 0, 0, 0, 0, 0, 0xf0, 0xff]);
     assert_eq!(data("double 1e-3"), 1e-3f64.to_le_bytes());
     assert_eq!(data("\"a\\\"\\\\\\x00é\""), [b'a', b'"', b'\\', 0, 0xc3, 0xa9]);
+    assert_eq!(data("\"荷重荷重荷\\x80\""), ["荷重荷重荷".as_bytes(), &[0x80]].concat());
     assert_eq!(data("raw { 00 ff1 2 }"), [0, 255, 0x12]);
     assert_eq!(data("void"), []);
 }

@@ -35,6 +35,9 @@ returns-3 c =
     let d4 = d3 .before .before in
     let a = d4 in double-nan (a .args .s .now) (a .args .at) (a .args .basic) (a .args .len) (a .pre) _ (d3 .match .keys3) (d2 .if2 .taken) (d1 .u64-at .ensures) (c .if3 .left)
 
+is-string-requires : tie.Need-is-string-requires
+is-string-requires c κs = search needs
+
 returns-4 : tie.Need-returns-4
 returns-4 c = let a = c .before .before .before in bool-long (a .args .s .now) (a .args .at) (a .args .basic) (a .args .len) (a .pre) (c .before .match .keys1) (c .if1 .left)
 
@@ -48,7 +51,10 @@ returns-7 : tie.Need-returns-7
 returns-7 c = let a = c .before .before in integer-value (a .args .s .now) (a .args .at) (a .args .basic) (a .args .len) (a .pre) w64 (rw (c .match .keys4) refl)
 
 returns-8 : tie.Need-returns-8
-returns-8 c = let a = c .before .before in string-value (a .args .s .now) (a .args .at) (a .args .basic) (a .args .len) (a .pre) (c .match .keys5)
+returns-8 c =
+    let d = c .before in
+    let a = d .before .before in
+    string-value (a .args .s .now) (a .args .at) (a .args .basic) (a .args .len) (a .pre) (d .match .keys5) (c .is-string .ensures)
 
 returns-9 : tie.Need-returns-9
 returns-9 c = let a = c .before .before in raw-value (a .args .s .now) (a .args .at) (a .args .basic) (a .args .len) (a .pre) (c .match .keys6)
@@ -72,6 +78,7 @@ value-ok-spec =
     u64-at-requires
     returns-2
     returns-3
+    is-string-requires
     returns-4
     returns-5
     returns-6

@@ -198,11 +198,12 @@ pub fn expression() -> Tables {
     tables
 }
 
-/// Four services with client and starter that send each other and outside the largest messages.
-pub fn talkers() -> Vec<u8> {
-    let mut text = String::from(
-        "type Third = raw { 1: raw { 7: raw }, 2: raw { 7: raw } }
-        type Big = raw { 1: Third, 2: Third, 3: Third }\n",
+/// Four services with client and starter that send each other and outside the largest messages, every node of
+/// this basic type, of which `constant` is one.
+pub fn talkers(basic: &str, constant: &str) -> Vec<u8> {
+    let mut text = format!(
+        "type Third = {basic} {{ 1: {basic} {{ 7: {basic} }}, 2: {basic} {{ 7: {basic} }} }}
+        type Big = {basic} {{ 1: Third, 2: Third, 3: Third }}\n"
     );
     for service in 1..=4 {
         let next = service % 4 + 1;
@@ -213,7 +214,7 @@ pub fn talkers() -> Vec<u8> {
                 output 1 to {next}: Big output 1 to {service}: Big output 1 to 100: Big
                 output 2 to {next}: Big -> Big output 2 to 100: Big -> Big
                 client {{
-                    receive 1 into 1; receive 1 into 2; receive 1 into 3; set 1.1 = raw {{ 01 }};
+                    receive 1 into 1; receive 1 into 2; receive 1 into 3; set 1.1 = {constant};
                     if present 1.1 then nil else nil; while false do nil;
                     send 1 to {next} with 1; send 1 to {service} with 2;
                     choice {{ on receive 1 into 1 then nil }}; answer 2 into 2 do nil reply 2;
@@ -256,6 +257,8 @@ mod tests {
                 ("operations_equal_at_end", 4),
             ]
         );
-        assert_eq!([number(&talkers()), number(&expression().write())], [0, 0]);
+        let talkers = [talkers("raw", "raw { 01 }"), talkers("string", "\"a\"")];
+        assert_eq!(talkers.map(|file| number(&file)), [0, 0]);
+        assert_eq!(number(&expression().write()), 0);
     }
 }

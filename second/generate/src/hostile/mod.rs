@@ -101,7 +101,9 @@ pub fn all() -> Vec<Case> {
     cases.extend(files::all().into_iter().map(|(name, tables)| Case::file(name, tables.write())));
     cases.push(expression("expression", |_| ()));
     cases.push(expression("expression_outside", to_the_end));
-    cases.push(full_slots());
+    cases.push(full_slots("full_slots", files::talkers("raw", "raw { 01 }"), ""));
+    cases.push(full_slots("full_strings", files::talkers("string", "\"a\""), "sixteen letters."));
+    cases.push(full_slots("full_labels", files::talkers("string", "\"a\""), "ტვირთ5"));
     cases.push(Case::file("largest", maximal::tables().write()));
     cases
 }
@@ -128,19 +130,28 @@ fn expression(name: &str, change: fn(&mut Tree)) -> Case {
     Case { name: name.into(), file: place.file.clone(), places: vec![(place, At::EveryRow)], calls: Vec::new() }
 }
 
+/// Makes every string this text.
+fn spell(tree: &mut Tree, text: &str) {
+    if tree.basic == Basic::String {
+        tree.value = text.into();
+    }
+    tree.children.iter_mut().for_each(|child| spell(child, text));
+}
+
 /// Sixteen live slots, each with 48 nodes, four messages and every row done but in the one that moves;
-/// and bytes that stand for no state.
-fn full_slots() -> Case {
-    let file = files::talkers();
+/// and bytes that stand for no state. Strings are `text`.
+fn full_slots(name: &str, file: Vec<u8>, text: &str) -> Case {
     let network = Network::read(&file).expect("a file that passes 2 to 5");
     let mut tree = Tree::void(0);
     for root in 1..=3 {
         tree.replace(&[root], &place::largest(&network, network.operations[0].request));
     }
+    spell(&mut tree, text);
     let mut base = State::free(&network);
     for service in 0..network.services.len() {
         for number in 0..SESSIONS {
             let mut session = full_session(&network, service, &tree, QUEUE);
+            session.queue.iter_mut().for_each(|queued| spell(&mut queued.message, text));
             let root = &network.services[service];
             let root = if number == 0 { root.client } else { root.starter };
             finish(&network, &mut session.progress, root.expect("a client and a starter"));
@@ -153,7 +164,7 @@ fn full_slots() -> Case {
         (Place { file, network, service, session, tree, base }, At::EveryRow)
     };
     let places = vec![place(0, 0), place(3, 3)];
-    Case { name: "full_slots".into(), file: file.clone(), places, calls: no_states(&file) }
+    Case { name: name.into(), file: file.clone(), places, calls: no_states(&file) }
 }
 
 /// Each move on random bytes, wholly and in the last slot.
@@ -211,9 +222,11 @@ mod tests {
 
     #[test]
     fn every_kind_of_move_is_made_in_the_full_slots() {
-        let events = events(&full_slots());
-        let missed: Vec<Event> = Event::ALL.into_iter().filter(|event| !events.contains(event)).collect();
-        assert_eq!(missed, []);
+        for case in all().into_iter().filter(|case| case.name.starts_with("full_")) {
+            let events = events(&case);
+            let missed: Vec<Event> = Event::ALL.into_iter().filter(|event| !events.contains(event)).collect();
+            assert_eq!(missed, [], "{}", case.name);
+        }
     }
 
     #[test]

@@ -119,7 +119,9 @@ mod tests {
             let mut changed = bytes.clone();
             break_one(&mut random, &mut changed, &places);
             broken += usize::from(changed != bytes);
-            assert_eq!(seen(&changed, &places).is_broken(), changed != bytes || seen(&bytes, &places).is_broken());
+            assert!(!seen(&bytes, &places).is_broken(), "no message");
+            assert_eq!(seen(&changed, &places).is_broken(), changed != bytes);
+            assert_eq!(second::message::nodes(&changed).is_none(), changed != bytes);
             mend(&mut changed, &places);
             assert!(!seen(&changed, &places).is_broken() && second::message::nodes(&changed).is_some());
         }

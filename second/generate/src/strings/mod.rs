@@ -1,5 +1,6 @@
 //! Text for strings: well-formed UTF-8 as in RFC 3629, or broken in one way; of at most 16 bytes.
 
+pub mod decide;
 pub mod held;
 pub mod hits;
 
@@ -174,7 +175,6 @@ pub struct Seen {
 
 impl Seen {
     /// What one text holds.
-    #[cfg(test)]
     pub fn of(text: &[u8]) -> Seen {
         let mut seen = Seen::default();
         seen.text(text);

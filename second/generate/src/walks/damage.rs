@@ -12,10 +12,10 @@ use crate::messages;
 use crate::nests::reach::{finish, reach};
 use crate::networks::value;
 use crate::random::Random;
-use crate::strings::held::{break_one, in_nodes, in_queues, in_trees, seen};
+use crate::strings::held::{break_one, in_queues, in_trees};
 use crate::strings::well_formed;
 
-/// Changes a state of the shape into another one; its strings stay well formed.
+/// Changes a state of the shape into another one.
 pub fn state(random: &mut Random, network: &Network, state: &mut State) {
     let live = live_sessions(state);
     if random.one_in(12) || live.is_empty() {
@@ -183,9 +183,7 @@ fn fill(random: &mut Random, network: &Network, service: usize, session: &mut Se
         let row = &network.operations[operation];
         let mut message = fitting(random, network, row.request);
         if random.one_in(4) {
-            let any = messages::message(random).0;
-            let right = !seen(&any, &in_nodes(&any)).is_broken();
-            message = Tree::read_message(&any).filter(|_| right).unwrap_or(message);
+            message = Tree::read_message(&messages::message(random).0).unwrap_or(message);
         }
         let destination = row.reply.map(|_| some_destination(random, network));
         session.queue.push(Queued { operation, message, destination });

@@ -10,9 +10,9 @@ use stepper::rows::{parts, Rows};
 use stepper::state::{Destination, Progress, Session};
 use stepper::{Bound, Event, Made, Misshape, Move, NotAllowed, Reason, Refused, State};
 
-use super::{strings, sums, Call};
+use super::{property, strings, sums, Call};
 use crate::nests;
-use crate::strings::StringHits;
+use crate::strings::{Seen, StringHits};
 
 /// Each name was to be hit often enough.
 pub struct WalkHits {
@@ -131,6 +131,7 @@ impl Default for WalkHits {
         }
         names.extend(sums::names());
         names.extend(FEATURES.map(String::from));
+        names.extend(property::HOLDERS.map(held_name));
         for result in ["made", "refused by 15 to 22"] {
             names.extend(nests::names().map(|name| format!("a move {result} below {name}")));
         }
@@ -165,9 +166,12 @@ impl WalkHits {
         few.chain(self.strings.below(least)).collect()
     }
 
-    /// A call on a state from fresh, and its result.
-    pub fn from_fresh(&mut self, network: &Network, named: &Move, result: &Result<Made, Refused>) {
+    /// A call on a state from fresh, its result, and what the strings hold after it.
+    pub fn from_fresh(&mut self, network: &Network, named: &Move, result: &Result<Made, Refused>, after: &[Seen; 4]) {
         self.hit("a move from fresh".into());
+        for (holder, _) in property::HOLDERS.iter().zip(after).filter(|(_, seen)| **seen != Seen::default()) {
+            self.hit(held_name(holder));
+        }
         if result.is_err_and(|refused| refused.reason == Reason::Beyond) {
             self.hit(sums::row_name(network, named) + ", from fresh");
         }
@@ -323,6 +327,10 @@ impl WalkHits {
         let own = location == Some(network.services[usize::from(service)].location) && target == session;
         self.feature(event == Event::Queued && own, "a session that sends to itself");
     }
+}
+
+fn held_name(holder: &str) -> String {
+    format!("a string in {holder}, from fresh")
 }
 
 /// The live session and the row that a move names.

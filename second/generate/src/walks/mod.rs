@@ -33,8 +33,7 @@ pub struct Call {
     pub out_size: usize,
     pub named: Move,
     pub outside: Vec<u8>,
-    /// File and state are those of the walk, and no string from outside is broken: the state after the move is its
-    /// next one.
+    /// File and state are those of the walk: the state after the move is its next one.
     pub keeps: bool,
 }
 
@@ -42,7 +41,6 @@ pub struct Call {
 pub struct Walk {
     pub file: Vec<u8>,
     pub network: Network,
-    /// Its strings are well formed.
     pub state: Vec<u8>,
     /// An accepted file, and nothing but moves since its fresh state.
     pub from_fresh: bool,
@@ -90,7 +88,6 @@ impl Walk {
             outside: outside::bytes(random, &self.network, &named, type_row),
             keeps: true,
         };
-        call.keeps = !strings::takes_broken(&call);
         if random.one_in(6) {
             self.spoil(random, &state, &mut call);
         }

@@ -1,4 +1,5 @@
-//! Property 3 by running: what no move gives in a state from fresh of an accepted file.
+//! Property 3 by running: what no move gives in a state from fresh of an accepted file. And that strings stay well
+//! formed.
 
 use second::network::Behaviour;
 use second::Network;
@@ -10,6 +11,8 @@ use super::choose::Candidates;
 use super::exact::{expression_of, leaves_range};
 use super::outside::fitting;
 use crate::random::Random;
+use crate::strings::held::{in_nodes, in_queues, in_trees, seen};
+use crate::strings::Seen;
 
 /// Whether a result breaks property 3, for a call on a state from fresh with an out buffer of some size.
 pub fn broken(network: &Network, state: &State, named: &Move, out_size: usize, number: u32) -> Option<&'static str> {
@@ -34,6 +37,24 @@ pub fn broken(network: &Network, state: &State, named: &Move, out_size: usize, n
     }
 }
 
+/// Where strings stand after a move.
+pub const HOLDERS: [&str; 4] = ["a tree", "a queue", "a message that goes out", "a reply that goes out"];
+
+/// What the strings hold there, by the state and the bytes that went out; a reply has its number before it.
+pub fn strings_after(named: &Move, state: &[u8], out: &[u8]) -> [Seen; 4] {
+    let is_reply = matches!(named, Move::Reply { .. });
+    let message = out.get(if is_reply { 4 } else { 0 }..).unwrap_or_default();
+    let went_out = seen(message, &in_nodes(message));
+    let [sent, replied] = if is_reply { [Seen::default(), went_out] } else { [went_out, Seen::default()] };
+    [seen(state, &in_trees(state)), seen(state, &in_queues(state)), sent, replied]
+}
+
+/// Whether a string is broken after a move from fresh.
+pub fn broken_string(named: &Move, state: &[u8], out: &[u8]) -> Option<String> {
+    let at = strings_after(named, state, out).iter().position(Seen::is_broken)?;
+    Some(format!("a string in {} is broken", HOLDERS[at]))
+}
+
 /// A local move of an assign, if or while that is ready.
 fn ready_local(network: &Network, state: &State, named: &Move) -> bool {
     let Move::Local { service, session, row } = *named else { return false };
@@ -48,12 +69,7 @@ fn ready_local(network: &Network, state: &State, named: &Move) -> bool {
 
 /// Tries every move that a state from fresh seems to allow, with messages that fit; the first that
 /// breaks property 3, with its message.
-pub fn sweep(
-    random: &mut Random,
-    file: &[u8],
-    network: &Network,
-    state: &[u8],
-) -> Option<(Move, Vec<u8>, &'static str)> {
+pub fn sweep(random: &mut Random, file: &[u8], network: &Network, state: &[u8]) -> Option<(Move, Vec<u8>, String)> {
     let decoded = decode(network, state).expect("a state of the file's shape");
     let candidates = Candidates::of(network, &decoded);
     let mut tried: Vec<Move> = Vec::new();
@@ -63,9 +79,12 @@ pub fn sweep(
         }
         tried.push(candidate.named);
         let outside = candidate.type_row.map_or(Vec::new(), |row| fitting(random, network, row).bytes());
-        let result = stepper::step(file, &mut state.to_vec(), &mut [0; stepper::OUT], &candidate.named, &outside);
+        let (mut after, mut out) = (state.to_vec(), [0; stepper::OUT]);
+        let result = stepper::step(file, &mut after, &mut out, &candidate.named, &outside);
         let number = result.map_or_else(|refused| refused.number.into(), |_| 0);
-        if let Some(what) = broken(network, &decoded, &candidate.named, stepper::OUT, number) {
+        let written = &out[..result.map_or(0, |made| made.bytes)];
+        let what = broken(network, &decoded, &candidate.named, stepper::OUT, number).map(String::from);
+        if let Some(what) = what.or_else(|| broken_string(&candidate.named, &after, written)) {
             return Some((candidate.named, outside, what));
         }
     }
@@ -117,6 +136,41 @@ mod tests {
         assert_eq!(numbers(&told(&[first, second], local(third), 511)), but(1));
         // Not ready: neither 18 nor 22, for the second adds within the range and the third has its operand missing.
         assert_eq!(numbers(&told(&[], local(third), 512)), [18, 22]);
+    }
+
+    /// A state with one string in a tree and one in a queue, and a message of one.
+    fn with_strings(tree: &[u8], queued: &[u8], sent: &[u8]) -> (Vec<u8>, Vec<u8>) {
+        use stepper::state::Queued;
+        use stepper::Tree;
+        let node = |text: &[u8]| Tree { basic: second::Basic::String, value: text.to_vec(), ..Tree::void(0) };
+        let file = super::super::texts::file("service 1 { input 3: string client receive 3 into 5 }");
+        let mut state = State::fresh(&Network::read(&file).expect("right rows"));
+        let client = state.live_mut(0, 0).expect("a client");
+        client.tree.children.push(Tree { id: 5, ..node(tree) });
+        client.queue.push(Queued { operation: 0, message: node(queued), destination: None });
+        let mut bytes = vec![0; 65_536];
+        stepper::encode::encode(&state, &mut bytes);
+        (bytes, node(sent).bytes())
+    }
+
+    #[test]
+    fn a_broken_string_is_told_wherever_it_stands() {
+        let (right, broken) = ("aé".as_bytes(), &b"\xC3a"[..]);
+        let send = Move::Send { service: 0, session: 0, row: 0, target: 0 };
+        let reply = Move::Reply { service: 0, session: 0, row: 0 };
+        let told = |tree, queued, sent| {
+            let (state, message) = with_strings(tree, queued, sent);
+            let numbered = [&[0xFF; 4], &message[..]].concat();
+            [broken_string(&send, &state, &message), broken_string(&reply, &state, &numbered)]
+        };
+        let both = |holder: &str| [(); 2].map(|()| Some(format!("a string in {holder} is broken")));
+        assert_eq!(told(right, right, right), [None, None]);
+        assert_eq!(told(broken, right, right), both("a tree"));
+        assert_eq!(told(right, broken, right), both("a queue"));
+        let out = [both("a message that goes out")[0].clone(), both("a reply that goes out")[0].clone()];
+        assert_eq!(told(right, right, broken), out);
+        let (state, _) = with_strings(right, right, right);
+        assert_eq!(broken_string(&reply, &state, &[]), None, "a reply inside");
     }
 
     #[test]

@@ -13,11 +13,6 @@ const OUTER_REPLY: usize = 1;
 const TREE: usize = 2;
 const QUEUE: usize = 3;
 
-/// Whether a move takes a message from outside in which a string is broken.
-pub fn takes_broken(call: &Call) -> bool {
-    outer(call).is_some_and(|(_, seen)| seen.is_broken())
-}
-
 /// The message of a move that takes one from outside.
 fn outer(call: &Call) -> Option<(usize, Seen)> {
     let place = match call.named {
@@ -38,10 +33,26 @@ pub fn deciding(call: &Call, result: &Result<Made, Refused>) -> Vec<(usize, Seen
     if broken > 1 || seen(&call.file, &in_constants(&call.file)).is_broken() {
         return Vec::new();
     }
-    let result = if broken == 0 { *result } else { mended(call) };
-    let number = result.map_or_else(|refused| refused.number, |_| 0);
-    found.retain(|(place, seen)| seen.is_broken() == (broken == 1) && passes(number, *place));
+    let number = number(if broken == 0 { *result } else { mended(call) });
+    found.retain(|(place, seen)| seen.is_broken() == (broken == 1) && (number == 0 || number > refusal(*place)));
     found
+}
+
+/// Whether a broken string decides, and the result is another than its refusal.
+pub fn wrong(call: &Call, result: &Result<Made, Refused>) -> bool {
+    deciding(call, result).iter().any(|(place, seen)| seen.is_broken() && number(*result) != refusal(*place))
+}
+
+fn number(result: Result<Made, Refused>) -> u8 {
+    result.map_or_else(|refused| refused.number, |_| 0)
+}
+
+/// The refusal of a broken string at a place.
+fn refusal(place: usize) -> u8 {
+    match place {
+        OUTER_MESSAGE | OUTER_REPLY => 17,
+        _ => 14,
+    }
 }
 
 /// The library's result for the call with letters in its broken strings.
@@ -53,14 +64,6 @@ fn mended(call: &Call) -> Result<Made, Refused> {
     let strings = in_nodes(&outside);
     mend(&mut outside, &strings);
     stepper::step(&call.file, &mut state, &mut vec![0; call.out_size], &call.named, &outside)
-}
-
-/// Whether a call with this number was refused by none of the rules up to that of the place: 17 for a message, else 14.
-fn passes(number: u8, place: usize) -> bool {
-    match place {
-        OUTER_MESSAGE | OUTER_REPLY => number == 0 || number > 17,
-        _ => number == 0 || number > 14,
-    }
 }
 
 #[cfg(test)]
@@ -119,6 +122,23 @@ mod tests {
     }
 
     #[test]
+    fn a_broken_string_that_decides_has_its_refusal() {
+        let numbers = |call: &Call| {
+            let result = |number| match number {
+                0 => Ok(Made { bytes: 0, event: stepper::Event::Queued }),
+                _ => Err(Refused { number, place: 0, reason: stepper::Reason::NoMessage }),
+            };
+            (0..=22).filter(|&number| !wrong(call, &result(number))).collect::<Vec<u8>>()
+        };
+        let any: Vec<u8> = (0..=22).collect();
+        assert_eq!(numbers(&call(WELL, WELL, WELL, WELL)), any);
+        assert_eq!(numbers(&call(WELL, WELL, WELL, SURROGATE)), [17]);
+        assert_eq!(numbers(&call(WELL, SURROGATE, WELL, WELL)), [14]);
+        assert_eq!(numbers(&call(WELL, WELL, SURROGATE, WELL)), [14]);
+        assert_eq!(numbers(&Call { out_size: 511, ..call(WELL, WELL, SURROGATE, WELL) }), any);
+    }
+
+    #[test]
     fn no_string_decides_behind_another_refusal() {
         for outside in [WELL, SURROGATE] {
             let small = Call { out_size: 511, ..call(WELL, WELL, WELL, outside) };
@@ -129,11 +149,9 @@ mod tests {
             assert_eq!(places(&longer), state.collect::<Vec<_>>());
         }
         let mut other = call(WELL, WELL, WELL, SURROGATE);
-        assert!(takes_broken(&other));
         other.named = Move::OuterReply { service: 0, session: 0, row: 0 };
         assert_eq!(places(&other), []);
         other.named = Move::Close { service: 0, session: 0 };
         assert_eq!(places(&other), [(TREE, false), (QUEUE, false)]);
-        assert!(!takes_broken(&other));
     }
 }

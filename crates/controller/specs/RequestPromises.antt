@@ -1,0 +1,119 @@
+-- What is promised of the controller for requests of 02 that bring words of their own; each statement is closed by the name of its proof.
+use mathlib.Core.Path.{_≡_}
+use mathlib.Core.Bool.{true, _&&_}
+use mathlib.Core.List.{List, [], _∷_, _++_}
+use Prim.Native.Nat.{ℕ, _≤_, _<_}
+use lib.Dec.{leb}
+use lib.ListN.{length, take, drop}
+use Rattle.tree_forest.specs.Forest.{Tree}
+use Rattle.utf8.specs.Utf8.{isUtf8, areScalarValues, written, Written}
+use Rattle.utf8.specs.Utf8Laws.{written-utf8, utf8-written, written-once}
+use Rattle.scalar.specs.Basic.{string}
+use Rattle.scalar.specs.Value.{Value, isValue}
+use Rattle.scalar.specs.ValueLaws.{string-rule}
+use Rattle.refusal.specs.Refusal.{outcomeNumber}
+use Rattle.tree.specs.Encode.{Message}
+use Rattle.network_syntax.specs.Syntax.{MessageType, Network}
+use Rattle.network.specs.Layout.{typeCount, behaviourCount}
+use Rattle.network.specs.Rows.{rootFits}
+use Rattle.network.specs.Sizes.{typeWithin}
+use Rattle.network.specs.Decode.{typeOf, networkOf}
+use Rattle.network.specs.Breaks.{TypeBreaks}
+use Rattle.state.specs.Session.{State}
+use Rattle.state.specs.Shape.{HasShape, Stands}
+use Rattle.move_rules.specs.Fresh.{freshBytes}
+use Rattle.soundness.specs.Texts.{TextTree}
+use Rattle.soundness.specs.Property3.{AllTexts, WritesText, Turn, AllGiven, after, AcceptedFile}
+use Rattle.soundness.specs.TextLaws.{message-text, shape-texts}
+use Rattle.soundness.specs.Property3Laws.{texts-from-fresh}
+use Rattle.type_text.specs.Grammar.{Declaration, TypeText}
+use Rattle.type_text.specs.Reader.{Item, parsed, offends, readText}
+use Rattle.type_text.specs.Meaning.{typesOf}
+use Rattle.type_text.specs.TypeRows.{rowCount}
+use Rattle.type_text.specs.TextLaws.{read-sound, read-complete, text-unique, SameThrough, offends-first}
+use Rattle.type_text.specs.BeginsLaws.{offends-begins}
+use Rattle.type_rows.specs.Ranged.{Small, EachType, TypeRowsOf}
+use Rattle.type_rows.specs.TextRows.{text-rows-mean, text-rows-root, text-rows-rules, text-rows-small}
+use Rattle.type_writing.specs.Answer.{writeTypes}
+use Rattle.type_writing.specs.AnswerLaws.{text-leaves, text-stays}
+
+-- ---- Types as text (02, Wish 1)
+
+-- "Exactly the texts of this grammar are read, each in one way."
+pub read-is-text : (s : List ℕ) (ds : List Declaration) (r : List Item) → readText s ≡ parsed ds r → TypeText s ds
+read-is-text = read-sound
+
+pub text-is-read : (s : List ℕ) (ds : List Declaration) → TypeText s ds → readText s ≡ parsed ds []
+text-is-read = read-complete
+
+pub text-one-way : (s : List ℕ) (ds es : List Declaration) → TypeText s ds → TypeText s es → ds ≡ es
+text-one-way = text-unique
+
+-- "at the text's first offending byte (of a word, taken whole, its first; the length if the text ends too soon)": no text that agrees with
+-- this one through that byte is of the grammar.
+pub first-offending-byte : (s s′ : List ℕ) (p : ℕ) (ds : List Declaration) → readText s ≡ offends p
+    → SameThrough s s′ p → TypeText s′ ds → ⊥
+first-offending-byte = offends-first
+
+-- The bytes before it begin one that is.
+pub offending-byte-first : (s : List ℕ) (p : ℕ) → length s ≤ 8192 → readText s ≡ offends p
+    → (r : List ℕ) × (ds : List Declaration) × TypeText (take p s ++ r) ds
+offending-byte-first = offends-begins
+
+-- The rows mean the text: in every network file whose T section they are, each declaration's first row is the root of a message type, which is
+-- the type declared, and neither 4 nor 5 refuses a row of T.
+pub rows-are-types : (text : List ℕ) (ds : List Declaration) → TypeText text ds → (file : List ℕ)
+    → TypeRowsOf file (typesOf ds)
+    → EachType Small (typesOf ds) → (before : List MessageType) (t : MessageType) (later : List MessageType)
+    → typesOf ds ≡ before ++ (t ∷ later)
+    → (typeOf file (rowCount before) ≡ t) × (rootFits file (rowCount before) ≡ true)
+rows-are-types text ds h file w small before t later e =
+    (text-rows-mean text ds h file w small before t later e, text-rows-root text ds h file w small before t later e)
+
+pub rows-keep-rules-of-4 : (text : List ℕ) (ds : List Declaration) → TypeText text ds → (file : List ℕ)
+    → TypeRowsOf file (typesOf ds)
+    → EachType Small (typesOf ds) → (r p : ℕ) → r < typeCount file → TypeBreaks file r p → ⊥
+rows-keep-rules-of-4 = text-rows-rules
+
+pub rows-are-within-5 : (text : List ℕ) (ds : List Declaration) → TypeText text ds → (file : List ℕ)
+    → TypeRowsOf file (typesOf ds)
+    → EachType Small (typesOf ds) → (r : ℕ) → r < typeCount file → typeWithin file r ≡ true
+rows-are-within-5 = text-rows-small
+
+-- "a refusal changes no buffer"; the bytes past the rows stay.
+pub refused-text-leaves : (s out : List ℕ) → (outcomeNumber (writeTypes s out .outcome) ≡ 0 → ⊥)
+    → writeTypes s out .out ≡ out
+refused-text-leaves = text-leaves
+
+pub past-rows-stay : (s out : List ℕ) → drop (writeTypes s out .outcome .bytes) (writeTypes s out .out)
+    ≡ drop (writeTypes s out .outcome .bytes) out
+past-rows-stay = text-stays
+
+-- ---- Strings (02, Wish 4)
+
+-- "Strings are now well-formed UTF-8 as in RFC 3629, still 0 to 16 bytes".
+pub string-is-utf8 : (v : List ℕ) → isValue string v ≡ (leb (length v) 16 && isUtf8 v)
+string-is-utf8 = string-rule
+
+-- Well-formed are exactly the octets of a list of scalar values, by the RFC's table, and of one list.
+pub scalar-values-are-utf8 : (us : List ℕ) → areScalarValues us ≡ true → isUtf8 (written us) ≡ true
+scalar-values-are-utf8 = written-utf8
+
+pub utf8-is-scalar-values : (v : List ℕ) → isUtf8 v ≡ true → Written v
+utf8-is-scalar-values = utf8-written
+
+pub utf8-one-way : (us ws : List ℕ) → areScalarValues us ≡ true → areScalarValues ws ≡ true → written us ≡ written ws
+    → us ≡ ws
+utf8-one-way = written-once
+
+-- No message, and no state of a file's shape, has another string: "an outside message 17", "a state with another one is 14".
+pub message-strings : (s : List ℕ) (m : Tree Value) → Message s m → TextTree m
+message-strings s m h = message-text m (h .good)
+
+pub state-strings : (N : Network) (rows : ℕ) (G : State) → HasShape N rows G → AllTexts G
+state-strings = shape-texts
+
+-- "State trees and queues hold only well-formed strings from a fresh state on"; a next move writes out no other.
+pub strings-from-fresh : (file : List ℕ) → AcceptedFile file → (l : List Turn) → AllGiven l → (G : State)
+    → Stands (networkOf file) (behaviourCount file) (after file (freshBytes file) l) G → AllTexts G × WritesText file G
+strings-from-fresh = texts-from-fresh
