@@ -40,8 +40,6 @@ count-past {a} g =
     (le-ltb a 0x80 (omega arith), le-ltb a 0xC2 (omega arith), le-ltb a 0xE0 (omega arith), le-ltb a 0xF0 (omega arith), le-ltb a 0xF5 g)
     refl
 
-pub ruleset count-laws = (count-low, count-lone, count-two, count-three, count-four, count-past)
-
 -- ---- the range of the second
 
 module _ (low high a : ℕ) where

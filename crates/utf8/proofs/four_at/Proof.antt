@@ -28,9 +28,10 @@ is-second-requires c κs = search needs
 
 returns-2 : tie.Need-returns-2
 returns-2 c =
-    let a = c .before .before .before .before .before .before in
+    let s = c .before .before .before .before .before in
+    let a = s .before in
     let v = a .args .v .now in
-    let small = c .before .before .before .before .before .shared-slice-known .given (a .args .at) .fits in
+    let small = s .shared-slice-known .given (a .args .at) .fits in
     let e = c .before .is-second .ensures in
     broken v (a .args .at) 3 (omega arith) small (a .pre .1) (omega arith) (second-outside v (a .args .at) e 2 (omega arith) (c .if2 .taken))
 
@@ -45,11 +46,13 @@ is-tail-requires c κs = search needs
 
 returns-3 : tie.Need-returns-3
 returns-3 c =
-    let a = c .before .before .before .before .before .before .before .before .before in
+    let d = c .before .before .before in
+    let s = d .before .before .before .before .before in
+    let a = s .before in
     let v = a .args .v .now in
-    let small = c .before .before .before .before .before .before .before .before .shared-slice-known .given (a .args .at) .fits in
-    let e = c .before .before .before .before .is-second .ensures in
-    let f = c .before .before .before .if2 .left in
+    let small = s .shared-slice-known .given (a .args .at) .fits in
+    let e = d .before .is-second .ensures in
+    let f = d .if2 .left in
     let e₁ = c .before .is-tail .ensures in
     broken v (a .args .at) 3 (omega arith) small (a .pre .1) (omega arith) (third-outside v (a .args .at) e f e₁ 1 (omega arith) (c .if3 .taken))
 
@@ -64,29 +67,31 @@ is-tail-requires-2 c κs = search needs
 
 returns-4 : tie.Need-returns-4
 returns-4 c =
-    let a = c .before .before .before .before .before .before .before .before .before .before .before .before in
+    let g = c .before .before .before in
+    let d = g .before .before .before in
+    let s = d .before .before .before .before .before in
+    let a = s .before in
     let v = a .args .v .now in
-    let small = c .before .before .before .before .before .before .before .before .before .before .before .shared-slice-known .given (a .args .at) .fits in
-    let e = c .before .before .before .before .before .before .before .is-second .ensures in
-    let f = c .before .before .before .before .before .before .if2 .left in
-    let e₁ = c .before .before .before .before .is-tail .ensures in
-    let g = c .before .before .before .if3 .left in
+    let small = s .shared-slice-known .given (a .args .at) .fits in
+    let e = d .before .is-second .ensures in
+    let e₁ = g .before .is-tail .ensures in
     let e₂ = c .before .is-tail2 .ensures in
     broken v (a .args .at) 3 (omega arith) small (a .pre .1) (omega arith)
-    (fourth-outside v (a .args .at) e f e₁ g e₂ (omega arith) (c .if4 .taken))
+    (fourth-outside v (a .args .at) e (d .if2 .left) e₁ (g .if3 .left) e₂ (omega arith) (c .if4 .taken))
 
 returns-5 : tie.Need-returns-5
 returns-5 c =
-    let a = c .before .before .before .before .before .before .before .before .before .before .before .before in
+    let g = c .before .before .before in
+    let d = g .before .before .before in
+    let s = d .before .before .before .before .before in
+    let a = s .before in
     let v = a .args .v .now in
-    let small = c .before .before .before .before .before .before .before .before .before .before .before .shared-slice-known .given (a .args .at) .fits in
-    let e = c .before .before .before .before .before .before .before .is-second .ensures in
-    let f = c .before .before .before .before .before .before .if2 .left in
-    let e₁ = c .before .before .before .before .is-tail .ensures in
-    let g = c .before .before .before .if3 .left in
+    let small = s .shared-slice-known .given (a .args .at) .fits in
+    let e = d .before .is-second .ensures in
+    let e₁ = g .before .is-tail .ensures in
     let e₂ = c .before .is-tail2 .ensures in
     whole v (a .args .at) 3 (omega arith) small (a .pre .1) (omega arith) (omega arith)
-    (fourth-last v (a .args .at) e f e₁ g e₂ (omega arith) (c .if4 .left))
+    (fourth-last v (a .args .at) e (d .if2 .left) e₁ (g .if3 .left) e₂ (omega arith) (c .if4 .left))
 
 pub four-at-spec : {M : Type 1} → statement M
 four-at-spec =

@@ -28,9 +28,10 @@ is-second-requires c κs = search needs
 
 returns-2 : tie.Need-returns-2
 returns-2 c =
-    let a = c .before .before .before .before .before .before in
+    let s = c .before .before .before .before .before in
+    let a = s .before in
     let v = a .args .v .now in
-    let small = c .before .before .before .before .before .shared-slice-known .given (a .args .at) .fits in
+    let small = s .shared-slice-known .given (a .args .at) .fits in
     let e = c .before .is-second .ensures in
     broken v (a .args .at) 2 (omega arith) small (a .pre .1) (omega arith) (second-outside v (a .args .at) e 1 (omega arith) (c .if2 .taken))
 
@@ -45,21 +46,25 @@ is-tail-requires c κs = search needs
 
 returns-3 : tie.Need-returns-3
 returns-3 c =
-    let a = c .before .before .before .before .before .before .before .before .before in
+    let d = c .before .before .before in
+    let s = d .before .before .before .before .before in
+    let a = s .before in
     let v = a .args .v .now in
-    let small = c .before .before .before .before .before .before .before .before .shared-slice-known .given (a .args .at) .fits in
-    let e = c .before .before .before .before .is-second .ensures in
-    let f = c .before .before .before .if2 .left in
+    let small = s .shared-slice-known .given (a .args .at) .fits in
+    let e = d .before .is-second .ensures in
+    let f = d .if2 .left in
     let e₁ = c .before .is-tail .ensures in
     broken v (a .args .at) 2 (omega arith) small (a .pre .1) (omega arith) (third-outside v (a .args .at) e f e₁ 0 (omega arith) (c .if3 .taken))
 
 returns-4 : tie.Need-returns-4
 returns-4 c =
-    let a = c .before .before .before .before .before .before .before .before .before in
+    let d = c .before .before .before in
+    let s = d .before .before .before .before .before in
+    let a = s .before in
     let v = a .args .v .now in
-    let small = c .before .before .before .before .before .before .before .before .shared-slice-known .given (a .args .at) .fits in
-    let e = c .before .before .before .before .is-second .ensures in
-    let f = c .before .before .before .if2 .left in
+    let small = s .shared-slice-known .given (a .args .at) .fits in
+    let e = d .before .is-second .ensures in
+    let f = d .if2 .left in
     let e₁ = c .before .is-tail .ensures in
     whole v (a .args .at) 2 (omega arith) small (a .pre .1) (omega arith) (omega arith)
     (third-last v (a .args .at) e f e₁ (omega arith) (c .if3 .left))

@@ -28,17 +28,19 @@ is-second-requires c κs = search needs
 
 returns-2 : tie.Need-returns-2
 returns-2 c =
-    let a = c .before .before .before .before .before .before in
+    let s = c .before .before .before .before .before in
+    let a = s .before in
     let v = a .args .v .now in
-    let small = c .before .before .before .before .before .shared-slice-known .given (a .args .at) .fits in
+    let small = s .shared-slice-known .given (a .args .at) .fits in
     let e = c .before .is-second .ensures in
     broken v (a .args .at) 1 (omega arith) small (a .pre .1) (omega arith) (second-outside v (a .args .at) e 0 (omega arith) (c .if2 .taken))
 
 returns-3 : tie.Need-returns-3
 returns-3 c =
-    let a = c .before .before .before .before .before .before in
+    let s = c .before .before .before .before .before in
+    let a = s .before in
     let v = a .args .v .now in
-    let small = c .before .before .before .before .before .shared-slice-known .given (a .args .at) .fits in
+    let small = s .shared-slice-known .given (a .args .at) .fits in
     let e = c .before .is-second .ensures in
     whole v (a .args .at) 1 (omega arith) small (a .pre .1) (omega arith) (omega arith) (second-last v (a .args .at) e (omega arith) (c .if2 .left))
 
