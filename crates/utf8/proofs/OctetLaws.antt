@@ -1,11 +1,12 @@
 -- One law for each way out of the functions; that the tests of the code agree with the forms is computed for all 256 octets.
-use Prim.Native.Nat.{ℕ, zero, suc, _+_, _-_, _/_, _<_, _≤_}
+use Prim.Native.Nat.{ℕ, zero, suc, _+_, _-_, _*_, _/_, _%_, _<_, _≤_}
 use mathlib.Core.Path.{_≡_, refl, sym, _∙_, ap}
 use mathlib.Core.List.{List, [], _∷_}
 use mathlib.Core.Bool.{Bool, true, false, not, _&&_}
 use native.Mathlib.Omega.{arith}
 use native.Mathlib.Nat.{add-zero}
 use native.Mathlib.Numerals.{add-one}
+use lib.Bits.{bitAnd, and-block, and-high}
 use lib.Dec.{T, leb, ltb, eqb}
 use lib.ListN.{length, drop, getD, replicate, length-drop, length-replicate, drop-of-length-le}
 use lib.Seq.{drop-cons, drop-drop}
@@ -14,7 +15,7 @@ use Rattle.basics.specs.Choice.{pick}
 use Rattle.basics.specs.TestLaws.{of-T, apart, and-of, and-assoc, not-true, not-false, and-true, and-false}
 use Rattle.basics.specs.TableLaws.{below, at}
 use Rattle.utf8.specs.Utf8.{Range, range, inRange, tail, forms, begins, othersAfter, goesOn, isUtf8}
-use Rattle.utf8.specs.Octets.{countAfter, leastAfter, mostAfter, rangesAfter, follows, highFrom, Whole}
+use Rattle.utf8.specs.Octets.{countAfter, leastAfter, mostAfter, rangesAfter, follows, highBits, Whole}
 
 -- ---- how many octets follow
 
@@ -278,17 +279,38 @@ all-read v i h = rw (drop-of-length-le v h) refl
 
 -- ---- characters of one octet, eight at a time
 
+-- The n octets from at + j on as one number, the first one lowest, and the number with their highest bits alone.
+abbrev word : List ℕ → ℕ → ℕ → ℕ → ℕ
+word v at j zero = 0
+word v at j (suc n) = word v at (suc j) n * 0x100 + getD v (at + j) 0
+
+abbrev highest : ℕ → ℕ
+highest zero = 0
+highest (suc n) = highest n * 0x100 + 0x80
+
+high-bits : (v : List ℕ) (at j n : ℕ) → ((k : ℕ) → getD v k 0 < 256) → bitAnd (word v at j n) (highest n) ≡ highBits v at j n
+high-bits v at j zero small = refl
+high-bits v at j (suc n) small =
+    let b = small (at + j) in
+    let one : bitAnd (getD v (at + j) 0) 0x80 ≡ getD v (at + j) 0 / 0x80 % 2 * 0x80 = and-high (getD v (at + j) 0) 1 7 in
+    let two : getD v (at + j) 0 / 0x80 % 2 ≡ getD v (at + j) 0 / 0x80 = omega (arith, b) in
+    and-block 8 (word v at (suc j) n) (highest n) (getD v (at + j) 0) 0x80 b (omega arith)
+    ∙ rw (high-bits v at (suc j) n small, one, two) refl
+
+-- The word as `eight_low` adds it up.
 abbrev eight : List ℕ → ℕ → ℕ
 eight v at =
-    let low = getD v at 0 / 0x80 + getD v (at + 1) 0 / 0x80 + getD v (at + 2) 0 / 0x80 + getD v (at + 3) 0 / 0x80 in
-    low + (getD v (at + 4) 0 / 0x80 + getD v (at + 5) 0 / 0x80 + getD v (at + 6) 0 / 0x80 + getD v (at + 7) 0 / 0x80)
+    getD v at 0 + 0x100 * getD v (at + 1) 0 + 0x10000 * getD v (at + 2) 0 + 0x1000000 * getD v (at + 3) 0
+    + 0x100000000 * getD v (at + 4) 0 + 0x10000000000 * getD v (at + 5) 0
+    + 0x1000000000000 * getD v (at + 6) 0 + 0x100000000000000 * getD v (at + 7) 0
 
-pub eight-sum : (v : List ℕ) (at x : ℕ) → x ≡ eight v at → eqb x 0 ≡ eqb (highFrom v at 0 8) 0
-eight-sum v at x e =
-    let q : x ≡ highFrom v at 0 8 = rw (add-zero at) (omega (arith, e)) in
-    ap (λ (k : ℕ). eqb k 0) q
+pub eight-tested : (v : List ℕ) (at x : ℕ) → ((k : ℕ) → getD v k 0 < 256) → x ≡ eight v at
+    → eqb (bitAnd x 0x8080808080808080) 0 ≡ eqb (highBits v at 0 8) 0
+eight-tested v at x small e =
+    let q : x ≡ word v at 0 8 = rw (add-zero at) (omega (arith, e)) in
+    ap (λ (k : ℕ). eqb k 0) (ap (λ (k : ℕ). bitAnd k 0x8080808080808080) q ∙ high-bits v at 0 8 small)
 
-low-run : (v : List ℕ) (at j n : ℕ) → at + j + n ≤ length v → highFrom v at j n ≡ 0 → isUtf8 (drop (at + j) v) ≡ isUtf8 (drop (at + j + n) v)
+low-run : (v : List ℕ) (at j n : ℕ) → at + j + n ≤ length v → highBits v at j n ≡ 0 → isUtf8 (drop (at + j) v) ≡ isUtf8 (drop (at + j + n) v)
 low-run v at j zero h e = rw (add-zero (at + j)) refl
 low-run v at j (suc n) h e =
     let low : getD v (at + j) 0 < 0x80 = omega (arith, e) in
@@ -298,7 +320,7 @@ low-run v at j (suc n) h e =
     rw p at (one .some (λ z. omega (arith, z))) ∙ rw q at (low-run v at (suc j) n (omega arith) (omega (arith, e)))
 
 -- Eight octets below 80 are eight characters.
-pub eight-read : (v : List ℕ) (at : ℕ) {t : Bool} → at + 8 ≤ length v → t ≡ eqb (highFrom v at 0 8) 0 → not t ≡ false
+pub eight-read : (v : List ℕ) (at : ℕ) {t : Bool} → at + 8 ≤ length v → t ≡ eqb (highBits v at 0 8) 0 → not t ≡ false
     → isUtf8 (drop (at + 8) v) ≡ isUtf8 (drop at v)
 eight-read v at {t} h e f =
-    sym (rw (add-zero at) at (low-run v at 0 8 (omega arith) (eqb-true (highFrom v at 0 8) 0 (sym e ∙ not-false t f))))
+    sym (rw (add-zero at) at (low-run v at 0 8 (omega arith) (eqb-true (highBits v at 0 8) 0 (sym e ∙ not-false t f))))

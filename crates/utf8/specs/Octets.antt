@@ -3,7 +3,7 @@
 use mathlib.Core.Path.{_≡_}
 use mathlib.Core.List.{List, [], _∷_}
 use mathlib.Core.Bool.{Bool, true, false, _&&_}
-use Prim.Native.Nat.{ℕ, zero, suc, _+_, _/_, _≤_}
+use Prim.Native.Nat.{ℕ, zero, suc, _+_, _*_, _/_, _≤_}
 use lib.Dec.{ltb, eqb}
 use lib.ListN.{length, drop, getD, replicate}
 use Rattle.basics.specs.Choice.{pick}
@@ -34,10 +34,10 @@ follows [] v = true
 follows (r ∷ rs) [] = false
 follows (r ∷ rs) (a ∷ v) = inRange r a && follows rs v
 
--- How many of the n octets from at + j on are 80 or more.
-abbrev pub highFrom : List ℕ → ℕ → ℕ → ℕ → ℕ
-highFrom v at j zero = 0
-highFrom v at j (suc n) = getD v (at + j) 0 / 0x80 + highFrom v at (suc j) n
+-- The highest bits of the n octets from at + j on, each in its place: 80 for an octet of 80 or more.
+abbrev pub highBits : List ℕ → ℕ → ℕ → ℕ → ℕ
+highBits v at j zero = 0
+highBits v at j (suc n) = highBits v at (suc j) n * 0x100 + getD v (at + j) 0 / 0x80 * 0x80
 
 -- The n octets from `at` on are whole characters; where n is 0, no character is there.
 pub record Whole (v : List ℕ) (at n : ℕ) : Type 0 where

@@ -5,7 +5,7 @@ ghost use Prim.Native.Nat.{_+_, _≤_};
 ghost use lib.Dec.{eqb};
 ghost use lib.ListN.{length, drop, getD};
 ghost use Rattle.utf8.specs.Utf8.{range, inRange, tail, isUtf8};
-ghost use Rattle.utf8.specs.Octets.{countAfter, leastAfter, mostAfter, highFrom, Whole};
+ghost use Rattle.utf8.specs.Octets.{countAfter, leastAfter, mostAfter, highBits, Whole};
 
 // Does the octet lie in UTF8-tail, 80 to BF?
 fn is_tail(a: u8) -> bool
@@ -113,14 +113,20 @@ fn character_at(v: &[u8], at: usize) -> usize
     0
 }
 
-// Are the eight octets from `at` on all below 80, so that each is a character? The sum is 0 exactly then, and takes no branch.
+// Are the eight octets from `at` on all below 80, so that each is a character? They are tested together, by their highest bits.
 fn eight_low(v: &[u8], at: usize) -> bool
     requires { ⌜ at + 8 ≤ length (now v) ⌝ }
-    ensures { λ t. ⌜ t ≡ eqb (highFrom (now (v .entry)) at 0 8) 0 ⌝ }
+    ensures { λ t. ⌜ t ≡ eqb (highBits (now (v .entry)) at 0 8) 0 ⌝ }
 {
-    let first = v[at] / 0x80 + v[at + 1] / 0x80 + v[at + 2] / 0x80 + v[at + 3] / 0x80;
-    let second = v[at + 4] / 0x80 + v[at + 5] / 0x80 + v[at + 6] / 0x80 + v[at + 7] / 0x80;
-    first + second == 0
+    let word = v[at] as u64
+        + 0x100 * (v[at + 1] as u64)
+        + 0x10000 * (v[at + 2] as u64)
+        + 0x1000000 * (v[at + 3] as u64)
+        + 0x100000000 * (v[at + 4] as u64)
+        + 0x10000000000 * (v[at + 5] as u64)
+        + 0x1000000000000 * (v[at + 6] as u64)
+        + 0x100000000000000 * (v[at + 7] as u64);
+    word & 0x8080808080808080 == 0
 }
 
 // So many octets at the start, counted in eights, are below 80.

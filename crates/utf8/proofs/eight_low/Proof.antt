@@ -1,125 +1,232 @@
 use Prim.Native.Nat.{_+_}
 use mathlib.Core.Path.{refl}
 use native.Mathlib.Omega.{arith}
-use Rattle.utf8.proofs.OctetLaws.{eight-sum}
 use borrow.Author.Needs.{needs}
+use Rattle.utf8.proofs.OctetLaws.{eight-tested}
 use Rattle.utf8.proofs.eight_low.Statement.{statement}
 use Rattle.utf8.proofs.eight_low.Tie as tie
 
-shared-slice-read-first : tie.Need-shared-slice-read-first
-shared-slice-read-first c = search needs
+shared-slice-read-word : tie.Need-shared-slice-read-word
+shared-slice-read-word c = search needs
 
-add-first : tie.Need-add-first
-add-first c = search needs
+cast-word : tie.Need-cast-word
+cast-word c =
+    let a = c .before in
+    let g = c .shared-slice-known .given in
+    omega (arith, g (a .args .at) .fits)
 
-shared-slice-read-first-2 : tie.Need-shared-slice-read-first-2
-shared-slice-read-first-2 c = search needs
+add-word : tie.Need-add-word
+add-word c = search needs
 
-add-first-2 : tie.Need-add-first-2
-add-first-2 c =
+shared-slice-read-word-2 : tie.Need-shared-slice-read-word-2
+shared-slice-read-word-2 c = search needs
+
+cast-word-2 : tie.Need-cast-word-2
+cast-word-2 c =
+    let a = c .before .before in
+    let g = c .shared-slice-known2 .given in
+    omega (arith, g (a .args .at + 1) .fits)
+
+mul-word : tie.Need-mul-word
+mul-word c =
+    let a = c .before .before in
+    let g = c .shared-slice-known2 .given in
+    omega (arith, g (a .args .at + 1) .fits)
+
+add-word-2 : tie.Need-add-word-2
+add-word-2 c =
     let a = c .before .before in
     let g = c .shared-slice-known2 .given in
     omega (arith, g (a .args .at) .fits, g (a .args .at + 1) .fits)
 
-add-first-3 : tie.Need-add-first-3
-add-first-3 c = search needs
+add-word-3 : tie.Need-add-word-3
+add-word-3 c = search needs
 
-shared-slice-read-first-3 : tie.Need-shared-slice-read-first-3
-shared-slice-read-first-3 c = search needs
+shared-slice-read-word-3 : tie.Need-shared-slice-read-word-3
+shared-slice-read-word-3 c = search needs
 
-add-first-4 : tie.Need-add-first-4
-add-first-4 c =
+cast-word-3 : tie.Need-cast-word-3
+cast-word-3 c =
+    let a = c .before .before .before in
+    let g = c .shared-slice-known3 .given in
+    omega (arith, g (a .args .at + 2) .fits)
+
+mul-word-2 : tie.Need-mul-word-2
+mul-word-2 c =
+    let a = c .before .before .before in
+    let g = c .shared-slice-known3 .given in
+    omega (arith, g (a .args .at + 2) .fits)
+
+add-word-4 : tie.Need-add-word-4
+add-word-4 c =
     let a = c .before .before .before in
     let g = c .shared-slice-known3 .given in
     omega (arith, g (a .args .at) .fits, g (a .args .at + 1) .fits, g (a .args .at + 2) .fits)
 
-add-first-5 : tie.Need-add-first-5
-add-first-5 c = search needs
+add-word-5 : tie.Need-add-word-5
+add-word-5 c = search needs
 
-shared-slice-read-first-4 : tie.Need-shared-slice-read-first-4
-shared-slice-read-first-4 c = search needs
+shared-slice-read-word-4 : tie.Need-shared-slice-read-word-4
+shared-slice-read-word-4 c = search needs
 
-add-first-6 : tie.Need-add-first-6
-add-first-6 c =
+cast-word-4 : tie.Need-cast-word-4
+cast-word-4 c =
+    let a = c .before .before .before .before in
+    let g = c .shared-slice-known4 .given in
+    omega (arith, g (a .args .at + 3) .fits)
+
+mul-word-3 : tie.Need-mul-word-3
+mul-word-3 c =
+    let a = c .before .before .before .before in
+    let g = c .shared-slice-known4 .given in
+    omega (arith, g (a .args .at + 3) .fits)
+
+add-word-6 : tie.Need-add-word-6
+add-word-6 c =
     let a = c .before .before .before .before in
     let g = c .shared-slice-known4 .given in
     omega (arith, g (a .args .at) .fits, g (a .args .at + 1) .fits, g (a .args .at + 2) .fits, g (a .args .at + 3) .fits)
 
-add-second : tie.Need-add-second
-add-second c = search needs
+add-word-7 : tie.Need-add-word-7
+add-word-7 c = search needs
 
-shared-slice-read-second : tie.Need-shared-slice-read-second
-shared-slice-read-second c = search needs
+shared-slice-read-word-5 : tie.Need-shared-slice-read-word-5
+shared-slice-read-word-5 c = search needs
 
-add-second-2 : tie.Need-add-second-2
-add-second-2 c = search needs
+cast-word-5 : tie.Need-cast-word-5
+cast-word-5 c =
+    let a = c .before .before .before .before .before in
+    let g = c .shared-slice-known5 .given in
+    omega (arith, g (a .args .at + 4) .fits)
 
-shared-slice-read-second-2 : tie.Need-shared-slice-read-second-2
-shared-slice-read-second-2 c = search needs
+mul-word-4 : tie.Need-mul-word-4
+mul-word-4 c =
+    let a = c .before .before .before .before .before in
+    let g = c .shared-slice-known5 .given in
+    omega (arith, g (a .args .at + 4) .fits)
 
-add-second-3 : tie.Need-add-second-3
-add-second-3 c =
+add-word-8 : tie.Need-add-word-8
+add-word-8 c =
+    let a = c .before .before .before .before .before in
+    let g = c .shared-slice-known5 .given in
+    omega (arith, g (a .args .at) .fits, g (a .args .at + 1) .fits, g (a .args .at + 2) .fits, g (a .args .at + 3) .fits, g (a .args .at + 4) .fits)
+
+add-word-9 : tie.Need-add-word-9
+add-word-9 c = search needs
+
+shared-slice-read-word-6 : tie.Need-shared-slice-read-word-6
+shared-slice-read-word-6 c = search needs
+
+cast-word-6 : tie.Need-cast-word-6
+cast-word-6 c =
     let a = c .before .before .before .before .before .before in
     let g = c .shared-slice-known6 .given in
-    omega (arith, g (a .args .at + 4) .fits, g (a .args .at + 5) .fits)
+    omega (arith, g (a .args .at + 5) .fits)
 
-add-second-4 : tie.Need-add-second-4
-add-second-4 c = search needs
+mul-word-5 : tie.Need-mul-word-5
+mul-word-5 c =
+    let a = c .before .before .before .before .before .before in
+    let g = c .shared-slice-known6 .given in
+    omega (arith, g (a .args .at + 5) .fits)
 
-shared-slice-read-second-3 : tie.Need-shared-slice-read-second-3
-shared-slice-read-second-3 c = search needs
+add-word-10 : tie.Need-add-word-10
+add-word-10 c =
+    let a = c .before .before .before .before .before .before in
+    let g = c .shared-slice-known6 .given in
+    omega (arith, g (a .args .at) .fits, g (a .args .at + 1) .fits, g (a .args .at + 2) .fits, g (a .args .at + 3) .fits, g (a .args .at + 4) .fits, g (a .args .at + 5) .fits)
 
-add-second-5 : tie.Need-add-second-5
-add-second-5 c =
+add-word-11 : tie.Need-add-word-11
+add-word-11 c = search needs
+
+shared-slice-read-word-7 : tie.Need-shared-slice-read-word-7
+shared-slice-read-word-7 c = search needs
+
+cast-word-7 : tie.Need-cast-word-7
+cast-word-7 c =
     let a = c .before .before .before .before .before .before .before in
     let g = c .shared-slice-known7 .given in
-    omega (arith, g (a .args .at + 4) .fits, g (a .args .at + 5) .fits, g (a .args .at + 6) .fits)
+    omega (arith, g (a .args .at + 6) .fits)
 
-add-second-6 : tie.Need-add-second-6
-add-second-6 c = search needs
+mul-word-6 : tie.Need-mul-word-6
+mul-word-6 c =
+    let a = c .before .before .before .before .before .before .before in
+    let g = c .shared-slice-known7 .given in
+    omega (arith, g (a .args .at + 6) .fits)
 
-shared-slice-read-second-4 : tie.Need-shared-slice-read-second-4
-shared-slice-read-second-4 c = search needs
+add-word-12 : tie.Need-add-word-12
+add-word-12 c =
+    let a = c .before .before .before .before .before .before .before in
+    let g = c .shared-slice-known7 .given in
+    omega (arith, g (a .args .at) .fits, g (a .args .at + 1) .fits, g (a .args .at + 2) .fits, g (a .args .at + 3) .fits, g (a .args .at + 4) .fits, g (a .args .at + 5) .fits, g (a .args .at + 6) .fits)
 
-add-second-7 : tie.Need-add-second-7
-add-second-7 c =
+add-word-13 : tie.Need-add-word-13
+add-word-13 c = search needs
+
+shared-slice-read-word-8 : tie.Need-shared-slice-read-word-8
+shared-slice-read-word-8 c = search needs
+
+cast-word-8 : tie.Need-cast-word-8
+cast-word-8 c =
     let a = c .before .before .before .before .before .before .before .before in
     let g = c .shared-slice-known8 .given in
-    omega (arith, g (a .args .at + 4) .fits, g (a .args .at + 5) .fits, g (a .args .at + 6) .fits, g (a .args .at + 7) .fits)
+    omega (arith, g (a .args .at + 7) .fits)
 
-add-result : tie.Need-add-result
-add-result c =
+mul-word-7 : tie.Need-mul-word-7
+mul-word-7 c =
+    let a = c .before .before .before .before .before .before .before .before in
+    let g = c .shared-slice-known8 .given in
+    omega (arith, g (a .args .at + 7) .fits)
+
+add-word-14 : tie.Need-add-word-14
+add-word-14 c =
     let a = c .before .before .before .before .before .before .before .before in
     let g = c .shared-slice-known8 .given in
     omega (arith, g (a .args .at) .fits, g (a .args .at + 1) .fits, g (a .args .at + 2) .fits, g (a .args .at + 3) .fits, g (a .args .at + 4) .fits, g (a .args .at + 5) .fits, g (a .args .at + 6) .fits, g (a .args .at + 7) .fits)
 
 returns : tie.Need-returns
-returns c = let a = c .before .before .before .before .before .before .before .before in eight-sum (a .args .v .now) (a .args .at) _ refl
+returns c =
+    let a = c .before .before .before .before .before .before .before .before in
+    eight-tested (a .args .v .now) (a .args .at) _ (λ k. c .shared-slice-known8 .given k .fits) refl
 
 pub eight-low-spec : {M : Type 1} → statement M
 eight-low-spec =
     tie.close
     (tie.spec
-    shared-slice-read-first
-    add-first
-    shared-slice-read-first-2
-    add-first-2
-    add-first-3
-    shared-slice-read-first-3
-    add-first-4
-    add-first-5
-    shared-slice-read-first-4
-    add-first-6
-    add-second
-    shared-slice-read-second
-    add-second-2
-    shared-slice-read-second-2
-    add-second-3
-    add-second-4
-    shared-slice-read-second-3
-    add-second-5
-    add-second-6
-    shared-slice-read-second-4
-    add-second-7
-    add-result
+    shared-slice-read-word
+    cast-word
+    add-word
+    shared-slice-read-word-2
+    cast-word-2
+    mul-word
+    add-word-2
+    add-word-3
+    shared-slice-read-word-3
+    cast-word-3
+    mul-word-2
+    add-word-4
+    add-word-5
+    shared-slice-read-word-4
+    cast-word-4
+    mul-word-3
+    add-word-6
+    add-word-7
+    shared-slice-read-word-5
+    cast-word-5
+    mul-word-4
+    add-word-8
+    add-word-9
+    shared-slice-read-word-6
+    cast-word-6
+    mul-word-5
+    add-word-10
+    add-word-11
+    shared-slice-read-word-7
+    cast-word-7
+    mul-word-6
+    add-word-12
+    add-word-13
+    shared-slice-read-word-8
+    cast-word-8
+    mul-word-7
+    add-word-14
     returns)
