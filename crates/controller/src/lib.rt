@@ -58,8 +58,8 @@ fn numbered(m: Move)
 }
 
 // The move that is asked for, with the bytes `outside` where it takes some. The last promise is property 3 at this call: whatever moves led
-// from fresh to these bytes, the file being accepted, this one gives no 18, a send or reply no 19, a ready assign, if or while 0 or 1, and
-// leaves the bytes after those moves and this one, every live session in them well typed.
+// from fresh to these bytes, the file being accepted, this one gives no 18, a send or reply no 19, a ready assign, if or while 0, 22 or 1, and
+// leaves the bytes after those moves and this one, every live session in them well typed and every string, as in what goes out, well formed.
 pub fn step(file: &[u8], state: &mut [u8], out: &mut [u8], asked: Move, outside: &[u8]) -> Outcome
     ensures { λ o. ⌜ o ≡ stepper.step (now (file .entry)) (now (state .entry)) (now (out .entry)) (moveOf asked) (now (outside .entry)) .outcome ⌝ }
     ensures { λ _. ⌜ now (state .exit) ≡ stepper.step (now (file .entry)) (now (state .entry)) (now (out .entry)) (moveOf asked) (now (outside .entry)) .state ⌝ }

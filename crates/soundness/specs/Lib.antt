@@ -18,8 +18,8 @@ pub mod AcceptedLaws
 pub mod StartLaws
 pub mod Texts
 pub mod Property3
-pub mod TextLaws
 pub mod ResultLaws
+pub mod TextLaws
 pub mod LocalLaws
 pub mod DeliverLaws
 pub mod SendLaws

@@ -14,11 +14,12 @@ use Rattle.scalar.specs.ValueLaws.{string-utf8}
 use Rattle.wire.specs.Wire.{u32Bytes}
 use Rattle.network_syntax.specs.Syntax.{Network}
 use Rattle.tree.specs.Encode.{Proper, SoundValues, WellFormedTree}
-use Rattle.state.specs.Session.{Queued, free, live, State}
+use Rattle.state.specs.Session.{Queued, State}
 use Rattle.state.specs.Shape.{AllMessages, WellMade, MadeSlot, HasShape}
 use Rattle.state.specs.Bytes.{messageBytes}
 use Rattle.soundness.specs.Texts.{IsText, AllText, TextTree, TextQueue, TextOut, messageOut, replyOut}
 use Rattle.soundness.specs.Property3.{AllTexts}
+use Rattle.soundness.specs.ResultLaws.{not-live}
 
 proper-text : (v : Value) → Proper v → IsText v
 proper-text v p e = string-utf8 (bytesOf v) (ap (λ (b : ℕ). isValue b (bytesOf v)) (sym e) ∙ p .valid)
@@ -43,13 +44,10 @@ shape-texts N rows G h q n S e = by (leb q 3) (leb n 3) refl refl
     made : WellMade S → AllText (S .tree) × TextQueue (S .queue)
     made w = (values-text (S .tree) (w .bounded .sound), queue-text (S .queue) (w .messages))
 
-    not-free : free ≡ live S → ⊥
-    not-free k = let z : _≡_ {A = ℕ} 0 1 = cc in omega arith
-
     by : (a b : Bool) → leb q 3 ≡ a → leb n 3 ≡ b → AllText (S .tree) × TextQueue (S .queue)
     by true true x y = made (subst MadeSlot e (h .made q n (omega (arith, leb-true q 3 x)) (omega (arith, leb-true n 3 y))))
-    by true false x y = absurd (not-free (sym (h .elsewhere q n (inr (omega (arith, leb-false n 3 y)))) ∙ e))
-    by false b x y = absurd (not-free (sym (h .elsewhere q n (inl (omega (arith, leb-false q 3 x)))) ∙ e))
+    by true false x y = absurd (not-live (sym (h .elsewhere q n (inr (omega (arith, leb-false n 3 y)))) ∙ e))
+    by false b x y = absurd (not-live (sym (h .elsewhere q n (inl (omega (arith, leb-false q 3 x)))) ∙ e))
 
 -- A message that is written out, alone or after a reply number.
 pub message-out : (m : Tree Value) → WellFormedTree messageLevelsBelow messageNodesBelow m → TextOut (messageBytes m)

@@ -27,7 +27,8 @@ unfoldable pub TextQueue : List Queued → Type 0
 TextQueue [] = Unit {0}
 TextQueue (m ∷ l) = TextTree (m .message) × TextQueue l
 
--- Bytes that go out: none; a message; or a reply number and a message. Every string of the message is well-formed UTF-8.
+-- Bytes that go out: none; a message; or, 01, "for an outsider, the u32 reply number and then the message". Every string of the message is
+-- well-formed UTF-8.
 pub data TextOut : List ℕ → Type 0 where
   nothingOut : TextOut []
   messageOut : {s : List ℕ} (m : Tree Value) → Message s m → TextTree m → TextOut s
