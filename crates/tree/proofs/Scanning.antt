@@ -7,7 +7,8 @@ use native.Mathlib.Omega.{arith}
 use lib.ListN.{length, getD, take, drop, length-take, length-drop, List·getD-eq-default}
 use lib.Seq.{getD-take, getD-drop}
 use lib.Dec.{eqb, leb, ltb}
-use borrow.Author.Tests.{le-leb, lt-leb, lt-ltb, le-ltb, not-true, not-false}
+use borrow.Author.Tests.{le-leb, lt-leb, lt-ltb, le-ltb, ltb-true, not-true, not-false}
+use Rattle.basics.specs.TestLaws.{apart, and-of}
 use Rattle.tree_forest.specs.Forest.{Forest, end, node}
 use Rattle.wire.specs.Wire.{u16At}
 use Rattle.scalar.specs.Value.{Value, value, isValue}
@@ -171,4 +172,95 @@ pub find-kids : (s : List ℕ) (d n last left at i b c m : ℕ) (h : Head) (r : 
     r ≡ scan s (d - 1) c 0 (left - 1) m → r ≡ Bad → Bad ≡ scan s d n last left at
 find-kids s d n last left at i b c m h r x y g p q k u v = scan-kids s d n last left at x y i b c m (omega (arith, g)) (got p q) k (sym u ∙ v)
 
-pub ruleset kids-laws = (scan-done, scan-flat, scan-full, find-head, find-id, find-kids, find-leaf, find-step)
+-- the children of a last sibling are all that is left to read
+step-last : (p : Parse) (i : ℕ) (a : Value) → erase p ≡ erase (thenParse p (λ ks mid left. join i a ks (past end mid left)))
+step-last bad i a = refl
+step-last (past ks m l) i a = refl
+
+kids-last : (s : List ℕ) (d n last left at i b c m : ℕ) → 0 < left → Got s at i b c m → last < i → suc n ≡ 1 →
+    scan s (suc d - 1) c 0 (left - 1) m ≡ scan s (suc d) (suc n) last left at
+unfolding scan parse parseSiblings
+kids-last s d n last left at i b c m p g k e =
+    let z : suc d - 1 ≡ d = omega arith in
+    let y : n ≡ 0 = omega (arith, e) in
+    rw (y, z, g .count, g .next, lt-ltb 0 left p, g .ok, lt-ltb last (idAt s at) (omega (arith, g .id)))
+    (step-last (parse s d (countAt s at) 0 (left - 1) (nextAt s at)) (idAt s at) (value (basicAt s at) (valueAt s at)))
+
+scan-last : At (λ s d n last left at. (i b c m : ℕ) → 0 < left → Got s at i b c m → last < i → n ≡ 1 →
+    scan s (d - 1) c 0 (left - 1) m ≡ scan s d n last left at)
+scan-last = at-step _ kids-last
+
+-- The loop of `kids`: what is left to read gives what is asked for.
+pub record Going (s : List ℕ) (levels n last left at p more before deep room : ℕ) : Type 0 where
+  pub deeper : deep ≤ levels
+  pub same : scan s deep more before room p ≡ scan s levels n last left at
+
+pub spare-so : (levels left : ℕ) {t : Bool} → t ≡ ltb 0 levels && ltb 0 left → not t ≡ false → (0 < levels) × (0 < left)
+spare-so levels left {t} e f =
+    let k = and-of (ltb 0 levels) (ltb 0 left) (sym e ∙ not-false t f) in
+    (ltb-true 0 levels (k .0), ltb-true 0 left (k .1))
+
+module _ {s : List ℕ} {levels n last left at p more before deep room : ℕ} (w : Going s levels n last left at p more before deep room) where
+  abbrev Whole : Scan → Type 0
+  Whole r = r ≡ scan s levels n last left at
+
+  pub going-end : more ≤ 0 → Whole (Past p room)
+  going-end h = scan-done s deep more before room p (omega arith) ∙ w .same
+
+  module _ (some : 0 < more) {t : Bool} (e : t ≡ ltb 0 deep && ltb 0 room) where
+    pub going-spent : not t ≡ true → Whole Bad
+    going-spent f = by deep room refl refl
+      where
+        by : (d l : ℕ) → d ≡ deep → l ≡ room → Whole Bad
+        by zero l x y = scan-flat s deep more before room p (λ z. omega (arith, z)) (sym x) ∙ w .same
+        by (suc d) zero x y =
+            scan-full s deep more before room p (λ z. omega (arith, z, x)) (λ z. omega (arith, z)) (sym y) ∙ w .same
+        by (suc d) (suc l) x y =
+            let q : t ≡ true = e ∙ rw (lt-ltb 0 deep (omega arith), lt-ltb 0 room (omega arith)) refl in
+            apart (sym (not-true t f) ∙ q)
+
+    module _ (f : not t ≡ false) {h : Head} (a : h ≡ headAt s p) where
+      spared : (0 < deep) × (0 < room)
+      spared = spare-so deep room e f
+
+      pub going-head : h ≡ Fault → Whole Bad
+      going-head q =
+          let o = spared in
+          find-head s deep more before room p h (λ z. omega (arith, z)) (λ z. omega (arith, z)) (λ z. omega (arith, z)) a q ∙ w .same
+
+      module _ {i b c m : ℕ} (q : h ≡ Node i b c m) where
+        pub going-id : i ≤ before → Whole Bad
+        going-id k =
+            let o = spared in
+            find-id s deep more before room p i b c m h (λ z. omega (arith, z)) (λ z. omega (arith, z)) (λ z. omega (arith, z)) a q k
+            ∙ w .same
+
+        module _ (k : before < i) where
+          pub going-leaf : c ≤ 0 → Going s levels n last left at m (more - 1) i deep (room - 1)
+          going-leaf z =
+              let o = spared in
+              let r = find-leaf s deep more before room p i b c m h (scan s deep (more - 1) i (room - 1) m)
+              (λ z. omega (arith, z)) (λ z. omega (arith, z)) (λ z. omega (arith, z)) a q k (omega arith) refl in
+              record { deeper = w .deeper; same = r ∙ w .same }
+
+          pub going-last : more - 1 ≡ 0 → Going s levels n last left at m c 0 (deep - 1) (room - 1)
+          going-last z =
+              let o = spared in
+              let r = scan-last s deep more before room p (λ z. omega (arith, z)) (λ z. omega (arith, z)) i b c m (o .1) (got a q) k (omega arith) in
+              record { deeper = omega (arith, w .deeper); same = r ∙ w .same }
+
+          module _ {r : Scan} (u : r ≡ scan s (deep - 1) c 0 (room - 1) m) where
+            pub going-kids : r ≡ Bad → Whole Bad
+            going-kids v =
+                let o = spared in
+                find-kids s deep more before room p i b c m h r (λ z. omega (arith, z)) (λ z. omega (arith, z)) (λ z. omega (arith, z)) a q k u v
+                ∙ w .same
+
+            pub going-next : {x l : ℕ} → r ≡ Past x l → Going s levels n last left at x (more - 1) i deep l
+            going-next {x} {l} v =
+                let o = spared in
+                let y = find-step s deep more before room p i b c m x l h (scan s deep (more - 1) i l x) r
+                (λ z. omega (arith, z)) (λ z. omega (arith, z)) (λ z. omega (arith, z)) a q k u v refl in
+                record { deeper = w .deeper; same = y ∙ w .same }
+
+pub ruleset kids-laws = (going-end, going-spent, going-head, going-id, going-leaf, going-last, going-kids, going-next)

@@ -1,6 +1,8 @@
 // Trees in bytes: messages, session trees and environments; validity and walking.
 ghost use mathlib.Core.Path.{_≡_};
+ghost use mathlib.Core.Bool.{_&&_};
 ghost use Prim.Native.Nat.{_+_, _<_};
+ghost use lib.Dec.{ltb};
 ghost use lib.ListN.{drop, getD};
 ghost use Rattle.tree.specs.Encode.{Octets};
 ghost use Rattle.tree.specs.Decode.{headAt, scan, isTree, isMessage, isSessionTree, valueAt};
@@ -55,32 +57,55 @@ pub fn head_at(s: &[u8], at: usize) -> Head
     Head::Node(wire::u16_at(s, at), s[at + 2], s[at + 3], at + 5 + len)
 }
 
-// n siblings at `at` of at most `levels` levels, with ids above `last`, of at most `left` nodes.
+// Are a level and a node left?
+fn spare(levels: u8, left: u8) -> bool
+    ensures { λ r. ⌜ r ≡ ltb 0 levels && ltb 0 left ⌝ }
+{
+    if levels == 0 {
+        return false;
+    }
+    0 < left
+}
+
+// n siblings at `at` of at most `levels` levels, with ids above `last`, of at most `left` nodes. The loop goes on to a last sibling's
+// children; those of another one are read by a call.
 pub fn kids(s: &[u8], at: usize, n: u8, last: u16, levels: u8, left: u8) -> Scan
     ensures { λ r. ⌜ r ≡ scan (now (s .entry)) levels n last left at ⌝ }
 {
-    if n == 0 {
-        return Scan::Past(at, left);
+    let mut p = at;
+    let mut more = n;
+    let mut before = last;
+    let mut deep = levels;
+    let mut room = left;
+    while 0 < more {
+        if !spare(deep, room) {
+            return Scan::Bad;
+        }
+        let Head::Node(id, _, count, mid) = head_at(s, p) else {
+            return Scan::Bad;
+        };
+        if id <= before {
+            return Scan::Bad;
+        }
+        p = mid;
+        more = more - 1;
+        before = id;
+        room = room - 1;
+        if 0 < count {
+            if more == 0 {
+                more = count;
+                before = 0;
+                deep = deep - 1;
+            } else {
+                let Scan::Past(next, rest) = kids(s, mid, count, 0, deep - 1, room) else {
+                    return Scan::Bad;
+                };
+                p = next;
+                room = rest;
+            }
+        }
     }
-    if levels == 0 {
-        return Scan::Bad;
-    }
-    if left == 0 {
-        return Scan::Bad;
-    }
-    let Head::Node(id, _, count, mid) = head_at(s, at) else {
-        return Scan::Bad;
-    };
-    if id <= last {
-        return Scan::Bad;
-    }
-    if count == 0 {
-        return kids(s, mid, n - 1, id, levels, left - 1);
-    }
-    let Scan::Past(next, rest) = kids(s, mid, count, 0, levels - 1, left - 1) else {
-        return Scan::Bad;
-    };
-    kids(s, next, n - 1, id, levels, rest)
+    Scan::Past(p, room)
 }
 
 // Are the bytes a tree of at most `levels` levels and `nodes` nodes below its root?
