@@ -15,7 +15,7 @@ use Rattle.basics.specs.Choice.{pick}
 use Rattle.basics.specs.TestLaws.{of-T, apart, and-of, and-assoc, not-true, not-false, and-true, and-false}
 use Rattle.basics.specs.TableLaws.{below, at}
 use Rattle.utf8.specs.Utf8.{Range, range, inRange, tail, forms, begins, othersAfter, goesOn, isUtf8}
-use Rattle.utf8.specs.Octets.{countAfter, leastAfter, mostAfter, rangesAfter, follows, highBits, Whole}
+use Rattle.utf8.specs.Octets.{countAfter, leastAfter, mostAfter, rangesAfter, follows, highBits, word, Whole}
 
 -- ---- how many octets follow
 
@@ -279,11 +279,7 @@ all-read v i h = rw (drop-of-length-le v h) refl
 
 -- ---- characters of one octet, eight at a time
 
--- The n octets from at + j on as one number, the first one lowest, and the number with their highest bits alone.
-abbrev word : List ℕ → ℕ → ℕ → ℕ → ℕ
-word v at j zero = 0
-word v at j (suc n) = word v at (suc j) n * 0x100 + getD v (at + j) 0
-
+-- The highest bits of n octets.
 abbrev highest : ℕ → ℕ
 highest zero = 0
 highest (suc n) = highest n * 0x100 + 0x80

@@ -39,6 +39,15 @@ abbrev pub highBits : List ℕ → ℕ → ℕ → ℕ → ℕ
 highBits v at j zero = 0
 highBits v at j (suc n) = highBits v at (suc j) n * 0x100 + getD v (at + j) 0 / 0x80 * 0x80
 
+-- The n octets from at + j on as one number, the first one lowest.
+abbrev pub word : List ℕ → ℕ → ℕ → ℕ → ℕ
+word v at j zero = 0
+word v at j (suc n) = word v at (suc j) n * 0x100 + getD v (at + j) 0
+
+-- Of a character of three octets `t` says whether the second is in its range, where both are known by their highest bits.
+abbrev pub Fitting : Bool → ℕ → ℕ → Type 0
+Fitting t a b = 0xE0 ≤ a → a ≤ 0xEF → inRange tail b ≡ true → t ≡ inRange (range (leastAfter a) (mostAfter a)) b
+
 -- The n octets from `at` on are whole characters; where n is 0, no character is there.
 pub record Whole (v : List ℕ) (at n : ℕ) : Type 0 where
   pub inside : at + n ≤ length v

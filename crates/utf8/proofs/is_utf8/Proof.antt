@@ -9,16 +9,19 @@ use Rattle.utf8.proofs.is_utf8.Statement.{statement}
 use Rattle.utf8.proofs.is_utf8.Tie as tie
 
 abbrev Inv-loop : tie.InvT-loop
-Inv-loop v i₀ i = (i ≤ length v) × (isUtf8 (drop i v) ≡ isUtf8 v)
+Inv-loop v low i₀ i = (i ≤ length v) × (isUtf8 (drop i v) ≡ isUtf8 v)
 
 abbrev μ-loop : tie.MeasureT-loop
-μ-loop v i₀ i = length v - i
+μ-loop v low i₀ i = length v - i
 
 low-start-requires : tie.Need-low-start-requires Inv-loop μ-loop
 low-start-requires c κs = search needs
 
+past-even-requires : tie.Need-past-even-requires Inv-loop μ-loop
+past-even-requires c κs = search needs
+
 loop-holds : tie.Need-loop-holds Inv-loop μ-loop
-loop-holds c = c .low-start .ensures
+loop-holds c = (c .past-even .ensures .0, c .past-even .ensures .1 ∙ c .before .low-start .ensures .1)
 
 character-at-requires : tie.Need-character-at-requires Inv-loop μ-loop
 character-at-requires c κs = search needs
@@ -40,7 +43,7 @@ loop-again c =
 returns-2 : tie.Need-returns-2 Inv-loop μ-loop
 returns-2 c =
     let l = c .before .loop in
-    let v = c .before .before .before .before .args .v .now in
+    let v = c .before .before .before .before .before .args .v .now in
     sym (all-read v (l .i) (omega arith)) ∙ l .inv .1
 
 pub is-utf8-spec : {M : Type 1} → statement M
@@ -50,6 +53,7 @@ is-utf8-spec =
     Inv-loop
     μ-loop
     low-start-requires
+    past-even-requires
     loop-holds
     character-at-requires
     returns
