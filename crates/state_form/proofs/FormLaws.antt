@@ -8,10 +8,10 @@ use native.Mathlib.Decide.{decLt}
 use lib.ListN.{length, take, drop, length-drop}
 use lib.Seq.{take-all}
 use lib.Dec.{eqb, leb}
-use borrow.Author.Tests.{ne-eqb, le-leb, lt-leb, not-true, not-false}
+use borrow.Author.Tests.{ne-eqb, eqb-true, eqb-false, le-leb, lt-leb, not-true, not-false}
 use Rattle.basics.specs.Choice.{pick}
 use Rattle.basics.specs.TestLaws.{and-assoc, and-true}
-use Rattle.wire.specs.Wire.{byteAt, u16At, part}
+use Rattle.wire.specs.Wire.{byteAt, u16At, u32At, part}
 use Rattle.wire.specs.WireLaws.{byte-past}
 use Rattle.tree.specs.Decode.{isMessage, isSessionTree}
 use Rattle.state.specs.Places.{slotSize, treeRoom, messageRoom, entrySize, rowSize, treePlace, queuePlace, rowsPlace, keptPlace, keptSize}
@@ -80,26 +80,76 @@ cut-part s at n e h f = by (decLt (at + n) (length s))
 
 pub ruleset part-laws = (no-part, cut-part)
 
+-- ---- five bytes
+
+module _ (s : List ℕ) (at : ℕ) where
+  abbrev is0 : ℕ → Bool
+  is0 i = eqb (byteAt s i) 0
+
+  five : allZero s at 5 ≡ (is0 at && (is0 (at + 1) && (is0 (at + 2) && (is0 (at + 3) && (is0 (at + 4) && true)))))
+  unfolding allZero
+  five =
+      let two : at + 1 + 1 ≡ at + 2 = omega arith in
+      let three : at + 2 + 1 ≡ at + 3 = omega arith in
+      let four : at + 3 + 1 ≡ at + 4 = omega arith in
+      rw (two, three, four) refl
+
+  pub four-sum : byteAt s at + 0x100 * byteAt s (at + 1) + 0x10000 * byteAt s (at + 2) + 0x1000000 * byteAt s (at + 3) ≡ u32At s at
+  unfolding u32At u16At
+  four-sum = let three : at + 2 + 1 ≡ at + 3 = omega arith in rw three (omega arith)
+
+  pub five-not : (n : ℕ) → n ≡ u32At s at → (n ≡ 0 → ⊥) → false ≡ allZero s at 5
+  five-not n e f = by (is0 at) (is0 (at + 1)) (is0 (at + 2)) (is0 (at + 3)) refl refl refl refl ∙ sym five
+    where
+      by : (w x y z : Bool) → is0 at ≡ w → is0 (at + 1) ≡ x → is0 (at + 2) ≡ y → is0 (at + 3) ≡ z →
+          false ≡ (w && (x && (y && (z && (is0 (at + 4) && true)))))
+      by false x y z g h i j = refl
+      by true false y z g h i j = refl
+      by true true false z g h i j = refl
+      by true true true false g h i j = refl
+      by true true true true g h i j =
+          let k = eqb-true (byteAt s at) 0 g in
+          let l = eqb-true (byteAt s (at + 1)) 0 h in
+          let m = eqb-true (byteAt s (at + 2)) 0 i in
+          absurd (f (omega (arith, e, four-sum, k, l, m, eqb-true (byteAt s (at + 3)) 0 j)))
+
+  pub five-last : (n : ℕ) → n ≡ u32At s at → n ≡ 0 → eqb (byteAt s (at + 4)) 0 ≡ allZero s at 5
+  five-last n e f =
+      let g : byteAt s at ≡ 0 = omega (arith, e, four-sum) in
+      let h : byteAt s (at + 1) ≡ 0 = omega (arith, e, four-sum) in
+      let i : byteAt s (at + 2) ≡ 0 = omega (arith, e, four-sum) in
+      let j : byteAt s (at + 3) ≡ 0 = omega (arith, e, four-sum) in
+      sym (five ∙ rw (g, h, i, j) (and-true (eqb (byteAt s (at + 4)) 0)))
+
 -- ---- a row's progress
 
 module _ (s : List ℕ) (at k : ℕ) (e : k ≡ byteAt s at) where
+  pub form-plain : (r : Bool) → k < 3 → r ≡ allZero s (at + 1) 5 → r ≡ progressForm s at
+  unfolding progressForm
+  form-plain r f g =
+      let three = ne-eqb k 3 (λ z. omega (arith, z)) in
+      g ∙ rw (sym e, three, ne-eqb k 4 (λ z. omega (arith, z)), ne-eqb k 5 (λ z. omega (arith, z)), le-leb k 5 (omega arith)) refl
+
   pub form-taken : (r : Bool) → k ≡ 3 → r ≡ allZero s (at + 2) 4 → r ≡ progressForm s at
   unfolding progressForm
   form-taken r f g = g ∙ rw (sym e ∙ f)
 
-  pub form-received : (t : Bool) (b : ℕ) → (k ≡ 3 → ⊥) → t ≡ (eqb k 4 || eqb k 5) → t ≡ true → b ≡ byteAt s (at + 1) → eqb b 0 ≡ progressForm s at
-  unfolding progressForm
-  form-received t b f g h i = rw (sym e, ne-eqb k 3 f, sym g ∙ h, i)
+  module _ (f : 3 ≤ k) (g : k ≡ 3 → ⊥) where
+    pub form-unknown : 5 < k → false ≡ progressForm s at
+    unfolding progressForm
+    form-unknown h =
+        rw (sym e, ne-eqb k 3 g, ne-eqb k 4 (λ z. omega (arith, z)), ne-eqb k 5 (λ z. omega (arith, z)), lt-leb k 5 h) refl
 
-  pub form-unknown : (t : Bool) → (k ≡ 3 → ⊥) → t ≡ (eqb k 4 || eqb k 5) → t ≡ false → 5 < k → false ≡ progressForm s at
-  unfolding progressForm
-  form-unknown t f g h i = rw (sym e, ne-eqb k 3 f, sym g ∙ h, lt-leb k 5 i)
+    pub form-received : (b : ℕ) → k ≤ 5 → b ≡ byteAt s (at + 1) → eqb b 0 ≡ progressForm s at
+    unfolding progressForm
+    form-received b h i = by (eqb k 4) (eqb k 5) refl refl
+      where
+        by : (x y : Bool) → eqb k 4 ≡ x → eqb k 5 ≡ y → eqb b 0 ≡ progressForm s at
+        by true y p q = rw (sym e, ne-eqb k 3 g, p, i) refl
+        by false true p q = rw (sym e, ne-eqb k 3 g, p, q, i) refl
+        by false false p q = absurd (omega (arith, eqb-false k 4 p, eqb-false k 5 q))
 
-  pub form-plain : (t r : Bool) → (k ≡ 3 → ⊥) → t ≡ (eqb k 4 || eqb k 5) → t ≡ false → k ≤ 5 → r ≡ allZero s (at + 1) 5 → r ≡ progressForm s at
-  unfolding progressForm
-  form-plain t r f g h i j = j ∙ rw (sym e, ne-eqb k 3 f, sym g ∙ h, le-leb k 5 i)
-
-pub ruleset progress-laws = (form-taken, form-received, form-unknown, form-plain)
+pub ruleset progress-laws = (form-plain, form-taken, form-unknown, form-received)
 
 -- ---- rows
 

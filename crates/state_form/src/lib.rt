@@ -3,7 +3,7 @@
 ghost use mathlib.Core.Path.{_≡_};
 ghost use Prim.Native.Nat.{_+_, _*_, _≤_, min};
 ghost use lib.ListN.{length};
-ghost use Rattle.wire.specs.Wire.{part};
+ghost use Rattle.wire.specs.Wire.{u32At, part};
 ghost use Rattle.state.specs.Places.{slotSize, headSize, entrySize, rowSize, queuePlace};
 ghost use Rattle.state.specs.Form.{allZero, progressForm, rowsForm, entryForm, queueForm, headForm, treeForm, liveForm, slotForm};
 ghost use Rattle.state_form.specs.Parts.{destinationForm};
@@ -46,22 +46,47 @@ pub fn part(s: &[u8], at: usize, n: usize) -> &[u8]
     &s[at..end]
 }
 
-// A row's progress: only a taken part uses byte 1, only a received row bytes 2 to 5.
+// The four bytes from `at` on as one number, without a test where each of them lies.
+fn four_bytes(s: &[u8], at: usize) -> u32
+    requires { ⌜ at + 4 ≤ length (now s) ⌝ }
+    ensures { λ r. ⌜ r ≡ u32At (now (s .entry)) at ⌝ }
+{
+    s[at] as u32
+        + 0x100 * (s[at + 1] as u32)
+        + 0x10000 * (s[at + 2] as u32)
+        + 0x1000000 * (s[at + 3] as u32)
+}
+
+// Are the five bytes from `at` on 0? Four of them are tested together.
+fn five_zero(s: &[u8], at: usize) -> bool
+    requires { ⌜ at + 5 ≤ 0x100000000 ⌝ }
+    ensures { λ r. ⌜ r ≡ allZero (now (s .entry)) at 5 ⌝ }
+{
+    if s.len() < at + 5 {
+        return all_zero(s, at, 5);
+    }
+    if four_bytes(s, at) != 0 {
+        return false;
+    }
+    s[at + 4] == 0
+}
+
+// A row's progress: only a taken part uses byte 1, only a received row bytes 2 to 5. Most rows are undone or done, so these come first.
 pub fn progress_form(s: &[u8], at: usize) -> bool
     requires { ⌜ at + rowSize ≤ 0x100000000 ⌝ }
     ensures { λ r. ⌜ r ≡ progressForm (now (s .entry)) at ⌝ }
 {
     let kind = wire::byte_at(s, at);
+    if kind < 3 {
+        return five_zero(s, at + 1);
+    }
     if kind == 3 {
         return all_zero(s, at + 2, 4);
-    }
-    if network_layout::either(kind == 4, kind == 5) {
-        return wire::byte_at(s, at + 1) == 0;
     }
     if 5 < kind {
         return false;
     }
-    all_zero(s, at + 1, 5)
+    wire::byte_at(s, at + 1) == 0
 }
 
 // The progress of n rows.
