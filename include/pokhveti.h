@@ -8,6 +8,10 @@
  * Strings are well-formed UTF-8 (RFC 3629) of at most 16 bytes, wherever they stand; raw is any bytes. With another string a constant is
  * refused with 4, a state with 14, a message from outside with 17, and every part of such a message is empty.
  *
+ * A service may be keyed (the last field of its S row is the id of an int child, else 0): its sessions 1 to 3 then go by the int of the message
+ * that started them, and a message that names another session than its own is refused with 15 (pokhveti_send). A file with an input of such a
+ * service whose request type has not that child, mandatory and an int, is refused with 23.
+ *
  * Stack: check, environments and fresh stay within 2 MiB, types within 1 MiB, each move within 128 KiB, part within 4 KiB, on the deepest
  * networks that 256 rows allow, the deepest texts that 8,192 bytes allow and on every other input that was tried. That is measured (bin/compare stack), not proved: the proofs speak of a machine without a
  * stack. A thread needs as much beside what it takes itself. */
@@ -21,7 +25,7 @@
 extern "C" {
 #endif
 
-/* Checks a network file. Gives 0 for an accepted file, otherwise the number of the refusal, 2 to 13; *place is 0 for an accepted file,
+/* Checks a network file. Gives 0 for an accepted file, otherwise the number of the refusal, 2 to 13 or 23; *place is 0 for an accepted file,
  * otherwise the place of the refusal. */
 uint32_t pokhveti_check(const uint8_t *file, size_t length, size_t *place);
 
@@ -40,7 +44,7 @@ typedef struct {
 #define POKHVETI_NODES 384
 
 /* Writes the nodes of an accepted file's environments, by service, the starter's before the client's, each in preorder. `size` is that of
- * the buffer in bytes. Gives 0 if all nodes were written, *count of them; the number of the refusal, 2 to 13, with *count 0; or 1 if the
+ * the buffer in bytes. Gives 0 if all nodes were written, *count of them; the number of the refusal, 2 to 13 or 23, with *count 0; or 1 if the
  * buffer has no room for all nodes, of which there are *count. Unless it gives 0 nothing is written to the buffer. */
 uint32_t pokhveti_environments(const uint8_t *file, size_t length, pokhveti_node *nodes, size_t size, size_t *count);
 
@@ -53,7 +57,7 @@ size_t pokhveti_part(const uint8_t *message, size_t length, uint16_t first, uint
 #define POKHVETI_STATE 65536
 #define POKHVETI_OUT 512
 
-/* Writes the fresh state of an accepted file: the clients live, all else free. Gives 0, otherwise the number of the refusal, 1 to 13, with
+/* Writes the fresh state of an accepted file: the clients live, all else free. Gives 0, otherwise the number of the refusal, 1 to 13 or 23, with
  * its place in *place, and the state is left as it was. What a state's bytes mean is in docs/STATE.md; between two moves they belong to
  * the caller, who may copy or store them. They do not say which file they were made for: the caller passes the same file with each move. */
 uint32_t pokhveti_fresh(const uint8_t *file, size_t length, uint8_t *state, size_t state_size, size_t *place);
@@ -71,7 +75,9 @@ uint32_t pokhveti_receive(const uint8_t *file, size_t length, uint8_t *state, si
                           uint16_t service, uint16_t session, uint16_t row, size_t *bytes, size_t *place);
 
 /* A ready notification or solicit-response sends to the service at its location. The target is the session there that the message is queued
- * at, or a free one of 1 to 3 that it starts; to a location outside the file the target is 0 and the message goes to the out buffer. */
+ * at, or a free one of 1 to 3 that it starts; to a location outside the file the target is 0 and the message goes to the out buffer. In a keyed
+ * service the target is the live one of 1 to 3 with the message's key, or a free one where none has it; any other is 15, tried after 19, so that
+ * a full queue is 16 and a message that does not fit 19 whatever the key. */
 uint32_t pokhveti_send(const uint8_t *file, size_t length, uint8_t *state, size_t state_size, uint8_t *out, size_t out_size,
                        uint16_t service, uint16_t session, uint16_t row, uint16_t target, size_t *bytes, size_t *place);
 

@@ -1,3 +1,4 @@
 pub mod FileChecker
 pub mod FileCheckerLaws
 pub mod OutputLaws
+pub mod KeyLaws

@@ -21,7 +21,7 @@ use Rattle.tree_edit.specs.Wrote.{Wrote}
 use Rattle.tree_edit.specs.WroteLaws.{wrote-more, wrote-as, wrote-all}
 use Rattle.check_typing.specs.Result.{Checked, refused, passed, next}
 use Rattle.check_typing.specs.NetworkRules.{Environments}
-use Rattle.check_typing.specs.NetworkChecker.{checkStarter, checkClient, ifThere, checkServices, checkOutputs, checkNetwork}
+use Rattle.check_typing.specs.NetworkChecker.{checkStarter, checkClient, ifThere, checkServices, checkOutputs, checkKeys, checkNetwork}
 use Rattle.check_files.specs.FileChecker.{afterForm, checkFile}
 use Rattle.check_environments.specs.declared.Environment.{Environment}
 use Rattle.check_environments.specs.EnvironmentLaws.{empty-shape}
@@ -89,15 +89,18 @@ pub few : (file : List ℕ) → length (environmentsOf (checkFile file)) ≤ 4
 unfolding checkFile checkNetwork next
 few file = by (formOf file) refl
   where
-    outputs : (x : Checked (List Environments)) (y : Checked (Unit {0})) → length (environmentsOf x) ≤ 4 → length (environmentsOf (next x (λ Es. next y (λ u. passed Es)))) ≤ 4
-    outputs (refused w) y h = omega arith
-    outputs (passed Es) (refused w) h = omega arith
-    outputs (passed Es) (passed u) h = h
+    after : (x : Checked (List Environments)) (y z : Checked (Unit {0})) → length (environmentsOf x) ≤ 4
+        → length (environmentsOf (next x (λ Es. next y (λ u. next z (λ v. passed Es))))) ≤ 4
+    after (refused w) y z h = omega arith
+    after (passed Es) (refused w) z h = omega arith
+    after (passed Es) (passed u) (refused w) h = omega arith
+    after (passed Es) (passed u) (passed v) h = h
 
     by : (v : Verdict) → formOf file ≡ v → length (environmentsOf (afterForm v (checkNetwork (networkOf file)))) ≤ 4
     by (Refused why) e = omega arith
     by Done e =
-        outputs (checkServices 0 (networkOf file .services)) (checkOutputs (networkOf file) (networkOf file .operations))
+        after (checkServices 0 (networkOf file .services)) (checkOutputs (networkOf file) (networkOf file .operations))
+        (checkKeys (networkOf file) (networkOf file .operations))
         (omega (arith, services-few 0 (networkOf file .services), service-length file, counts-kept file e .services))
 
 -- ---- the whole answer

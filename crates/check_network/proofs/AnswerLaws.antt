@@ -13,10 +13,10 @@ use Rattle.refusal.specs.declared.Verdict.{Verdict}
 use Rattle.refusal.specs.declared.Verdict.the-variants.{Done, Refused}
 use Rattle.basics.specs.Choice.{pick}
 use Rattle.basics.specs.TestLaws.{one-less, true-false}
-use Rattle.network_syntax.specs.Syntax.{Types, Behaviour, Optional, none, some, Service}
-use Rattle.check_typing.specs.Result.{Checked, refused, passed, next}
+use Rattle.network_syntax.specs.Syntax.{Types, Behaviour, Optional, none, some, Service, Network}
+use Rattle.check_typing.specs.Result.{Checked, refused, passed, next, verdictOf}
 use Rattle.check_typing.specs.NetworkRules.{Environments}
-use Rattle.check_typing.specs.NetworkChecker.{checkStarter, checkClient, ifThere, checkServices, checkOutputs, checkNetwork}
+use Rattle.check_typing.specs.NetworkChecker.{checkStarter, checkClient, ifThere, checkServices, checkOutputs, checkKeys, checkNetwork}
 use Rattle.network.specs.declared.BehaviourKind.{BehaviourKind}
 use Rattle.network.specs.Form.{formOf, WellFormed}
 use Rattle.network.specs.Layout.{behaviourCount, operationCount, serviceCount}
@@ -28,13 +28,15 @@ use Rattle.check_environments.specs.declared.Environment.{Environment}
 use Rattle.check_environments.specs.declared.Step.{Step}
 use Rattle.check_environments.specs.Environment.{standing, stepOf, ShapeIn, StepAnswers}
 use Rattle.check_starters.specs.Starters.{StarterChecks, Clients}
-use Rattle.check_outputs.specs.Outputs.{verdictOf, Outputs}
+use Rattle.check_outputs.specs.Outputs.{Outputs}
+use Rattle.check_keys.specs.Keys.{Keys}
 use Rattle.check_network.specs.declared.Pair.{Pair}
 use Rattle.check_network.specs.declared.One.{One}
 use Rattle.check_network.specs.declared.Answer.{Answer}
 use Rattle.check_files.specs.FileChecker.{afterForm, checkFile}
 use Rattle.check_network.specs.Answer.{environmentOf, pairOf, emptyPair, pairAt, refusedWith, checkAnswer, withFirst, partStep, oneOf, checkService}
 use Rattle.check_network.specs.Answer.{ShapedIfThere, ShapedPair, ShapedAll, IfPassed, StarterGives, ClientGives, ServiceGives, ServicesGive}
+use Rattle.check_network.specs.Answer.{checkOperations, OperationsGive}
 
 -- ---- a starter or client
 
@@ -333,18 +335,62 @@ well : (file : List ℕ) → WellFormed file → checkFile file ≡ checkNetwork
 unfolding checkFile
 well file w = ap (λ (y : Verdict). afterForm y (checkNetwork (networkOf file))) w
 
+-- ---- operations
+
+unmet : (y : Checked (Unit {0})) {why : Refusal} → verdictOf y ≡ Refused why → y ≡ refused why
+unmet (refused w) g = cc
+unmet (passed u) g = absurd (let z : _≡_ {A = ℕ} 0 1 = cc in omega arith)
+
+met : {A : Type 0} (y : Checked (Unit {0})) (c : Checked A) → verdictOf y ≡ Done → next y (λ u. c) ≡ c
+unfolding next
+met (refused w) c g = absurd (let z : _≡_ {A = ℕ} 0 1 = cc in omega arith)
+met (passed u) c g = refl
+
+pub operations-unmet : (file : List ℕ) {v : Verdict} {why : Refusal} → Outputs file v → v ≡ Refused why → OperationsGive file v
+unfolding next
+operations-unmet file {v} {why} o e = record {
+  tells = λ w.
+      e ∙ sym (ap (λ (y : Checked (Unit {0})). verdictOf (next y (λ u. checkKeys (networkOf file) (networkOf file .operations))))
+      (unmet (checkOutputs (networkOf file) (networkOf file .operations)) (sym (o .tells w) ∙ e)));
+}
+
+pub operations-met : (file : List ℕ) {v x : Verdict} → Outputs file v → v ≡ Done → Keys file x → OperationsGive file x
+operations-met file o e k = record {
+  tells = λ w.
+      k .tells w ∙ sym (ap (verdictOf {A = Unit {0}}) (met (checkOutputs (networkOf file) (networkOf file .operations))
+      (checkKeys (networkOf file) (networkOf file .operations)) (sym (o .tells w) ∙ e)));
+}
+
+pub ruleset operations-laws = (operations-unmet, operations-met)
+
+-- ---- the file, after its form
+
+-- The services, then the operations.
+network-as : (N : Network) → checkNetwork N ≡ next (checkServices 0 (N .services)) (λ Es. next (checkOperations N) (λ u. passed Es))
+unfolding checkNetwork next
+network-as N = by (checkServices 0 (N .services)) (checkOutputs N (N .operations)) (checkKeys N (N .operations))
+  where
+    by : (x : Checked (List Environments)) (y z : Checked (Unit {0}))
+        → next x (λ Es. next y (λ u. next z (λ v. passed Es))) ≡ next x (λ Es. next (next y (λ u. z)) (λ u. passed Es))
+    by (refused w) y z = refl
+    by (passed Es) (refused w) z = refl
+    by (passed Es) (passed u) z = refl
+
 module _ (file : List ℕ) {v : Verdict} {n : ℕ} {a : Answer} (f : v ≡ formOf file) (g : v ≡ Done) (c : n ≡ serviceCount file) (k : ServicesGive file 0 n a) where
   wellFormed : WellFormed file
   wellFormed = sym f ∙ g
+
+  file-as : checkFile file ≡ next (checkServices 0 (networkOf file .services)) (λ Es. next (checkOperations (networkOf file)) (λ u. passed Es))
+  file-as = well file wellFormed ∙ network-as (networkOf file)
 
   given : a ≡ checkAnswer (checkServices 0 (networkOf file .services))
   unfolding networkOf
   given = subst (λ (m : ℕ). ServicesGive file 0 m a) c k .tells wellFormed (omega arith)
 
   pub file-shaped : IfPassed ShapedAll (checkFile file)
-  unfolding networkOf checkNetwork next
+  unfolding networkOf next
   file-shaped =
-      subst (IfPassed ShapedAll) (sym (well file wellFormed)) (by (checkServices 0 (networkOf file .services)) (checkOutputs (networkOf file) (networkOf file .operations))
+      subst (IfPassed ShapedAll) (sym file-as) (by (checkServices 0 (networkOf file .services)) (checkOperations (networkOf file))
       (subst (λ (m : ℕ). ServicesGive file 0 m a) c k .shapes wellFormed (omega arith)))
     where
       by : (x : Checked (List Environments)) (y : Checked (Unit {0})) → IfPassed ShapedAll x → IfPassed ShapedAll (next x (λ Es. next y (λ u. passed Es)))
@@ -353,45 +399,36 @@ module _ (file : List ℕ) {v : Verdict} {n : ℕ} {a : Answer} (f : v ≡ formO
       by (passed Es) (passed u) h = h
 
   pub file-services : {x : Answer} {why : Refusal} → a .verdict ≡ Refused why → x ≡ refusedWith (a .verdict) → x ≡ checkAnswer (checkFile file)
-  unfolding checkNetwork next
+  unfolding next
   file-services {x} {why} u e =
-      refused-answer x (a .verdict) why e u ∙ sym (ap checkAnswer (well file wellFormed
-      ∙ ap (λ (y : Checked (List Environments)). next y (λ Es. next (checkOutputs (networkOf file) (networkOf file .operations)) (λ u. passed Es)))
+      refused-answer x (a .verdict) why e u ∙ sym (ap checkAnswer (file-as
+      ∙ ap (λ (y : Checked (List Environments)). next y (λ Es. next (checkOperations (networkOf file)) (λ u. passed Es)))
       (all-refused (checkServices 0 (networkOf file .services)) given u)))
 
   after-services : a .verdict ≡ Done → (Es : List Environments) × (a ≡ checkAnswer (passed Es))
-      × (checkFile file ≡ next (checkOutputs (networkOf file) (networkOf file .operations)) (λ u. passed Es))
-  unfolding checkNetwork next
+      × (checkFile file ≡ next (checkOperations (networkOf file)) (λ u. passed Es))
+  unfolding next
   after-services u =
       let d = all-done (checkServices 0 (networkOf file .services)) given u in (
         d .0,
         d .2,
-        well file wellFormed
-            ∙ ap (λ (y : Checked (List Environments)). next y (λ Es. next (checkOutputs (networkOf file) (networkOf file .operations)) (λ u. passed Es))) (d .1),
+        file-as ∙ ap (λ (y : Checked (List Environments)). next y (λ Es. next (checkOperations (networkOf file)) (λ u. passed Es))) (d .1),
       )
 
-  pub file-outputs : {w : Verdict} {x : Answer} {why : Refusal} → a .verdict ≡ Done → Outputs file w → w ≡ Refused why → x ≡ refusedWith w → x ≡ checkAnswer (checkFile file)
+  pub file-operations : {w : Verdict} {x : Answer} {why : Refusal} → a .verdict ≡ Done → OperationsGive file w → w ≡ Refused why → x ≡ refusedWith w
+      → x ≡ checkAnswer (checkFile file)
   unfolding next
-  file-outputs {w} {x} {why} u o b e =
+  file-operations {w} {x} {why} u o b e =
       let p = after-services u in
       refused-answer x w why e b ∙ sym (ap checkAnswer (p .2 ∙ ap (λ (y : Checked (Unit {0})). next y (λ u. passed (p .0)))
-      (unmet (checkOutputs (networkOf file) (networkOf file .operations)) (sym (o .tells wellFormed) ∙ b))))
-    where
-      unmet : (y : Checked (Unit {0})) → verdictOf y ≡ Refused why → y ≡ refused why
-      unmet (refused w) g = cc
-      unmet (passed u) g = absurd (let z : _≡_ {A = ℕ} 0 1 = cc in omega arith)
+      (unmet (checkOperations (networkOf file)) (sym (o .tells wellFormed) ∙ b))))
 
-  pub file-accepted : {w : Verdict} → a .verdict ≡ Done → Outputs file w → w ≡ Done → a ≡ checkAnswer (checkFile file)
-  unfolding next
+  pub file-accepted : {w : Verdict} → a .verdict ≡ Done → OperationsGive file w → w ≡ Done → a ≡ checkAnswer (checkFile file)
   file-accepted {w} u o b =
       let p = after-services u in
-      p .1 ∙ sym (ap checkAnswer (p .2 ∙ met (checkOutputs (networkOf file) (networkOf file .operations)) (p .0) (sym (o .tells wellFormed) ∙ b)))
-    where
-      met : (y : Checked (Unit {0})) (Es : List Environments) → verdictOf y ≡ Done → next y (λ u. passed Es) ≡ passed Es
-      met (refused w) Es g = absurd (let z : _≡_ {A = ℕ} 0 1 = cc in omega arith)
-      met (passed u) Es g = refl
+      p .1 ∙ sym (ap checkAnswer (p .2 ∙ met (checkOperations (networkOf file)) (passed (p .0)) (sym (o .tells wellFormed) ∙ b)))
 
-pub ruleset file-laws = (file-form, file-services, file-outputs, file-accepted)
+pub ruleset file-laws = (file-form, file-services, file-operations, file-accepted)
 
 pub ruleset shape-laws = (form-shaped, file-shaped)
 

@@ -6,13 +6,13 @@ use Prim.Native.Nat.{ℕ, zero, suc, _+_, _<_, _≤_}
 use Rattle.tree_forest.specs.Forest.{end}
 use Rattle.refusal.specs.declared.Verdict.{Verdict}
 use Rattle.refusal.specs.declared.Verdict.the-variants.{Done, Refused}
-use Rattle.network_syntax.specs.Syntax.{Types, Optional, none, some, Service}
-use Rattle.check_typing.specs.Result.{Checked, refused, passed, next}
+use Rattle.network_syntax.specs.Syntax.{Types, Optional, none, some, Service, Network}
+use Rattle.check_typing.specs.Result.{Checked, refused, passed, next, verdictOf}
 use Rattle.check_typing.specs.NetworkRules.{Environments}
-use Rattle.check_typing.specs.NetworkChecker.{checkStarter, checkClient, ifThere, checkServices}
+use Rattle.check_typing.specs.NetworkChecker.{checkStarter, checkClient, ifThere, checkServices, checkOutputs, checkKeys}
 use Rattle.network.specs.Form.{WellFormed}
 use Rattle.network.specs.Layout.{serviceCount}
-use Rattle.network.specs.Decode.{serviceOf, rowsFrom}
+use Rattle.network.specs.Decode.{serviceOf, rowsFrom, networkOf}
 use Rattle.check_environments.specs.declared.Environment.{Environment}
 use Rattle.check_environments.specs.declared.Step.{Step}
 use Rattle.check_environments.specs.Environment.{standing, Shape}
@@ -98,3 +98,10 @@ pub record ServiceGives (file : List ℕ) (q : ℕ) (x : One) : Type 0 where
 pub record ServicesGive (file : List ℕ) (q n : ℕ) (x : Answer) : Type 0 where
   pub tells : WellFormed file → q + n ≤ serviceCount file → x ≡ checkAnswer (checkServices q (rowsFrom (serviceOf file) q n))
   pub shapes : WellFormed file → q + n ≤ serviceCount file → IfPassed ShapedAll (checkServices q (rowsFrom (serviceOf file) q n))
+
+-- All operations: 13, then 23.
+abbrev pub checkOperations : Network → Checked (Unit {0})
+checkOperations N = next (checkOutputs N (N .operations)) (λ u. checkKeys N (N .operations))
+
+pub record OperationsGive (file : List ℕ) (v : Verdict) : Type 0 where
+  pub tells : WellFormed file → v ≡ verdictOf (checkOperations (networkOf file))

@@ -1,10 +1,11 @@
-// The checker of network files: refusals 2 to 13, or the environments of every service.
+// The checker of network files: refusals 2 to 13 and 23, or the environments of every service.
 ghost use mathlib.Core.Path.{_≡_};
 ghost use Prim.Native.Nat.{ℕ, _+_, _≤_};
 ghost use Rattle.network.specs.Layout.{serviceCount};
 ghost use Rattle.check_files.specs.FileChecker.{checkFile};
 ghost use Rattle.check_roots.specs.Sets.{Separates};
-ghost use Rattle.check_network.specs.Answer.{emptyPair, refusedWith, withFirst, checkAnswer, IfPassed, ShapedAll, StarterGives, ClientGives, ServiceGives, ServicesGive};
+ghost use Rattle.check_network.specs.Answer.{emptyPair, refusedWith, withFirst, checkAnswer, IfPassed, ShapedAll};
+ghost use Rattle.check_network.specs.Answer.{StarterGives, ClientGives, ServiceGives, ServicesGive, OperationsGive};
 use check_environments::Environment;
 use check_environments::Step;
 use refusal::Refusal;
@@ -168,7 +169,18 @@ fn all_services(file: &[u8]) -> Answer
     services(file, file, 0, n)
 }
 
-// "The checker tries 2 to 13". (Its environments keep to their limits, as a fact that callers can cite.)
+// All operations: 13, then 23.
+fn operations(file: &[u8]) -> Verdict
+    ensures { λ v. ⌜ OperationsGive (now (file .entry)) v ⌝ }
+{
+    let v = check_outputs::check_outputs(file);
+    let Verdict::Done = v else {
+        return v;
+    };
+    check_keys::check_keys(file)
+}
+
+// "The checker tries 2 to 13", and 23 "after 13". (Its environments keep to their limits, as a fact that callers can cite.)
 pub fn check(file: &[u8]) -> Answer
     ensures { λ x. ⌜ x ≡ checkAnswer (checkFile (now (file .entry))) ⌝ }
     ensures { λ _. ⌜ IfPassed ShapedAll (checkFile (now (file .entry))) ⌝ }
@@ -182,7 +194,7 @@ pub fn check(file: &[u8]) -> Answer
     let Verdict::Done = v else {
         return verdict_only(v);
     };
-    let w = check_outputs::check_outputs(file);
+    let w = operations(file);
     let Verdict::Done = w else {
         return verdict_only(w);
     };

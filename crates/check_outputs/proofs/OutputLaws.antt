@@ -14,7 +14,7 @@ use Rattle.basics.specs.TestLaws.{not-false, not-true, one-less}
 use Rattle.network_syntax.specs.Syntax.{MessageType, input, output, Operation, some}
 use Rattle.network_syntax.specs.Meets.{inFile, metInput}
 use Rattle.check_subtyping.specs.Subtype.{implies, isSubtype}
-use Rattle.check_typing.specs.Result.{yields, demand, Checked, refused, passed, withRow, next}
+use Rattle.check_typing.specs.Result.{yields, demand, withRow, next, verdictOf}
 use Rattle.check_typing.specs.Rules.{sameDirection}
 use Rattle.check_typing.specs.NetworkChecker.{agrees, agreesWith, outputMeets, checkOutputs}
 use Rattle.network.specs.Form.{WellFormed}
@@ -28,7 +28,7 @@ use Rattle.check_types.specs.Tells.{RowsOrder}
 use Rattle.check_operations.specs.declared.Met.{Met}
 use Rattle.check_operations.specs.Meeting.{operationMet}
 use Rattle.check_operations.specs.MeetingLaws.{met-exists}
-use Rattle.check_outputs.specs.Outputs.{verdictOf, OutputAgrees, OutputTells, OutputsFrom, Outputs}
+use Rattle.check_outputs.specs.Outputs.{OutputAgrees, OutputTells, OutputsFrom, Outputs}
 
 -- ---- an input that is met
 

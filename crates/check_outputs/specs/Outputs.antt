@@ -4,17 +4,11 @@ use mathlib.Core.List.{List}
 use mathlib.Core.Bool.{Bool}
 use Prim.Native.Nat.{ℕ, _+_, _<_, _≤_}
 use Rattle.refusal.specs.declared.Verdict.{Verdict}
-use Rattle.refusal.specs.declared.Verdict.the-variants.{Done, Refused}
-use Rattle.check_typing.specs.Result.{Checked, refused, passed}
+use Rattle.check_typing.specs.Result.{verdictOf}
 use Rattle.check_typing.specs.NetworkChecker.{agrees, outputMeets, checkOutputs}
 use Rattle.network.specs.Form.{WellFormed}
 use Rattle.network.specs.Layout.{operationCount}
 use Rattle.network.specs.Decode.{operationOf, rowsFrom, networkOf}
-
--- The verdict of what is checked.
-abbrev pub verdictOf : {A : Type 0} → Checked A → Verdict
-verdictOf (refused why) = Refused why
-verdictOf (passed a) = Done
 
 -- O row o agrees with O row i, which it meets.
 pub record OutputAgrees (file : List ℕ) (o i : ℕ) (x : Bool) : Type 0 where

@@ -15,7 +15,7 @@ use Rattle.refusal.specs.declared.Verdict.{Verdict}
 use Rattle.refusal.specs.declared.Verdict.the-variants.{Done, Refused}
 use Rattle.network_syntax.specs.Syntax.{Types, Behaviour, sequence, choice}
 use Rattle.network_syntax.specs.Rows.{rowOf}
-use Rattle.check_typing.specs.Result.{Attempt, yields, demand, Checked, refused, passed, withRow, next}
+use Rattle.check_typing.specs.Result.{Attempt, yields, demand, Checked, refused, passed, withRow, next, verdictOf}
 use Rattle.check_typing.specs.Environment.{within}
 use Rattle.check_typing.specs.Checker.{limited, check}
 use Rattle.check_typing.specs.NetworkRules.{OneTypeEach, sequencesOf, branchesOf, union, unionOf}
@@ -42,7 +42,6 @@ use Rattle.check_environments.specs.Tells.{OneTyped, Unites}
 use Rattle.network_row_parts.specs.Behaviours.{BranchSubs}
 use Rattle.check_behaviours.specs.Checks.{Checks, Sequences}
 use Rattle.network_row_parts.specs.KindLaws.{row-is}
-use Rattle.check_outputs.specs.Outputs.{verdictOf}
 use Rattle.check_starters.specs.Starters.{branchOfRow, branchList, BranchRun, BranchGives, Each, Against, OneEach, UnitesAll, Joins, Gathers, StarterChecks, Clients}
 use Rattle.check_starters.specs.declared.Gathered.{Gathered}
 

@@ -6,7 +6,7 @@ use Prim.Native.Nat.{ℕ, zero, suc, _+_, _<_, _≤_}
 use Rattle.refusal.specs.declared.Verdict.{Verdict}
 use Rattle.tree_forest.specs.Forest.{end}
 use Rattle.network_syntax.specs.Syntax.{Types, Behaviour, sequence}
-use Rattle.check_typing.specs.Result.{yields, demand, Checked, passed, withRow, next}
+use Rattle.check_typing.specs.Result.{yields, demand, Checked, passed, withRow, next, verdictOf}
 use Rattle.check_typing.specs.Checker.{limited, check}
 use Rattle.check_typing.specs.NetworkRules.{unionOf}
 use Rattle.check_typing.specs.NetworkLaws.{AllRising}
@@ -22,7 +22,6 @@ use Rattle.check_environments.specs.declared.Environment.{Environment}
 use Rattle.check_environments.specs.declared.Step.{Step}
 use Rattle.check_environments.specs.Environment.{EnvironmentFor, StepAnswers}
 use Rattle.network_row_parts.specs.Behaviours.{BranchSubs}
-use Rattle.check_outputs.specs.Outputs.{verdictOf}
 use Rattle.check_starters.specs.declared.Gathered.{Gathered}
 
 -- The branch at row j, and the n branches from row j on, each as the sequence of its input and what follows.

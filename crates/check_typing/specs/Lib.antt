@@ -15,6 +15,7 @@ pub mod CheckerLaws
 pub mod DerivesLaws
 pub mod NetworkRules
 pub mod NetworkChecker
+pub mod KeyLaws
 pub mod NetworkLaws
 pub mod Cases
 pub mod Readings

@@ -1,14 +1,16 @@
--- The checker of a network: 01's refusals 6 to 13. "Services go by row, starter first, outputs last." Numbers 6 to 12 are
--- placed at a B row, 13 at the output's O row. The environments of each service, or number and place of the first refusal.
+-- The checker of a network: 01's refusals 6 to 13, and 23. "Services go by row, starter first, outputs last." Numbers 6 to 12 are
+-- placed at a B row, 13 at the output's O row, 23 at the input's. The environments of each service, or number and place of the first refusal.
 use mathlib.Core.List.{List, [], _∷_}
 use mathlib.Core.Bool.{Bool, true, false, _&&_}
 use Prim.Native.Nat.{ℕ, suc}
 use lib.Dec.{eqb}
 use Rattle.tree_forest.specs.Forest.{end, node, tree, Lookup, absent, present, find}
-use Rattle.refusal.specs.declared.Refusal.the-variants.{EnvironmentsDiffer, OutputMismatch}
-use Rattle.network_syntax.specs.Syntax.{Mark, mark, Types, MessageType, output, Operation, Behaviour, Optional, none, some, Service, Network}
+use Rattle.refusal.specs.declared.Refusal.the-variants.{EnvironmentsDiffer, OutputMismatch, UnfitKey}
+use Rattle.network_syntax.specs.Syntax.{Mark, mark, Types, MessageType, input, output, Operation, Behaviour, Optional, none, some, Service, Network}
 use Rattle.network_syntax.specs.Rows.{rowOf}
 use Rattle.network_syntax.specs.Meets.{inFile, metInput}
+use Rattle.network_syntax.specs.Keys.{keyId, isKeyed}
+use Rattle.scalar.specs.Basic.{int}
 use Rattle.check_subtyping.specs.Subtype.{implies, isSubtype}
 use Rattle.check_typing.specs.Result.{Attempt, yields, demand, Checked, passed, withRow, next}
 use Rattle.check_typing.specs.Environment.{within}
@@ -83,6 +85,30 @@ checkOutputs N [] = passed (tt {0})
 checkOutputs N (o ∷ l) =
     next (withRow (o .row) (demand (outputMeets N o) OutputMismatch (yields (tt {0})))) (λ u. checkOutputs N l)
 
+-- Is the child a mandatory int?
+abbrev pub isMandatoryInt : Lookup Mark → Bool
+isMandatoryInt absent = false
+isMandatoryInt (present (tree (mark m b) k)) = m && eqb b int
+
+abbrev pub hasKey : ℕ → MessageType → Bool
+hasKey k (tree a l) = isMandatoryInt (find k l)
+
+-- Does the operation, if it is an input of a keyed service, have the key in its request type?
+abbrev pub inputKeyed : Network → Operation → Bool
+inputKeyed N o =
+    implies (sameDirection (o .direction) input)
+    (implies (isKeyed N (o .service)) (hasKey (keyId N (o .service)) (o .request)))
+
+-- The inputs of l in order. 23: "A keyed service with an unfit input is 23, place the number of the lowest such input's O row".
+unfoldable pub checkKeys : Network → List Operation → Checked (Unit {0})
+checkKeys N [] = passed (tt {0})
+checkKeys N (o ∷ l) =
+    next (withRow (o .row) (demand (inputKeyed N o) UnfitKey (yields (tt {0})))) (λ u. checkKeys N l)
+
 -- The whole checker after refusals 2 to 5.
 unfoldable pub checkNetwork : Network → Checked (List Environments)
-checkNetwork N = next (checkServices 0 (N .services)) (λ Es. next (checkOutputs N (N .operations)) (λ u. passed Es))
+checkNetwork N =
+    next (checkServices 0 (N .services))  -- 6 to 12
+    (λ Es. next (checkOutputs N (N .operations))  -- 13
+    (λ u. next (checkKeys N (N .operations))  -- 23: "tried after 13"
+    (λ v. passed Es)))

@@ -9,17 +9,17 @@ use lib.Dec.{T, eqb, eqb→eq, eqb-refl}
 use Rattle.tree_forest.specs.Compare.{Compare, lt, eq, gt, compare}
 use Rattle.tree_forest.specs.Forest.{Forest, end, node, tree, Lookup, absent, present, find, findBy, set, Above, Rising, RisingTree, measure}
 use Rattle.tree_forest.specs.ForestLaws.{find-eq, find-gt, find-set-same, find-set-other, rising-set}
-use Rattle.refusal.specs.declared.Refusal.the-variants.{EnvironmentsDiffer, EnvironmentTooLarge, OutputMismatch}
+use Rattle.refusal.specs.declared.Refusal.the-variants.{EnvironmentsDiffer, EnvironmentTooLarge, OutputMismatch, UnfitKey}
 use Rattle.basics.specs.Choice.{pick}
 use Rattle.basics.specs.TestLaws.{T-of, and-i, and-l, and-r, of-T}
 use Rattle.network_syntax.specs.Syntax.{Mark, mark, Types, MessageType, Direction, input, output, Operation, Behaviour, Branches, lastBranch, branch}
 use Rattle.network_syntax.specs.Syntax.{Optional, none, some, Service, Network}
-use Rattle.network_syntax.specs.Rows.{rowOf, Choice, choiceOf}
+use Rattle.network_syntax.specs.Rows.{rowOf, entry, Choice, choiceOf}
 use Rattle.network_syntax.specs.ViewLaws.{choice-is}
 use Rattle.network_syntax.specs.Meets.{inFile, meets, firstOf, metInput}
 use Rattle.check_subtyping.specs.Subtype.{implies, isSubtype, Subtype}
 use Rattle.check_subtyping.specs.SubtypeLaws.{find-above, implies-elim, implies-intro, subtype-sound, subtype-complete}
-use Rattle.check_typing.specs.Result.{Attempt, yields, demand, Checked, passed, withRow, next}
+use Rattle.check_typing.specs.Result.{Attempt, yields, demand, Checked, refused, passed, withRow, next}
 use Rattle.check_typing.specs.ResultLaws.{yields-inj, passed-inj, require-yields, require-holds, atRow-passed, next-passed, next-holds}
 use Rattle.check_typing.specs.Environment.{within}
 use Rattle.check_typing.specs.EnvironmentLaws.{present-inj}
@@ -27,13 +27,15 @@ use Rattle.check_typing.specs.Rules.{sameBool, sameDirection, Derives, R
 use Rattle.check_typing.specs.Checker.{sameTypes, limited, check}
 use Rattle.check_typing.specs.CheckerLaws.{sameBool-eq, sameBool-refl, sameTypes-eq, sameTypes-refl}
 use Rattle.check_typing.specs.DerivesLaws.{check-derives, derives-check, derives-rising}
-use Rattle.check_typing.specs.NetworkRules.{sequencesOf, ofChoice, branchesOf, DerivesEach, OneType}
+use Rattle.check_typing.specs.NetworkRules.{sequencesOf, ofChoice, branchesOf, DerivesEach, OneType, UnfitInput}
 use Rattle.check_typing.specs.NetworkRules.{OneTypeWith, OneTypeEach, union, unionOf, DerivesStarter}
 use Rattle.check_typing.specs.NetworkRules.{DerivesClient, IfThere, Environments, DerivesServices, Agrees, AgreesWith}
 use Rattle.check_typing.specs.NetworkRules.{OutputsMeet, DerivesNetwork, WellSortedIfThere, WellSortedServices, RisingOperations}
 use Rattle.check_typing.specs.NetworkRules.{WellSortedNetwork}
 use Rattle.check_typing.specs.NetworkChecker.{checkEach, sameTree, oneTypeAt, oneType, oneTypeWith, oneTypeEach, checkStarter}
 use Rattle.check_typing.specs.NetworkChecker.{checkClient, ifThere, checkServices, agrees, agreesWith, outputMeets, checkOutputs, checkNetwork}
+use Rattle.check_typing.specs.NetworkChecker.{checkKeys}
+use Rattle.check_typing.specs.KeyLaws.{keys-sound, keys-complete, keys-refused}
 
 -- The empty environment.
 pub end-rising : Rising {A = Mark} end
@@ -382,24 +384,44 @@ outputs-complete N (o ∷ l) w wl h =
 
 -- The network --------------------------------------------------------------------------------------------------------
 
+-- What follows the services, and what follows the outputs.
+afterServices : Network → List Environments → Checked (List Environments)
+afterServices N Es = next (checkOutputs N (N .operations)) (λ u. next (checkKeys N (N .operations)) (λ v. passed Es))
+
+afterOutputs : Network → List Environments → Checked (List Environments)
+afterOutputs N Es = next (checkKeys N (N .operations)) (λ v. passed Es)
+
 pub checked-derived : (N : Network) (Es : List Environments) → WellSortedNetwork N → checkNetwork N ≡ passed Es → DerivesNetwork N Es
-unfolding checkNetwork
+unfolding checkNetwork afterServices afterOutputs
 checked-derived N Es ws h =
-    let u = next-passed (checkServices 0 (N .services)) (λ Fs. next (checkOutputs N (N .operations)) (λ v. passed Fs)) Es
-    h in
-    let v = next-passed (checkOutputs N (N .operations)) (λ v. passed (u .0)) Es (u .2) in
+    let u = next-passed (checkServices 0 (N .services)) (afterServices N) Es h in
+    let v = next-passed (checkOutputs N (N .operations)) (λ v. afterOutputs N (u .0)) Es (u .2) in
+    let w = next-passed (checkKeys N (N .operations)) (λ v. passed (u .0)) Es (v .2) in
     record {
-      services = subst (DerivesServices 0 (N .services)) (passed-inj (v .2)) (services-sound 0 (N .services) (u .0) (ws .inServices) (u .1));
+      services = subst (DerivesServices 0 (N .services)) (passed-inj (w .2)) (services-sound 0 (N .services) (u .0) (ws .inServices) (u .1));
       outputs = outputs-sound N (N .operations) (v .0) (v .1);
+      keys = keys-sound N (N .operations) (w .0) (w .1);
     }
 
 pub derived-checked : (N : Network) (Es : List Environments) → WellSortedNetwork N → DerivesNetwork N Es → checkNetwork N ≡ passed Es
-unfolding checkNetwork
+unfolding checkNetwork afterServices afterOutputs
 derived-checked N Es ws h =
-    next-holds (checkServices 0 (N .services)) (λ Fs. next (checkOutputs N (N .operations)) (λ v. passed Fs)) Es
-    (services-complete 0 (N .services) Es (ws .inServices) (h .services))
-    ∙ next-holds (checkOutputs N (N .operations)) (λ v. passed Es) (tt {0})
+    next-holds (checkServices 0 (N .services)) (afterServices N) Es (services-complete 0 (N .services) Es (ws .inServices) (h .services))
+    ∙ (next-holds (checkOutputs N (N .operations)) (λ v. afterOutputs N Es) (tt {0})
     (outputs-complete N (N .operations) (ws .inOperations) (ws .inOperations) (h .outputs))
+    ∙ next-holds (checkKeys N (N .operations)) (λ v. passed Es) (tt {0}) (keys-complete N (N .operations) (h .keys)))
+
+-- 02: "place the number of the lowest such input's O row, tried after 13": where services and outputs are right, the first unfit input of the list
+-- is refused.
+pub unfit-refused : (N : Network) (Es : List Environments) → WellSortedNetwork N → DerivesServices 0 (N .services) Es → OutputsMeet N (N .operations)
+    → (i : ℕ) (o : Operation) → entry i (N .operations) ≡ some o → UnfitInput N o
+    → ((j : ℕ) (p : Operation) → j < i → entry j (N .operations) ≡ some p → UnfitInput N p → ⊥) → checkNetwork N ≡ refused (UnfitKey (o .row))
+unfolding checkNetwork afterServices afterOutputs next
+unfit-refused N Es ws ds os i o e u first =
+    next-holds (checkServices 0 (N .services)) (afterServices N) Es (services-complete 0 (N .services) Es (ws .inServices) ds)
+    ∙ (next-holds (checkOutputs N (N .operations)) (λ v. afterOutputs N Es) (tt {0})
+    (outputs-complete N (N .operations) (ws .inOperations) (ws .inOperations) os)
+    ∙ ap (λ (x : Checked (Unit {0})). next x (λ v. passed Es)) (keys-refused N (N .operations) i o e u first))
 
 -- THE THEOREM: for every network whose type ids rise, the checker passes it with the environments Es exactly if the rules
 -- derive it with Es.

@@ -1,17 +1,20 @@
 -- The rules of a network: starters, clients, services and outputs. 01, Typing: "Starter branches and clients start from empty
 -- Γ; a root bound by two branches has one type, else 10; the starter's environment is their union. Γ, that union too, has at
 -- most 48 nodes and 6 levels below its empty root. An output to a location in the file meets an input there of the same id
--- and kind, its request type ≤ the input's, and the input's reply type ≤ its own."
+-- and kind, its request type ≤ the input's, and the input's reply type ≤ its own." 02: "In a keyed service the request type of each input has
+-- that id as a mandatory int child of its root."
 use mathlib.Core.Path.{_≡_}
 use mathlib.Core.List.{List, [], _∷_}
 use mathlib.Core.Bool.{true}
 use Prim.Native.Nat.{ℕ, suc}
 use lib.Dec.{T}
 use Rattle.tree_forest.specs.Forest.{end, node, tree, present, find, set}
-use Rattle.network_syntax.specs.Syntax.{Types, MessageType, output, Operation, Behaviour, sequence, Branches, lastBranch, branch}
+use Rattle.network_syntax.specs.Syntax.{mark, Types, MessageType, input, output, Operation, Behaviour, sequence, Branches, lastBranch, branch}
 use Rattle.network_syntax.specs.Syntax.{Optional, none, some, Service, Network}
 use Rattle.network_syntax.specs.Rows.{Choice, choiceOf}
 use Rattle.network_syntax.specs.Meets.{inFile, metInput}
+use Rattle.network_syntax.specs.Keys.{keyId, isKeyed}
+use Rattle.scalar.specs.Basic.{int}
 use Rattle.check_subtyping.specs.Subtype.{Subtype}
 use Rattle.check_typing.specs.Environment.{within}
 use Rattle.check_typing.specs.Rules.{Derives, RisingOperation, WellSorted}
@@ -98,10 +101,27 @@ OutputsMeet N [] = Unit {0}
 OutputsMeet N (o ∷ l) =
     (o .direction ≡ output → T (inFile N (o .location)) → AgreesWith o (metInput N o)) × OutputsMeet N l
 
+-- 02: "has that id as a mandatory int child of its root". The child's own children are free.
+abbrev pub HasKey : ℕ → MessageType → Type 0
+HasKey k (tree a l) = (c : Types) × (find k l ≡ present (tree (mark true int) c))
+
+-- 02: "In a keyed service the request type of each input has that id", for every input of the list l.
+unfoldable pub InputsKeyed : Network → List Operation → Type 0
+InputsKeyed N [] = Unit {0}
+InputsKeyed N (o ∷ l) =
+    (o .direction ≡ input → T (isKeyed N (o .service)) → HasKey (keyId N (o .service)) (o .request)) × InputsKeyed N l
+
+-- "an unfit input": one of a keyed service whose request type lacks the key.
+pub record UnfitInput (N : Network) (o : Operation) : Type 0 where
+  pub incoming : o .direction ≡ input
+  pub keyed : T (isKeyed N (o .service))
+  pub lacks : HasKey (keyId N (o .service)) (o .request) → ⊥
+
 -- The network is derived, with these environments, one for each service.
 pub record DerivesNetwork (N : Network) (Es : List Environments) : Type 0 where
   pub services : DerivesServices 0 (N .services) Es
   pub outputs : OutputsMeet N (N .operations)
+  pub keys : InputsKeyed N (N .operations)
 
 -- The ids of all types of the network rise strictly (01, T).
 abbrev pub WellSortedIfThere : Optional Behaviour → Type 0

@@ -4,6 +4,8 @@
 use mathlib.Core.Bool.{Bool, true, false}
 use Prim.Native.Nat.{ℕ}
 use Rattle.refusal.specs.declared.Refusal.{Refusal}
+use Rattle.refusal.specs.declared.Verdict.{Verdict}
+use Rattle.refusal.specs.declared.Verdict.the-variants.{Done, Refused}
 use Rattle.refusal.specs.Refusal.{numberOf, placeOf}
 
 -- Within one row: what is given, or the kind of refusal of the first premise that fails (its row comes with `withRow`).
@@ -35,6 +37,11 @@ withRow r (yields a) = passed a
 unfoldable pub next : {A B : Type 0} → Checked A → (A → Checked B) → Checked B
 next (refused why) f = refused why
 next (passed a) f = f a
+
+-- The verdict of what is checked.
+abbrev pub verdictOf : {A : Type 0} → Checked A → Verdict
+verdictOf (refused why) = Refused why
+verdictOf (passed a) = Done
 
 -- 01's number and place; "number 0 is done".
 abbrev pub refusalNumber : {A : Type 0} → Checked A → ℕ

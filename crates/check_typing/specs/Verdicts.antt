@@ -6,7 +6,7 @@ use Prim.Native.Nat.{ℕ, zero, suc, _+_}
 use Rattle.tree_forest.specs.Forest.{Forest, end, node, tree, find, set, measure}
 use Rattle.tree_forest.specs.Path.{Path, path, readSteps, writeSteps}
 use Rattle.refusal.specs.declared.Refusal.the-variants.{WrongOperation, PathNotFirm, OperandType, TypeMisfit, EnvironmentsDiffer}
-use Rattle.refusal.specs.declared.Refusal.the-variants.{SharedRoot, EnvironmentTooLarge, OutputMismatch}
+use Rattle.refusal.specs.declared.Refusal.the-variants.{SharedRoot, EnvironmentTooLarge, OutputMismatch, UnfitKey}
 use Rattle.scalar.specs.Basic.{bool, int, long, string, void}
 use Rattle.scalar.specs.Value.{Value, value}
 use Rattle.network_syntax.specs.Syntax.{Mark, mark, Types, MessageType, add, logicalNot, Expression, constant, valueAt, unary, binary, input}
@@ -24,7 +24,7 @@ use Rattle.check_typing.specs.Rules.{permits}
 use Rattle.check_typing.specs.Checker.{sameTypes, check}
 use Rattle.check_typing.specs.NetworkRules.{branchesOf, sequencesOf, union, unionOf}
 use Rattle.check_typing.specs.NetworkChecker.{checkEach, oneType, oneTypeWith, oneTypeEach, checkServices, checkOutputs}
-use Rattle.check_typing.specs.NetworkChecker.{checkNetwork}
+use Rattle.check_typing.specs.NetworkChecker.{checkKeys, checkNetwork}
 
 -- Paths of one id, a path a.b, constants, and nodes of an environment without children.
 abbrev at : ℕ → Path
@@ -111,7 +111,7 @@ order-of-branches = (refl, refl, refl)
 
 -- A network with one service at location 1 that has a starter and no client, and these operations.
 abbrev served : Behaviour → List Operation → Network
-served B os = record { services = record { location = 1; starter = some B; client = none } ∷ []; operations = os }
+served B os = record { services = record { location = 1; starter = some B; client = none; key = 0 } ∷ []; operations = os }
 
 abbrev twoBranches : Behaviour → Behaviour
 twoBranches B = choice 5 (branch 6 (receiving 7 1) (nil 8) (lastBranch 9 (receiving 10 1) B))
@@ -127,16 +127,35 @@ pub starters-and-outputs :
     × (checkNetwork (served (twoBranches (nil 11)) (operation 0 0 ∷ sending 4 1 (basicLeaf int) ∷ sending 6 9 (basicLeaf long) ∷ []))
     ≡ passed (record { starter = some (node 1 (mark true int) end end); client = none } ∷ []))
 unfolding rowOf checkNetwork checkServices checkEach branchesOf sequencesOf union unionOf oneType oneTypeWith oneTypeEach
-    entry someAt meets firstOf metInput checkOutputs
+    entry someAt meets firstOf metInput checkOutputs checkKeys
     check next expressionType permits sameTypes areSubtypes find set readSteps writeSteps firmSteps firmAboveSteps measure
 starters-and-outputs = (refl, refl, refl, refl)
 
 -- Case d of 01 as the one client of a network.
 pub case-d-client :
     checkNetwork (record {
-      services = record { location = 1; starter = none; client = some (assign 0 (path 5 (7 ∷ [])) anInt) } ∷ [];
+      services = record { location = 1; starter = none; client = some (assign 0 (path 5 (7 ∷ [])) anInt); key = 0 } ∷ [];
       operations = [];
     })
     ≡ passed (record { starter = none; client = some (node 5 (mark true void) (node 7 (mark true int) end end) end) } ∷ [])
-unfolding checkNetwork checkServices checkOutputs check next expressionType find set readSteps writeSteps firmAboveSteps measure
+unfolding checkNetwork checkServices checkOutputs checkKeys check next expressionType find set readSteps writeSteps firmAboveSteps measure
 case-d-client = refl
+
+-- A network with one service at location 1, keyed by the id 7, that has neither starter nor client, and these operations.
+abbrev keyedBySeven : List Operation → Network
+keyedBySeven os = record { services = record { location = 1; starter = none; client = none; key = 7 } ∷ []; operations = os }
+
+abbrev asking : ℕ → Types → Operation
+asking r k = record { row = r; service = 0; direction = input; twoWay = false; id = r; location = 0; request = tree (mark true void) k; reply = basicLeaf void }
+
+-- 23: the child must be there, mandatory and an int; what is below it is free. The place is the O row of the lowest unfit input, which 13 goes
+-- before; outputs need no key.
+pub inputs-of-a-keyed-service :
+    (checkNetwork (keyedBySeven (asking 0 (node 7 (mark true int) (only false long end) end) ∷ sending 1 9 (basicLeaf long) ∷ []))
+    ≡ passed (record { starter = none; client = none } ∷ []))
+    × (checkNetwork (keyedBySeven (asking 0 (node 7 (mark true int) end end) ∷ asking 1 (node 7 (mark false int) end end) ∷ asking 2 end ∷ []))
+    ≡ refused (UnfitKey 1))
+    × (checkNetwork (keyedBySeven (asking 3 (node 7 (mark true long) end end) ∷ asking 4 end ∷ [])) ≡ refused (UnfitKey 3))
+    × (checkNetwork (keyedBySeven (asking 0 end ∷ sending 1 1 (basicLeaf long) ∷ [])) ≡ refused (OutputMismatch 1))
+unfolding checkNetwork checkServices checkOutputs checkKeys next entry someAt meets firstOf metInput areSubtypes find
+inputs-of-a-keyed-service = (refl, refl, refl, refl)

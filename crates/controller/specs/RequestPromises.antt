@@ -13,19 +13,26 @@ use Rattle.scalar.specs.Value.{Value, isValue}
 use Rattle.scalar.specs.ValueLaws.{string-rule}
 use Rattle.refusal.specs.Refusal.{outcomeNumber}
 use Rattle.tree.specs.Encode.{Message}
-use Rattle.network_syntax.specs.Syntax.{MessageType, Network}
+use Rattle.network_syntax.specs.Syntax.{MessageType, Operation, some, Network}
+use Rattle.network_syntax.specs.Rows.{entry}
 use Rattle.network.specs.Layout.{typeCount, behaviourCount}
 use Rattle.network.specs.Rows.{rootFits}
 use Rattle.network.specs.Sizes.{typeWithin}
 use Rattle.network.specs.Decode.{typeOf, networkOf}
 use Rattle.network.specs.Breaks.{TypeBreaks}
+use Rattle.network.specs.Form.{WellFormed}
+use Rattle.refusal.specs.declared.Refusal.the-variants.{UnfitKey}
+use Rattle.check_typing.specs.Result.{refused}
+use Rattle.check_typing.specs.NetworkRules.{Environments, DerivesServices, OutputsMeet, UnfitInput}
+use Rattle.check_files.specs.FileChecker.{checkFile}
+use Rattle.check_files.specs.KeyLaws.{lowest-unfit}
 use Rattle.state.specs.Session.{State}
-use Rattle.state.specs.Shape.{HasShape, Stands}
+use Rattle.state.specs.Shape.{KeysApart, HasShape, Stands}
 use Rattle.move_rules.specs.Fresh.{freshBytes}
 use Rattle.soundness.specs.Texts.{TextTree}
-use Rattle.soundness.specs.Property3.{AllTexts, WritesText, Turn, AllGiven, after, AcceptedFile}
+use Rattle.soundness.specs.Property3.{AllTexts, WritesText, KeyedQueues, Turn, AllGiven, after, AcceptedFile}
 use Rattle.soundness.specs.TextLaws.{message-text, shape-texts}
-use Rattle.soundness.specs.Property3Laws.{texts-from-fresh}
+use Rattle.soundness.specs.Property3Laws.{texts-from-fresh, keys-from-fresh}
 use Rattle.type_text.specs.Grammar.{Declaration, TypeText}
 use Rattle.type_text.specs.Reader.{Item, parsed, offends, readText}
 use Rattle.type_text.specs.Meaning.{typesOf}
@@ -117,3 +124,20 @@ state-strings = shape-texts
 pub strings-from-fresh : (file : List ℕ) → AcceptedFile file → (l : List Turn) → AllGiven l → (G : State)
     → Stands (networkOf file) (behaviourCount file) (after file (freshBytes file) l) G → AllTexts G × WritesText file G
 strings-from-fresh = texts-from-fresh
+
+-- ---- Sessions by key (02, Wish 5)
+
+-- "A keyed service with an unfit input is 23, place the number of the lowest such input's O row, tried after 13."
+pub lowest-place-of-23 : (file : List ℕ) (Es : List Environments) → WellFormed file
+    → DerivesServices 0 (networkOf file .services) Es → OutputsMeet (networkOf file) (networkOf file .operations)
+    → (r : ℕ) (o : Operation) → entry r (networkOf file .operations) ≡ some o → UnfitInput (networkOf file) o
+    → ((q : ℕ) (i : Operation) → q < r → entry q (networkOf file .operations) ≡ some i
+    → UnfitInput (networkOf file) i → ⊥)
+    → checkFile file ≡ refused (UnfitKey r)
+lowest-place-of-23 = lowest-unfit
+
+-- "From fresh, no two live sessions of a service hold one key"; what is queued at a session that holds one has that key.
+pub one-key-from-fresh : (file : List ℕ) → AcceptedFile file → (l : List Turn) → AllGiven l → (G : State)
+    → Stands (networkOf file) (behaviourCount file) (after file (freshBytes file) l) G
+    → KeysApart (networkOf file) G × KeyedQueues file G
+one-key-from-fresh = keys-from-fresh

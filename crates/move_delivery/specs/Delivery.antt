@@ -24,10 +24,11 @@ use Rattle.network.specs.Form.{WellFormed}
 use Rattle.network.specs.Layout.{pathCount, typeCount, behaviourCount, operationCount}
 use Rattle.network.specs.Decode.{pathOf, typeOf, behaviourOf, operationOf, networkOf}
 use Rattle.state.specs.Places.{slotSize, treeRoom, messageRoom, slotStart, stateSize}
-use Rattle.state.specs.Session.{Destination, Progress, taken, advance, Session, withTree, withProgress, free, live, State, newSession}
+use Rattle.state.specs.Session.{Destination, Progress, taken, advance, Session, withTree, withProgress, withKey, free, live, State, newSession}
 use Rattle.state.specs.Bytes.{treeBytes, slotBytes}
 use Rattle.move_rules.specs.Targets as definition
-use Rattle.move_rules.specs.Moves.{Result, refused, require, allowed, deliver}
+use Rattle.move_rules.specs.Keys.{keyToKeep}
+use Rattle.move_rules.specs.Moves.{Result, refused, require, allowed, mustFind, deliver}
 use Rattle.scalar.specs.Value.{voidValue}
 use Rattle.move_rules.specs.Step.{Step, finish}
 use Rattle.state_trees.specs.declared.Change.{Change}
@@ -68,20 +69,21 @@ pub record StartTree (file : List ℕ) (p : ℕ) (l o : List ℕ) (x : Change) :
   pub tells : WellFormed file → p < pathCount file → (m : Tree Value) → trees.Message l m → ChangedTo o x (replaceAt voidValue (pathOf file p) m end)
   pub small : keptBytes x ≤ treeRoom
 
--- Where the message m goes from its target, in session n of the service of o: the slot, and of a session that starts its tree, in o′.
+-- Where the message m goes from its target, in session n of the service of o: the slot, and of a session that starts its tree, in o′, and its key.
 abbrev pub AtSlot : Operation → ℕ → ℕ → Type 0
 AtSlot o n slot = (slot ≡ slotStart (o .service) n) × (o .service < 4) × (n < 4)
 
 abbrev pub ArrivesAs : List ℕ → Operation → ℕ → definition.Target → Tree Value → List ℕ → Arrival → Type 0
 ArrivesAs file o n t m o′ (Arrival.Queued slot) = AtSlot o n slot × (t ≡ definition.queued)
-ArrivesAs file o n t m o′ (Arrival.Starts slot c k a len) =
+ArrivesAs file o n t m o′ (Arrival.Starts slot c k a len x) =
     AtSlot o n slot × ((i : Input) × (t ≡ definition.starts c k i) × (inputOf (behaviourOf file a) ≡ some i) × (i .row ≡ a)
-    × (a < behaviourCount file) × KeptTree o′ len (replaceAt voidValue (i .into) m end))
+    × (a < behaviourCount file) × KeptTree o′ len (replaceAt voidValue (i .into) m end)) × (x ≡ keyToKeep (networkOf file) o m)
 
--- There is room for it: in the queue's entry of O row i, in the slot's tree and rows.
+-- There is room for it: in the queue's entry of O row i, in the slot's tree, rows and key.
 abbrev pub Storable : ℕ → List ℕ → Arrival → Type 0
 Storable i l (Arrival.Queued slot) = (slot + slotSize ≤ stateSize) × (i < 255) × (length l ≤ messageRoom)
-Storable i l (Arrival.Starts slot c k a len) = (slot + slotSize ≤ stateSize) × (c < 256) × (a < 256) × (len ≤ treeRoom)
+Storable i l (Arrival.Starts slot c k a len x) =
+    (slot + slotSize ≤ stateSize) × (c < 256) × (a < 256) × (len ≤ treeRoom) × (x < 0x100000000)
 
 abbrev pub StorableIf : ℕ → List ℕ → Admission → Type 0
 StorableIf i l (Admission.Refused why) = Unit {0}
@@ -94,25 +96,25 @@ Known G o n definition.queueFull = Unit {0}
 Known G o n definition.queued = (S : Session) × (G (o .service) n ≡ live S) × (length (S .queue) < 4)
 Known G o n (definition.starts c k i) = G (o .service) n ≡ free
 
--- A session that starts with the tree F, which stands in o; or 18 past its limits.
-abbrev pub StartsOr18 : Forest Value → ℕ → ℕ → ℕ → ℕ → List ℕ → Admission → Type 0
-StartsOr18 F slot c k a o x =
-    ((x ≡ Admission.Refused Stuck) × (within F ≡ false)) ⊎ ((len : ℕ) × (x ≡ Admission.Admitted (Arrival.Starts slot c k a len)) × KeptTree o len F)
+-- A session that starts with the tree F, which stands in o, and the key x; or 18 past its limits.
+abbrev pub StartsOr18 : Forest Value → ℕ → ℕ → ℕ → ℕ → ℕ → List ℕ → Admission → Type 0
+StartsOr18 F slot c k a x o y =
+    ((y ≡ Admission.Refused Stuck) × (within F ≡ false)) ⊎ ((len : ℕ) × (y ≡ Admission.Admitted (Arrival.Starts slot c k a len x)) × KeptTree o len F)
 
 -- By its input's path; by its input, 15 without one.
-pub record StartsBy (file : List ℕ) (slot c k a p : ℕ) (l o : List ℕ) (x : Admission) : Type 0 where
+pub record StartsBy (file : List ℕ) (slot c k a p : ℕ) (l : List ℕ) (x : ℕ) (o : List ℕ) (y : Admission) : Type 0 where
   pub tells : WellFormed file → c < behaviourCount file → a < behaviourCount file → p < pathCount file → (m : Tree Value) → trees.Message l m
-      → StartsOr18 (replaceAt voidValue (pathOf file p) m end) slot c k a o x
-  pub storable : slot + slotSize ≤ stateSize → (i : ℕ) → StorableIf i l x
+      → StartsOr18 (replaceAt voidValue (pathOf file p) m end) slot c k a x o y
+  pub storable : slot + slotSize ≤ stateSize → (i : ℕ) → StorableIf i l y
 
-abbrev pub StartedAs : Optional Input → ℕ → ℕ → ℕ → ℕ → Tree Value → List ℕ → Admission → Type 0
-StartedAs none slot c k a m o x = x ≡ Admission.Refused MoveNotAllowed
-StartedAs (some i) slot c k a m o x = (i .row ≡ a) × StartsOr18 (replaceAt voidValue (i .into) m end) slot c k a o x
+abbrev pub StartedAs : Optional Input → ℕ → ℕ → ℕ → ℕ → Tree Value → ℕ → List ℕ → Admission → Type 0
+StartedAs none slot c k a m x o y = y ≡ Admission.Refused MoveNotAllowed
+StartedAs (some i) slot c k a m x o y = (i .row ≡ a) × StartsOr18 (replaceAt voidValue (i .into) m end) slot c k a x o y
 
-pub record StartsSession (file : List ℕ) (slot c k a : ℕ) (l o : List ℕ) (x : Admission) : Type 0 where
+pub record StartsSession (file : List ℕ) (slot c k a : ℕ) (l : List ℕ) (x : ℕ) (o : List ℕ) (y : Admission) : Type 0 where
   pub tells : WellFormed file → c < behaviourCount file → a < behaviourCount file → (m : Tree Value) → trees.Message l m
-      → StartedAs (inputOf (behaviourOf file a)) slot c k a m o x
-  pub storable : slot + slotSize ≤ stateSize → (i : ℕ) → StorableIf i l x
+      → StartedAs (inputOf (behaviourOf file a)) slot c k a m x o y
+  pub storable : slot + slotSize ≤ stateSize → (i : ℕ) → StorableIf i l y
 
 -- One more message of O row i in the queue of the slot's session.
 pub record Queues (slot i : ℕ) (l : List ℕ) (x : Admission) : Type 0 where
@@ -121,21 +123,21 @@ pub record Queues (slot i : ℕ) (l : List ℕ) (x : Admission) : Type 0 where
 
 -- A message of the input of O row i that was let in, by its target t at session n: where it goes, or what move_rules' `deliver` refuses in any state.
 abbrev pub PlacedAs : List ℕ → Operation → ℕ → definition.Target → Tree Value → List ℕ → Admission → Type 0
-PlacedAs file o n t m o′ (Admission.Refused why) = (gone : State) (to : Optional Destination) → deliver gone o n t to m ≡ refused why
+PlacedAs file o n t m o′ (Admission.Refused why) = (gone : State) (to : Optional Destination) → deliver (networkOf file) gone o n t to m ≡ refused why
 PlacedAs file o n t m o′ (Admission.Admitted y) = ArrivesAs file o n t m o′ y
 
-pub record PlacesMessage (file : List ℕ) (i n : ℕ) (t : Target) (l o : List ℕ) (x : Admission) : Type 0 where
+pub record PlacesMessage (file : List ℕ) (i n : ℕ) (t : Target) (l : List ℕ) (x : ℕ) (o : List ℕ) (y : Admission) : Type 0 where
   pub tells : WellFormed file → i < operationCount file → StarterExists file t → (G : State)
       → targetAs file t ≡ definition.target (networkOf file) G (operationOf file i) n → (m : Tree Value) → trees.Message l m
-      → PlacedAs file (operationOf file i) n (targetAs file t) m o x
-  pub storable : StorableIf i l x
+      → x ≡ keyToKeep (networkOf file) (operationOf file i) m → PlacedAs file (operationOf file i) n (targetAs file t) m o y
+  pub storable : StorableIf i l y
 
 -- move_rules' `admit`, where f is what the message answers and then its test by 19.
 abbrev pub admitting : List ℕ → State → ℕ → ℕ → ((Tree Value → Result) → Result) → State → Optional Destination → Result
 admitting file G i n f gone to =
     let o = operationOf file i in
     let t = definition.target (networkOf file) G o n in
-    allowed (o .service) t (f (deliver gone o n t to))
+    allowed (o .service) t (f (λ m. mustFind (networkOf file) G o n m (deliver (networkOf file) gone o n t to m)))
 
 -- It is refused in any state in which the sender has gone on; or it delivers the message m of l in any.
 abbrev pub AdmittedAs : List ℕ → State → ℕ → ℕ → List ℕ → List ℕ → ((Tree Value → Result) → Result) → Admission → Type 0
@@ -144,23 +146,24 @@ AdmittedAs file G i n l o f (Admission.Admitted y) =
     (m : Tree Value) × trees.Message l m
     × ArrivesAs file (operationOf file i) n (definition.target (networkOf file) G (operationOf file i) n) m o y
     × ((gone : State) (to : Optional Destination) → admitting file G i n f gone to
-    ≡ deliver gone (operationOf file i) n (definition.target (networkOf file) G (operationOf file i) n) to m)
+    ≡ deliver (networkOf file) gone (operationOf file i) n (definition.target (networkOf file) G (operationOf file i) n) to m)
 
 pub record Admits (file s : List ℕ) (i n : ℕ) (l : List ℕ) (own : Verdict) (other : Refusal) (o : List ℕ) (x : Admission) : Type 0 where
   pub tells : WellFormed file → i < operationCount file → (G : State) → StateOf file s G → (f : (Tree Value → Result) → Result)
       → MessageOffered own l other (operationOf file i .request) f → AdmittedAs file G i n l o f x
   pub storable : StorableIf i l x
 
--- The session with the tree F, the branch k of the choice c taken and the row a at `after`.
-abbrev pub startedWith : Forest Value → ℕ → ℕ → ℕ → Progress → Session
-startedWith F c k a after = withProgress (withTree newSession F) (advance (advance (newSession .progress) c (taken k)) a after)
+-- The session with the tree F, the branch k of the choice c taken, the row a at `after` and the key x.
+abbrev pub startedWith : Forest Value → ℕ → ℕ → ℕ → Progress → ℕ → Session
+startedWith F c k a after x =
+    withKey (withProgress (withTree newSession F) (advance (advance (newSession .progress) c (taken k)) a after)) x
 
-pub record StoresStart (s : List ℕ) (slot : ℕ) (o : List ℕ) (n c k a : ℕ) (after : Progress) (s′ : List ℕ) : Type 0 where
+pub record StoresStart (s : List ℕ) (slot : ℕ) (o : List ℕ) (n c k a : ℕ) (after : Progress) (x : ℕ) (s′ : List ℕ) : Type 0 where
   pub tells : (F : Forest Value) → take n o ≡ treeBytes F → n ≡ length (treeBytes F) → trees.WellFormedTree sessionLevels sessionNodes (tree trees.empty F)
-      → part s slot slotSize ≡ slotBytes free → s′ ≡ withPart s slot (slotBytes (live (startedWith F c k a after)))
+      → part s slot slotSize ≡ slotBytes free → s′ ≡ withPart s slot (slotBytes (live (startedWith F c k a after x)))
 
 -- What move_rules' `deliver` does in the state that the bytes hold, with a message of O row i that arrives at its target t.
 pub record Stores (i : ℕ) (to : Optional Destination) (l o : List ℕ) (y : Arrival) (s s′ : List ℕ) : Type 0 where
   pub tells : (file : List ℕ) → WellFormed file → i < operationCount file → (gone : State) → Holding s gone → (n : ℕ) (t : definition.Target)
       → Known gone (operationOf file i) n t → (m : Tree Value) → trees.Message l m → ArrivesAs file (operationOf file i) n t m o y → (s₀ out : List ℕ)
-      → _≡_ {A = Step} (record { outcome = doneWith 0; state = s′; out = out }) (finish s₀ out (deliver gone (operationOf file i) n t to m))
+      → _≡_ {A = Step} (record { outcome = doneWith 0; state = s′; out = out }) (finish s₀ out (deliver (networkOf file) gone (operationOf file i) n t to m))

@@ -2,21 +2,15 @@
 use mathlib.Core.Path.{_≡_, refl, subst}
 use mathlib.Core.Bool.{Bool, true, false}
 use mathlib.Core.List.{List}
-use mathlib.Core.Logic.{_⊎_, inl, inr}
-use Prim.Native.Nat.{ℕ, suc, _≤_}
-use native.Mathlib.Omega.{arith}
+use Prim.Native.Nat.{ℕ, suc}
 use lib.Dec.{eqb, ltb}
 use lib.ListN.{length}
 use Rattle.basics.specs.Choice.{pick}
 use Rattle.basics.specs.TestLaws.{lt-of}
 use Rattle.network_syntax.specs.Syntax.{Network, Operation, Optional, none, some, Behaviour, Branches, lastBranch, branch}
 use Rattle.network_syntax.specs.Rows.{Input, inputOf, Choice, choiceOf}
-use Rattle.network.specs.Form.{WellFormed}
-use Rattle.network.specs.Decode.{networkOf}
-use Rattle.network.specs.RowLaws.{counts-kept}
 use Rattle.state.specs.Session.{Session, Slot, free, live, State}
 use Rattle.state.specs.Shape.{behaviourIn}
-use Rattle.move_targets.specs.SessionLaws.{runs-where}
 use Rattle.move_rules.specs.Targets.{Target, noTarget, queueFull, queued, starts, startBy, startFrom, startOf, targetOf, targetIn, target}
 use Rattle.move_delivery.specs.declared.Arrival.{Arrival}
 use Rattle.move_delivery.specs.declared.Admission.{Admission}
@@ -75,13 +69,3 @@ target-known N G o n = go (behaviourIn N (o .service) n) (G (o .service) n) refl
     go none x e = tt
     go (some B) free e = free-one B e (eqb n 0)
     go (some B) (live S) e = live-one S e (ltb (length (S .queue)) 4) refl
-
--- A message gets nowhere where there is no such service or session.
-pub target-far : (file : List ℕ) (G : State) (o : Operation) (n : ℕ) → WellFormed file → (4 ≤ o .service) ⊎ (4 ≤ n) → target (networkOf file) G o n ≡ noTarget
-target-far file G o n w h = go (behaviourIn (networkOf file) (o .service) n) refl h
-  where
-    go : (b : Optional Behaviour) → behaviourIn (networkOf file) (o .service) n ≡ b → (4 ≤ o .service) ⊎ (4 ≤ n)
-        → targetIn b (λ B. targetOf (o .row) n B (G (o .service) n)) ≡ noTarget
-    go none e h = refl
-    go (some B) e (inl l) = absurd (let r = runs-where file (o .service) n B e in omega (arith, r .0, l, counts-kept file w .services))
-    go (some B) e (inr l) = absurd (let r = runs-where file (o .service) n B e in omega (arith, r .1, l))

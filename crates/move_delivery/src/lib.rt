@@ -9,6 +9,7 @@ ghost use Rattle.state_progress.specs.Meaning.{meaning};
 ghost use Rattle.state_destinations.specs.Meaning.{replyOf};
 ghost use Rattle.move_delivery.specs.Delivery.{Permitted, Allowed, LetsIn, StartTree, StartsBy, StartsSession, Queues, PlacesMessage, Admits};
 ghost use Rattle.move_delivery.specs.Delivery.{StoresStart, Storable, Stores};
+use move_keys::Finding;
 use move_targets::Target;
 use network_rows::InputRow;
 use refusal::Refusal;
@@ -18,10 +19,10 @@ use state_progress::Progress;
 use state_trees::Change;
 
 // Where an admitted message goes: into the queue of the live session of the slot; or it starts the session of the free slot, by branch k of
-// the choice c, with input row a and a tree of n bytes.
+// the choice c, with input row a, a tree of n bytes and the key x.
 pub enum Arrival {
     Queued(usize),
-    Starts(usize, u16, u8, u16, u16),
+    Starts(usize, u16, u8, u16, u16, u32),
 }
 
 pub enum Admission {
@@ -83,7 +84,7 @@ fn start_tree(out: &mut [u8], file: &[u8], p: u16, message: &[u8]) -> Change
     state_trees::replace_at(out, file, p, &slot, 0, message)
 }
 
-// 18 of a message that starts the session of the free slot: input row a receives it into the path of P row p.
+// 18 of a message that starts the session of the free slot, with the key x: input row a receives it into the path of P row p.
 fn start_by(
     out: &mut [u8],
     file: &[u8],
@@ -93,9 +94,10 @@ fn start_by(
     a: u16,
     p: u16,
     message: &[u8],
+    x: u32,
 ) -> Admission
     requires { ⌜ 2304 ≤ length (now out) ⌝ }
-    ensures { λ x. ⌜ StartsBy (now (file .entry)) slot c k a p (now (message .entry)) (now (out .exit)) x ⌝ }
+    ensures { λ y. ⌜ StartsBy (now (file .entry)) slot c k a p (now (message .entry)) x (now (out .exit)) y ⌝ }
 {
     let Change::Kept(n) = start_tree(out, file, p, message) else {
         return Admission::Refused(Refusal::Stuck);
@@ -106,7 +108,7 @@ fn start_by(
     if 255 < a {
         return Admission::Refused(Refusal::MoveNotAllowed);
     }
-    Admission::Admitted(Arrival::Starts(slot, c, k, a, n))
+    Admission::Admitted(Arrival::Starts(slot, c, k, a, n, x))
 }
 
 // The same by the input of B row a.
@@ -118,13 +120,14 @@ fn start(
     k: u8,
     a: u16,
     message: &[u8],
+    x: u32,
 ) -> Admission
     requires { ⌜ 2304 ≤ length (now out) ⌝ }
-    ensures { λ x. ⌜ StartsSession (now (file .entry)) slot c k a (now (message .entry)) (now (out .exit)) x ⌝ }
+    ensures { λ y. ⌜ StartsSession (now (file .entry)) slot c k a (now (message .entry)) x (now (out .exit)) y ⌝ }
 {
     match network_rows::input_of(file, a) {
-        InputRow::OneWay(_, p) => start_by(out, file, slot, c, k, a, p, message),
-        InputRow::RequestResponse(_, p, _, _) => start_by(out, file, slot, c, k, a, p, message),
+        InputRow::OneWay(_, p) => start_by(out, file, slot, c, k, a, p, message, x),
+        InputRow::RequestResponse(_, p, _, _) => start_by(out, file, slot, c, k, a, p, message, x),
         InputRow::Nothing => Admission::Refused(Refusal::MoveNotAllowed),
     }
 }
@@ -143,7 +146,8 @@ fn queue(slot: usize, i: u16, message: &[u8]) -> Admission
     Admission::Admitted(Arrival::Queued(slot))
 }
 
-// Where a message of the input of O row i of service q, which was let in, goes to session n by its target; 18 past a tree's limits.
+// Where a message of the input of O row i of service q, which was let in, goes to session n by its target; 18 past a tree's limits. A session that
+// it starts keeps the key x.
 fn place(
     out: &mut [u8],
     file: &[u8],
@@ -152,9 +156,10 @@ fn place(
     n: u16,
     target: Target,
     message: &[u8],
+    x: u32,
 ) -> Admission
     requires { ⌜ (2304 ≤ length (now out)) × (q ≡ operationService (now file) i) ⌝ }
-    ensures { λ x. ⌜ PlacesMessage (now (file .entry)) i n target (now (message .entry)) (now (out .exit)) x ⌝ }
+    ensures { λ y. ⌜ PlacesMessage (now (file .entry)) i n target (now (message .entry)) x (now (out .exit)) y ⌝ }
 {
     if 3 < q {
         return Admission::Refused(Refusal::MoveNotAllowed);
@@ -167,12 +172,12 @@ fn place(
         Target::NoTarget => Admission::Refused(Refusal::MoveNotAllowed),
         Target::QueueFull => Admission::Refused(Refusal::QueueFull),
         Target::Queued => queue(slot, i, message),
-        Target::Starts(c, k, a) => start(out, file, slot, c, k, a, message),
+        Target::Starts(c, k, a) => start(out, file, slot, c, k, a, message, x),
     }
 }
 
 // A message for the input of O row i, to session n of its service. `own` is what the message itself answers (18 of a value), `other` the refusal
-// of bytes that are no message. The tree of a session that starts is written to the start of out.
+// of bytes that are no message. After 19 its key is tried, 15. The tree of a session that starts is written to the start of out.
 pub fn admit(
     out: &mut [u8],
     file: &[u8],
@@ -198,11 +203,15 @@ pub fn admit(
         other,
     ) {
         Verdict::Refused(why) => Admission::Refused(why),
-        Verdict::Done => place(out, file, q, i, n, target, message),
+        Verdict::Done => match move_keys::find(file, state, q, n, target, message) {
+            Finding::Another => Admission::Refused(Refusal::MoveNotAllowed),
+            Finding::Goes(x) => place(out, file, q, i, n, target, message, x),
+        },
     }
 }
 
-// Makes a new session of the free slot, with the first n bytes of `tree` as its tree, branch k of the choice c taken and the input a received.
+// Makes a new session of the free slot, with the first n bytes of `tree` as its tree, branch k of the choice c taken, the input a received and
+// the key x.
 fn store_start(
     state: &mut [u8],
     slot: usize,
@@ -212,14 +221,16 @@ fn store_start(
     k: u8,
     a: u16,
     after: Progress,
+    x: u32,
 )
     requires { ⌜ (slot + slotSize ≤ length (now state)) × (n ≤ treeRoom) × (n ≤ length (now tree)) × (c < 256) × (a < 256) ⌝ }
-    ensures { λ _. ⌜ StoresStart (now (state .entry)) slot (now (tree .entry)) n c k a (meaning after) (now (state .exit)) ⌝ }
+    ensures { λ _. ⌜ StoresStart (now (state .entry)) slot (now (tree .entry)) n c k a (meaning after) x (now (state .exit)) ⌝ }
 {
     state_slots::begin(state, slot);
     state_slots::put_tree(state, slot, tree, n);
     state_progress::put_row(state, slot, c, Progress::Taken(k));
     state_progress::put_row(state, slot, a, after);
+    state_slots::put_key(state, slot, x);
 }
 
 // Stores an admitted message of O row i where it arrives; its reply goes to `to`, and `tree` is what `admit` wrote.
@@ -231,7 +242,7 @@ pub fn store(state: &mut [u8], i: u16, to: ReplyTo, message: &[u8], y: Arrival, 
         Arrival::Queued(slot) => {
             state_queues::push(state, slot, i, to, message, 0, message.len());
         }
-        Arrival::Starts(slot, c, k, a, n) => {
+        Arrival::Starts(slot, c, k, a, n, x) => {
             store_start(
                 state,
                 slot,
@@ -241,6 +252,7 @@ pub fn store(state: &mut [u8], i: u16, to: ReplyTo, message: &[u8], y: Arrival, 
                 k,
                 a,
                 state_progress::received_by(to),
+                x,
             );
         }
     }

@@ -35,9 +35,9 @@ abbrev pub afterCheck : List ℕ → List ℕ → Checked (List Environments) �
 afterCheck file state (refused why) = freshRefused why state
 afterCheck file state (passed Es) = record { outcome = doneWith 0; state = freshBytes file }
 
--- 1: "The state buffer is not 65,536 bytes"; then 2 to 13.
+-- 1: "The state buffer is not 65,536 bytes"; then 2 to 13 and 23.
 unfoldable pub fresh : List ℕ → List ℕ → Freshened
 fresh file state =
     pick (eqb (length state) stateSize)
-    (afterCheck file state (checkFile file))  -- 2 to 13
+    (afterCheck file state (checkFile file))  -- 2 to 13, 23
     (freshRefused BufferSize state)  -- 1

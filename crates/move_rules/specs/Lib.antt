@@ -2,6 +2,7 @@ pub mod Readiness
 pub mod Evaluation
 pub mod OperatorLaws
 pub mod Targets
+pub mod Keys
 pub mod Moves
 pub mod AssignLaws
 pub mod Step

@@ -14,7 +14,7 @@ use Rattle.network_syntax.specs.Syntax.{MessageType, Expression, Optional, none
 use Rattle.network_syntax.specs.Rows.{atRow, Response, Input, Output, Local, assigns, decides, repeats, twoWayInput, twoWayOutput, inputOf, outputOf, localOf}
 use Rattle.network_syntax.specs.Rows.{isInputOperation}
 use Rattle.state.specs.Session.{receivedBy, Destination, outsider, waitingRow, Progress, undone, done, waits, received, taken, Progresses}
-use Rattle.state.specs.Session.{advance, reopen, Session, withTree, withQueue, withProgress, Slot, free, live, State, setSlot, newSession}
+use Rattle.state.specs.Session.{advance, reopen, Session, withTree, withQueue, withProgress, withKey, Slot, free, live, State, setSlot, newSession}
 use Rattle.refusal.specs.declared.Refusal.{Refusal}
 use Rattle.refusal.specs.declared.Refusal.the-variants.{MoveNotAllowed, QueueFull, NoMessage, Stuck, MessageMisfit, OutOfRange}
 use Rattle.check_subtyping.specs.Own.{fits}
@@ -29,6 +29,7 @@ use Rattle.wire.specs.Wire.{u32Bytes}
 use Rattle.move_rules.specs.Readiness.{isDone, Reached, unreached, reached, offered, reach}
 use Rattle.state.specs.Shape.{behaviourIn}
 use Rattle.move_rules.specs.Targets.{Target, noTarget, queueFull, queued, starts, target}
+use Rattle.move_rules.specs.Keys.{keyToKeep, findsSession}
 use Rattle.move_rules.specs.Evaluation.{Evaluation, missing, wrongKind, beyond, given, found, evaluate}
 
 pub data Result : Type 0 where
@@ -204,24 +205,24 @@ allowed q queueFull r = refused QueueFull
 allowed q queued r = r
 allowed q (starts c k i) r = require (permitsInput q i) MoveNotAllowed r
 
--- A started session: the branch k of its starter is taken, and its input has received the message.
-abbrev pub startedBy : ℕ → ℕ → ℕ → Path → Progress → Tree Value → Session
-startedBy c k r x after m =
-    withProgress (withTree newSession (replaceAt voidValue x m end))
-    (advance (advance (newSession .progress) c (taken k)) r after)
+-- A started session: the branch k of its starter is taken, and its input has received the message; it keeps the key y.
+abbrev pub startedBy : ℕ → ℕ → ℕ → Path → Progress → Tree Value → ℕ → Session
+startedBy c k r x after m y =
+    withKey (withProgress (withTree newSession (replaceAt voidValue x m end))
+    (advance (advance (newSession .progress) c (taken k)) r after)) y
 
-abbrev pub started : ℕ → ℕ → Input → Optional Destination → Tree Value → Session
-started c k i to m = startedBy c k (i .row) (i .into) (receivedBy to) m
+abbrev pub started : ℕ → ℕ → Input → Optional Destination → Tree Value → ℕ → Session
+started c k i to m y = startedBy c k (i .row) (i .into) (receivedBy to) m y
 
 -- The message at its target, in a state in which the sender has gone on: "queued at a live one, or starting a free 1 to 3".
-abbrev pub deliver : State → Operation → ℕ → Target → Optional Destination → Tree Value → Result
-deliver G o n noTarget to m = notAllowed
-deliver G o n queueFull to m = refused QueueFull
-deliver G o n queued to m =
+abbrev pub deliver : Network → State → Operation → ℕ → Target → Optional Destination → Tree Value → Result
+deliver N G o n noTarget to m = notAllowed
+deliver N G o n queueFull to m = refused QueueFull
+deliver N G o n queued to m =
     onLive (G (o .service) n)
     (λ S. moved (setSlot G (o .service) n (live (withQueue S
     (S .queue ++ (record { operation = o .row; message = m; replyTo = to } ∷ []))))) [])
-deliver G o n (starts c k i) to m = saveWithin G (o .service) n (started c k i to m) []
+deliver N G o n (starts c k i) to m = saveWithin G (o .service) n (started c k i to m (keyToKeep N o m)) []
 
 -- "at most 16 nodes, 4 levels": one of each is the root.
 abbrev pub isMessageTree : Tree Value → Bool
@@ -232,19 +233,24 @@ isMessageTree (tree v k) = leb (levels k) messageLevelsBelow && leb (nodes k) me
 abbrev pub mustFit : Tree Value → MessageType → Result → Result
 mustFit m t r = require (isMessageTree m && fits m t) MessageMisfit r
 
+-- 15: "another target, and any target of a message without that int, is 15".
+abbrev pub mustFind : Network → State → Operation → ℕ → Tree Value → Result → Result
+mustFind N G i n m r = require (findsSession N G i n m) MoveNotAllowed r
+
 -- The session S of that slot with its row r gone on.
 abbrev pub goneOn : State → ℕ → ℕ → Session → ℕ → Progress → State
 goneOn G q n S r after = setSlot G q n (live (withProgress S (advance (S .progress) r after)))
 
 -- A message for the input i, to session n of its service: 15 and 16 by its target, then what the message itself answers (18 and 22 of a value, 17
--- of bytes from outside), 19, and the delivery, in the state in which its sender has gone on.
+-- of bytes from outside), 19, 15 by its key, and the delivery, in the state in which its sender has gone on.
 abbrev pub admit : Network → State → Operation → ℕ → ((Tree Value → Result) → Result)
     → State → Optional Destination → Result
 admit N G i n answer gone to =
     allowed (i .service) (target N G i n)  -- 15, 16
     (answer  -- 17, or 18 and 22
     (λ m. mustFit m (i .request)  -- 19
-    (deliver gone i n (target N G i n) to m)))  -- 18: the tree
+    (mustFind N G i n m  -- 15: the key, "for this cause tried after 19"
+    (deliver N gone i n (target N G i n) to m))))  -- 18: the tree
 
 module _ (N : Network) (G : State) (q n : ℕ) (S : Session) (session : ℕ) where
   -- Inside: to the input it meets.

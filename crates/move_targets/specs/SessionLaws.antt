@@ -3,18 +3,23 @@ use Prim.Native.Nat.{ℕ, zero, suc, _+_, _<_, _≤_}
 use mathlib.Core.Path.{_≡_, refl, sym, _∙_, ap}
 use mathlib.Core.List.{List}
 use mathlib.Core.Bool.{Bool, true, false}
+use mathlib.Core.Logic.{_⊎_, inl, inr}
 use native.Mathlib.Omega.{arith}
 use lib.Dec.{eqb, leb, ltb}
 use borrow.Author.Tests.{lt-ltb}
 use Rattle.basics.specs.Choice.{pick}
 use Rattle.basics.specs.TestLaws.{eq-of, le-of, lt-not, lt-of}
 use Rattle.network_syntax.specs.Rows.{entry}
-use Rattle.network_syntax.specs.Syntax.{Behaviour, Optional, none, some, Service}
+use Rattle.network_syntax.specs.Syntax.{Behaviour, Operation, Optional, none, some, Service}
+use Rattle.network.specs.Form.{WellFormed}
 use Rattle.network.specs.Layout.{serviceCount}
 use Rattle.network.specs.Decode.{serviceOf, rowsFrom, networkOf}
+use Rattle.network.specs.RowLaws.{counts-kept}
 use Rattle.state.specs.Places.{slotStart}
+use Rattle.state.specs.Session.{State}
 use Rattle.state.specs.Bytes.{readSlot, readState}
 use Rattle.state.specs.Shape.{serviceOfRow, clientOf, starterOf, behaviourIn}
+use Rattle.move_rules.specs.Targets.{targetOf, targetIn, target, noTarget}
 
 past-end : (f : ℕ → Service) (n first q : ℕ) → n ≤ q → serviceOfRow (rowsFrom f first n) q ≡ none
 unfolding entry rowsFrom
@@ -71,3 +76,13 @@ runs-where file q n B e = (service (ltb q (serviceCount file)) refl, session (eq
 pub slot-read : (s : List ℕ) (q n : ℕ) → q < 4 → n < 4 → readState s q n ≡ readSlot s (slotStart q n)
 unfolding readState
 slot-read s q n a b = rw (lt-ltb q 4 a, lt-ltb n 4 b) refl
+
+-- A message gets nowhere where there is no such service or session.
+pub target-far : (file : List ℕ) (G : State) (o : Operation) (n : ℕ) → WellFormed file → (4 ≤ o .service) ⊎ (4 ≤ n) → target (networkOf file) G o n ≡ noTarget
+target-far file G o n w h = go (behaviourIn (networkOf file) (o .service) n) refl h
+  where
+    go : (b : Optional Behaviour) → behaviourIn (networkOf file) (o .service) n ≡ b → (4 ≤ o .service) ⊎ (4 ≤ n)
+        → targetIn b (λ B. targetOf (o .row) n B (G (o .service) n)) ≡ noTarget
+    go none e h = refl
+    go (some B) e (inl l) = absurd (let r = runs-where file (o .service) n B e in omega (arith, r .0, l, counts-kept file w .services))
+    go (some B) e (inr l) = absurd (let r = runs-where file (o .service) n B e in omega (arith, r .1, l))

@@ -88,12 +88,11 @@ pub data OperationBreaks (s : List ℕ) (r : ℕ) : ℕ → Type 0 where
   operationRepeated : (j : ℕ) → j < r → not (sameService s r j && sameName s r j) ≡ false
       → OperationBreaks s r (operationAt s r)
 
--- S: "location u16, unique and not 0; starter row (a choice), client row, 65535 for none; 0"
+-- S: "location u16, unique and not 0; starter row (a choice), client row, 65535 for none". Any key id is one.
 pub data ServiceBreaks (s : List ℕ) (r : ℕ) : ℕ → Type 0 where
   serviceLocationZero : not (eqb (serviceLocation s r) 0) ≡ false → ServiceBreaks s r (serviceAt s r)
   serviceStarter : starterFits s (starterRow s r) ≡ false → ServiceBreaks s r (serviceAt s r + 2)
   serviceClient : clientFits s (clientRow s r) ≡ false → ServiceBreaks s r (serviceAt s r + 4)
-  serviceUnused : eqb (u16At s (serviceAt s r + 6)) 0 ≡ false → ServiceBreaks s r (serviceAt s r + 6)
   serviceRepeated : (j : ℕ) → j < r → not (eqb (serviceLocation s j) (serviceLocation s r)) ≡ false
       → ServiceBreaks s r (serviceAt s r)
 

@@ -19,7 +19,7 @@ use Rattle.wire.specs.Wire.{byteAt, u16At}
 use Rattle.network.specs.Layout.{behaviourCount, operationCount, serviceCount, dataPart, pathAt, expressionAt, behaviourAt}
 use Rattle.network.specs.Rows.{typeId, cardinality, typeBasic, firstChild, childCount, fieldA, fieldB, fieldC, fieldD, expressionKindAt, kindAt}
 use Rattle.network.specs.Rows.{operationService, operationDirection, operationTwoWay, operationId, operationLocation, requestType, replyType}
-use Rattle.network.specs.Rows.{serviceLocation, starterRow, clientRow, noRow}
+use Rattle.network.specs.Rows.{serviceLocation, starterRow, clientRow, serviceKey, noRow}
 use Rattle.network.specs.Sizes.{typeLevels, expressionLevels}
 
 -- The ids before the first 0.
@@ -146,6 +146,7 @@ serviceOf s r = record {
   location = serviceLocation s r;
   starter = optionalBehaviour s (starterRow s r);
   client = optionalBehaviour s (clientRow s r);
+  key = serviceKey s r;
 }
 
 -- What f gives for the n rows from `first` on.

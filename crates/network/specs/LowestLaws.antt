@@ -27,7 +27,7 @@ use Rattle.network.specs.Breaks.{expressionKindByte, expressionBasic, ex
 use Rattle.network.specs.Breaks.{behaviourA, behaviourB, behaviourC, behaviourD, choiceBranches, neverUsed, usedAgainByRow, usedAgainByService}
 use Rattle.network.specs.Breaks.{operationServiceRow, operationDirectionByte, operationTwoWayByte, operationUnused, operationIdZero}
 use Rattle.network.specs.Breaks.{operationPlace, operationRequest, operationReply, operationRepeated, serviceLocationZero, serviceStarter}
-use Rattle.network.specs.Breaks.{serviceClient, serviceUnused, serviceRepeated}
+use Rattle.network.specs.Breaks.{serviceClient, serviceRepeated}
 use Rattle.network.specs.Breaks.{inPath, inType, inExpression, inBehaviour, inUse, inOperation, inService}
 use Rattle.network.specs.Breaks.{Breaks, TooLargeAt, largeType, largeExpression}
 
@@ -129,8 +129,7 @@ module _ (s : List ℕ) where
       hit _ _ _ p (λ h q. subst (Breaks s) q (inService r l (serviceLocationZero h)))
       (hit _ _ _ p (λ h q. subst (Breaks s) q (inService r l (serviceStarter h)))
       (hit _ _ _ p (λ h q. subst (Breaks s) q (inService r l (serviceClient h)))
-      (hit _ _ _ p (λ h q. subst (Breaks s) q (inService r l (serviceUnused h)))
-      (λ e. let w = over-hit (locationRule s r) (r) p e in locationRule-hit r l (w .0) (w .1) p (w .2)))))
+      (λ e. let w = over-hit (locationRule s r) (r) p e in locationRule-hit r l (w .0) (w .1) p (w .2))))
 
   rowUse-hit : (r : ℕ) → r < behaviourCount s → (j : ℕ) → j < behaviourCount s → (p : ℕ) → rowUseRule s r j ≡ At p → Breaks s p
   unfolding rowUseRule
@@ -293,9 +292,8 @@ module _ (s : List ℕ) where
   broken-below p (inService r l (serviceLocationZero h)) = in-service r p l (here _ _ _ h)
   broken-below p (inService r l (serviceStarter h)) = in-service r p l (past _ _ _ p (here _ _ _ h))
   broken-below p (inService r l (serviceClient h)) = in-service r p l (past _ _ _ p (past _ _ _ p (here _ _ _ h)))
-  broken-below p (inService r l (serviceUnused h)) = in-service r p l (past _ _ _ p (past _ _ _ p (past _ _ _ p (here _ _ _ h))))
   broken-below p (inService r l (serviceRepeated j k h)) =
-      in-service r p l (past _ _ _ p (past _ _ _ p (past _ _ _ p (past _ _ _ p (over-below (locationRule s r) (r) j p k (here _ _ _ h))))))
+      in-service r p l (past _ _ _ p (past _ _ _ p (past _ _ _ p (over-below (locationRule s r) (r) j p k (here _ _ _ h)))))
 
   -- ---- too large
 

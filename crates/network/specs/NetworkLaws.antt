@@ -14,12 +14,13 @@ use Rattle.network_syntax.specs.Syntax.{Direction, input, output, Operation, Be
 use Rattle.network.specs.declared.BehaviourKind.{BehaviourKind}
 use Rattle.network.specs.Layout.{behaviourCount, operationCount, serviceCount, counted, pathCount, typeCount, expressionCount}
 use Rattle.network.specs.Rows.{kindAt, isBranchKind, isChoiceKind, operationService, operationDirection, operationId, operationLocation, sameService}
-use Rattle.network.specs.Rows.{sameName, serviceLocation, starterRow, clientRow, noRow, starterFits, clientFits}
+use Rattle.network.specs.Rows.{sameName, serviceLocation, starterRow, clientRow, serviceKey, noRow, starterFits, clientFits}
 use Rattle.network.specs.Uses.{serviceUses}
 use Rattle.network.specs.Form.{WellFormed}
 use Rattle.network.specs.Decode.{operationOf, behaviourOf, rowOperation, optionalBehaviour, serviceOf, rowsFrom, networkOf}
 use Rattle.network_syntax.specs.Meets.{locationOf, someAt, inFile, sameKind, meets, firstOf, metInput}
 use Rattle.network_syntax.specs.Rows.{entry, isInputOperation}
+use Rattle.network_syntax.specs.Keys.{keyIdOf, keyId}
 use Rattle.network.specs.Shapes.{OperationShape, Apart, isChoiceBehaviour, FileBehaviour, IfAny, Role, asStarter, asClient, behaviourAs}
 use Rattle.network.specs.Shapes.{NetworkShape}
 use Rattle.network.specs.RowLaws.{ServiceKept, service-kept, OperationKept, operation-kept}
@@ -65,6 +66,11 @@ service-entry s i l = let z : 0 + i ≡ i = omega arith in entry-row (serviceOf 
 pub operation-entry : (s : List ℕ) (i : ℕ) → i < operationCount s → entry i (networkOf s .operations) ≡ some (operationOf s i)
 unfolding networkOf
 operation-entry s i l = let z : 0 + i ≡ i = omega arith in entry-row (operationOf s) (operationCount s) 0 i l ∙ ap (λ j. some (operationOf s j)) z
+
+-- The key id of the service q is that of S row q.
+pub service-key : (s : List ℕ) (q : ℕ) → q < serviceCount s → keyId (networkOf s) q ≡ serviceKey s q
+unfolding serviceOf
+service-key s q l = ap keyIdOf (service-entry s q l)
 
 pub service-of-entry : (s : List ℕ) (i : ℕ) (v : Service) → entry i (networkOf s .services) ≡ some v → (i < serviceCount s) × (v ≡ serviceOf s i)
 unfolding networkOf

@@ -256,12 +256,11 @@ service-kept s w r l =
     let a = rule-kept (not (eqb (serviceLocation s r) 0)) (serviceAt s r) _ h in
     let b = rule-kept (starterFits s (starterRow s r)) (serviceAt s r + 2) _ (a .1) in
     let c = rule-kept (clientFits s (clientRow s r)) (serviceAt s r + 4) _ (b .1) in
-    let d = rule-kept (eqb (u16At s (serviceAt s r + 6)) 0) (serviceAt s r + 6) _ (c .1) in
     record {
       located = ne-of (serviceLocation s r) 0 (a .0);
       starters = b .0;
       clients = c .0;
-      once = λ q x. first-time q (over-kept (locationRule s r) r q (d .1) x);
+      once = λ q x. first-time q (over-kept (locationRule s r) r q (c .1) x);
     }
   where
     first-time : (q : ℕ) → locationRule s r q ≡ Nowhere → serviceLocation s q ≡ serviceLocation s r → ⊥

@@ -293,7 +293,7 @@ operationLinks s r others =
 unfoldable pub operationRow : List ℕ → ℕ → Broken
 operationRow s r = operationFields s r (operationLinks s r (leastOver r (repeatRule s r)))
 
--- S: "location u16, unique and not 0; starter row (a choice), client row, 65535 for none; 0".
+-- S: "location u16, unique and not 0; starter row (a choice), client row, 65535 for none", then the key id.
 unfoldable pub serviceLocation : List ℕ → ℕ → ℕ
 serviceLocation s r = u16At s (serviceAt s r)
 
@@ -302,6 +302,10 @@ starterRow s r = u16At s (serviceAt s r + 2)
 
 unfoldable pub clientRow : List ℕ → ℕ → ℕ
 clientRow s r = u16At s (serviceAt s r + 4)
+
+-- 02: "The last field of a service row becomes a key id, 0 for none." Any number is one.
+unfoldable pub serviceKey : List ℕ → ℕ → ℕ
+serviceKey s r = u16At s (serviceAt s r + 6)
 
 abbrev pub noRow : ℕ
 noRow = 65535
@@ -321,8 +325,7 @@ unfoldable pub serviceRow : List ℕ → ℕ → Broken
 serviceRow s r =
     rule (not (eqb (serviceLocation s r) 0)) (serviceAt s r)
     (rule (starterFits s (starterRow s r)) (serviceAt s r + 2)
-    (rule (clientFits s (clientRow s r)) (serviceAt s r + 4)
-    (rule (eqb (u16At s (serviceAt s r + 6)) 0) (serviceAt s r + 6) (leastOver r (locationRule s r)))))
+    (rule (clientFits s (clientRow s r)) (serviceAt s r + 4) (leastOver r (locationRule s r))))
 
 -- The lowest place in each section.
 unfoldable pub pathRows : List ℕ → Broken

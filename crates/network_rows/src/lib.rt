@@ -5,7 +5,7 @@ ghost use Prim.Native.Nat.{_<_};
 ghost use Rattle.network.specs.Kinds.{expressionKind, behaviourKind};
 ghost use Rattle.network.specs.Rows.{isBranchKind, isChoiceKind, isInputKind, typeId, cardinality, typeBasic, firstChild, childCount, expressionKindAt, kindAt};
 ghost use Rattle.network.specs.Rows.{operationService, operationDirection, operationTwoWay, operationId, operationLocation, requestType, replyType};
-ghost use Rattle.network.specs.Rows.{serviceLocation, starterRow, clientRow};
+ghost use Rattle.network.specs.Rows.{serviceLocation, starterRow, clientRow, serviceKey};
 ghost use Rattle.network_rows.specs.Readers.{pathIds, expressionRowAs, expressionRowOf, behaviourRowAs, behaviourRowOf};
 ghost use Rattle.network_rows.specs.Readers.{inputRowOf, outputRowOf, BranchAt};
 use network::BehaviourKind;
@@ -261,6 +261,13 @@ pub fn client_row(s: &[u8], r: u16) -> u16
     ensures { λ x. ⌜ x ≡ clientRow (now (s .entry)) r ⌝ }
 {
     wire::u16_at(s, network_layout::service_at(s, r) + 4)
+}
+
+// The key id, 0 for none.
+pub fn service_key(s: &[u8], r: u16) -> u16
+    ensures { λ x. ⌜ x ≡ serviceKey (now (s .entry)) r ⌝ }
+{
+    wire::u16_at(s, network_layout::service_at(s, r) + 6)
 }
 
 // A path's four ids.

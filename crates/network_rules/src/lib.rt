@@ -310,7 +310,7 @@ fn service_rule(s: &[u8], r: u16) -> Broken
     ensures { λ m. ⌜ m ≡ serviceRow (now (s .entry)) r ⌝ }
 {
     let at = network_layout::service_at(s, r);
-    let m = rule(wire::u16_at(s, at + 6) == 0, at + 6, location_repeats(s, r));
+    let m = location_repeats(s, r);
     let m = rule(client_fits(s, network_rows::client_row(s, r)), at + 4, m);
     let m = rule(starter_fits(s, network_rows::starter_row(s, r)), at + 2, m);
     rule(network_rows::service_location(s, r) != 0, at, m)

@@ -84,11 +84,13 @@ pub data Optional (A : Type 0) : Type 0 where
   none : Optional A
   some : A → Optional A
 
--- 01, S: "location u16 ..; starter row (a choice), client row, 65535 for none".
+-- 01, S: "location u16 ..; starter row (a choice), client row, 65535 for none". 02: "The last field of a service row becomes a key id, 0
+-- for none."
 pub record Service : Type 0 where
   pub location : ℕ
   pub starter : Optional Behaviour
   pub client : Optional Behaviour
+  pub key : ℕ
 
 pub record Network : Type 0 where
   pub services : List Service

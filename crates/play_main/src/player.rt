@@ -31,7 +31,7 @@ fn play_line(ok: &mut bool, file: &[u8], state: &mut [u8], out: &mut [u8], line:
     let kind = read.kind;
     if kind == 7 {
         write(ok, b"\n");
-        print_state(ok, state);
+        print_state(ok, file, state);
         return judged;
     }
     let n = read.len;

@@ -90,8 +90,37 @@ fn print_rows(ok: &mut bool, state: &[u8], q: u64, n: u64, rows: usize)
     }
 }
 
-// The session whose slot this is, if it is live: its tree, its queue, its rows (docs/STATE.md).
-fn print_slot(ok: &mut bool, state: &[u8], slot: usize)
+// The key, four bytes, as a signed number.
+fn print_key(ok: &mut bool, key: u32) {
+    let n = key as u64;
+    if n < 2147483648 {
+        number(ok, n);
+    } else {
+        write(ok, b"-");
+        number(ok, 4294967296 - n);
+    }
+}
+
+// The key of a session 1 to 3 of a keyed service.
+fn print_held_key(ok: &mut bool, file: &[u8], state: &[u8], q: u16, n: u16)
+    requires { ⌜ (q < 4) × (n < 4) ⌝ }
+{
+    if n == 0 {
+        return;
+    }
+    if network_rows::service_key(file, q) == 0 {
+        return;
+    }
+    print_label(ok, q as u64, n as u64, b" key ");
+    print_key(
+        ok,
+        wire::u32_at(state, state::slot_start(q, n) + state::KEY),
+    );
+    write(ok, b"\n");
+}
+
+// The session whose slot this is, if it is live: its key, if it holds one, its tree, its queue, its rows (docs/STATE.md).
+fn print_slot(ok: &mut bool, file: &[u8], state: &[u8], slot: usize)
     requires { ⌜ (slot < 16) × (length (now state) ≡ 65536) ⌝ }
 {
     let at = state::SLOT * slot;
@@ -100,6 +129,7 @@ fn print_slot(ok: &mut bool, state: &[u8], slot: usize)
     }
     let q = (slot / 4) as u64;
     let n = (slot % 4) as u64;
+    print_held_key(ok, file, state, (slot / 4) as u16, (slot % 4) as u16);
     let len = wire::index(wire::u16_at(state, at + state::LENGTH));
     print_label(ok, q, n, b" tree ");
     if len <= state::TREE_ROOM {
@@ -110,12 +140,12 @@ fn print_slot(ok: &mut bool, state: &[u8], slot: usize)
     print_rows(ok, state, q, n, at + state::ROWS);
 }
 
-pub(crate) fn print_state(ok: &mut bool, state: &[u8])
+pub(crate) fn print_state(ok: &mut bool, file: &[u8], state: &[u8])
     requires { ⌜ length (now state) ≡ 65536 ⌝ }
 {
     let mut slot: usize = 0;
     while slot < 16 {
-        print_slot(ok, state, slot);
+        print_slot(ok, file, state, slot);
         slot += 1;
     }
 }

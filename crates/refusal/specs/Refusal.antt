@@ -6,7 +6,7 @@ use Rattle.refusal.specs.declared.Refusal.the-variants.{BufferSize, File
 use Rattle.refusal.specs.declared.Refusal.the-variants.{WrongOperation, PathNotFirm, OperandType, TypeMisfit}
 use Rattle.refusal.specs.declared.Refusal.the-variants.{EnvironmentsDiffer, SharedRoot, EnvironmentTooLarge, OutputMismatch}
 use Rattle.refusal.specs.declared.Refusal.the-variants.{NoState, MoveNotAllowed, QueueFull, NoMessage, Stuck, MessageMisfit}
-use Rattle.refusal.specs.declared.Refusal.the-variants.{UnknownByte, BrokenText, OutOfRange}
+use Rattle.refusal.specs.declared.Refusal.the-variants.{UnknownByte, BrokenText, OutOfRange, UnfitKey}
 use Rattle.refusal.specs.declared.Verdict.{Verdict}
 use Rattle.refusal.specs.declared.Verdict.the-variants.{Done, Refused}
 use Rattle.refusal.specs.declared.Outcome.{Outcome}
@@ -35,6 +35,7 @@ numberOf MessageMisfit = 19  -- "A message doesn't fit its input's request type,
 numberOf (UnknownByte p) = 20  -- 02: "A byte that the grammar uses nowhere"
 numberOf (BrokenText p) = 21  -- 02: "a broken declaration, duplicate or unknown name"
 numberOf OutOfRange = 22  -- 02: "where the exact result is outside its width, the move is refused"
+numberOf (UnfitKey row) = 23  -- 02: "A keyed service with an unfit input"
 
 -- The place of a refusal.
 abbrev pub placeOf : Refusal → ℕ
@@ -60,6 +61,7 @@ placeOf MessageMisfit = 0
 placeOf (UnknownByte p) = p  -- 02: "both at the text's first offending byte"
 placeOf (BrokenText p) = p
 placeOf OutOfRange = 0  -- "and from 14"
+placeOf (UnfitKey row) = row  -- 02: "place the number of the lowest such input's O row"
 
 -- 01: "number 0 is done".
 abbrev pub numberIn : Verdict → ℕ

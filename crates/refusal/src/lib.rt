@@ -26,6 +26,7 @@ pub enum Refusal {
     UnknownByte(usize),
     BrokenText(usize),
     OutOfRange,
+    UnfitKey(u16),
 }
 
 pub enum Verdict {
@@ -82,6 +83,7 @@ pub fn number_of(why: Refusal) -> u8
         Refusal::UnknownByte(_) => 20,
         Refusal::BrokenText(_) => 21,
         Refusal::OutOfRange => 22,
+        Refusal::UnfitKey(_) => 23,
     }
 }
 
@@ -117,6 +119,7 @@ pub fn place_of(why: Refusal) -> usize
         Refusal::UnknownByte(at) => at,
         Refusal::BrokenText(at) => at,
         Refusal::OutOfRange => 0,
+        Refusal::UnfitKey(row) => row_place(row),
     }
 }
 

@@ -54,4 +54,6 @@ call-sound file s t g l f =
       stands = record { shape = Q .stands .shape; bytes = left ∙ Q .stands .bytes };
       wellTyped = Q .holds .wellTyped;
       texts = Q .holds .texts;
+      oneKey = Q .holds .oneKey;
+      keyedQueues = Q .holds .keyedQueues;
     }

@@ -29,11 +29,16 @@ use Rattle.soundness.specs.RowLaws.{in-first, branch-rows}
 use Rattle.soundness.specs.Accepted.{OfFile, MadeOf, Accepted, DerivedStarter}
 use Rattle.soundness.specs.MadeLaws.{made-at, plain-request, reaches-atRow}
 use Rattle.network_syntax.specs.ViewLaws.{own-row, some-inj}
-use Rattle.soundness.specs.Invariant.{ReplyFits, RepliesFit, AnswersAt, QueuedSound, AllQueued, SessionSound, Sound}
-use Rattle.soundness.specs.SessionLaws.{advance-here, advance-below-branches, once-of, made-of, oneWay-sound, request-sound, queue-sound}
+use Rattle.soundness.specs.Invariant.{ReplyFits, RepliesFit, AnswersAt, QueuedSound, AllQueued, SessionSound, KeySound, Sound}
+use Rattle.soundness.specs.KeyedLaws.{of-key-more, KeyInfo, start-key, start-suits}
+use Rattle.move_rules.specs.Keys.{keyToKeep}
+use Rattle.network_syntax.specs.Keys.{keyId}
+use Rattle.state.specs.KeyLaws.{held-keyed}
+use Rattle.basics.specs.TestLaws.{T-of}
+use Rattle.soundness.specs.SessionLaws.{advance-here, advance-below-branches, once-of, made-of, oneWay-sound, request-sound, queue-sound, with-key-sound}
 use Rattle.soundness.specs.StartLaws.{StartedBy, FoundStart, startFrom-found, start-sound}
 use Rattle.soundness.specs.Texts.{nothingOut}
-use Rattle.soundness.specs.ResultLaws.{Claims, Keeps, goes-keeps, keeps-15, allowed-16, by-require, by-live, sound-set, live-inj, message-formed}
+use Rattle.soundness.specs.ResultLaws.{Claims, Keeps, goes-keeps, keeps-15, allowed-16, by-require, by-live, SlotKey, key-stays, sound-set, live-inj, message-formed}
 use Rattle.soundness.specs.LocalLaws.{permits-one, permits-two, save-goes, suits-destination, suits-none}
 
 -- The operation found is one of the list, and passes the test.
@@ -189,7 +194,7 @@ module _ (N : Network) (rows : ℕ) (acc : Accepted N rows) where
     same-operation o f t = some-inj (sym (arr .ofFile) ∙ (ap (operationOfRow (N .operations)) (sym (eqb→eq (o .row) (i .row) t)) ∙ f))
 
     start-one : (r : ℕ) (o : Operation) (y : Path) → branchAt k m ≡ sequence l (oneWay r o y) b → T (eqb (o .row) (i .row))
-        → o .twoWay ≡ false → SessionSound N rows q (suc n) (startedBy c k r y (receivedBy back) x)
+        → o .twoWay ≡ false → SessionSound N rows q (suc n) (startedBy c k r y (receivedBy back) x 0)
     unfolding MadeOf rowOf AllQueued
     start-one r o y e t tw =
         let on = once-of N rows acc q (suc n) (choice c m) runs in
@@ -197,7 +202,7 @@ module _ (N : Network) (rows : ℕ) (acc : Accepted N rows) where
         let made = made-at N rows way (made-of N rows acc q (suc n) (choice c m) runs) in
         let eo = same-operation o (made .1) t in
         let no = suits-none N rows (i .service) back i (arr .suit) (ap (λ (w : Operation). w .twoWay) eo ∙ tw) in
-        subst (λ (z : Optional Destination). SessionSound N rows q (suc n) (startedBy c k r y (receivedBy z) x)) (sym no)
+        subst (λ (z : Optional Destination). SessionSound N rows q (suc n) (startedBy c k r y (receivedBy z) x 0)) (sym no)
         (oneWay-sound N rows acc q (suc n) (withProgress newSession (begun c k)) hs r o y x
         (subst (λ (z : Behaviour). Reaches (begun c k) (oneWay r o y) z) here-what way) (input-undone c k l m (oneWay r o y) b on e) (arr .good)
         (subst (λ (z : Operation). Fits x (z .request)) eo (arr .fit)) [] (omega arith) tt)
@@ -206,7 +211,7 @@ module _ (N : Network) (rows : ℕ) (acc : Accepted N rows) where
     request-same e = cc
 
     start-two : (r : ℕ) (o : Operation) (y z : Path) (d : Behaviour) → branchAt k m ≡ sequence l (requestResponse r o y z d) b → T (eqb (o .row) (i .row))
-        → o .twoWay ≡ true → SessionSound N rows q (suc n) (startedBy c k r y (receivedBy back) x)
+        → o .twoWay ≡ true → SessionSound N rows q (suc n) (startedBy c k r y (receivedBy back) x 0)
     unfolding MadeOf rowOf AllQueued
     start-two r o y z d e t tw =
         let X = requestResponse r o y z d in
@@ -219,14 +224,14 @@ module _ (N : Network) (rows : ℕ) (acc : Accepted N rows) where
         let ans : AnswersAt N (hs .what) r (to .0) = λ r2 o2 x2 c2 d2 h.
         let same = some-inj (sym (reaches-atRow (begun c k) X (hs .what) (plain-request r o y z d) (subst EachRowOnce here-what on) way2) ∙ h) in
         subst (λ (w : Operation). ReplyFits N w (to .0)) (eo ∙ request-same same) (subst (RepliesFit N i) (to .1) (arr .destination)) in
-        subst (λ (w : Optional Destination). SessionSound N rows q (suc n) (startedBy c k r y (receivedBy w) x)) (sym (to .1))
+        subst (λ (w : Optional Destination). SessionSound N rows q (suc n) (startedBy c k r y (receivedBy w) x 0)) (sym (to .1))
         (request-sound N rows acc q (suc n) (withProgress newSession (begun c k)) hs r o y z d x (to .0) way2
         (input-undone c k l m X b on e) (arr .good) (subst (λ (w : Operation). Fits x (w .request)) eo (arr .fit)) (to .2) ans [] (omega arith) tt)
 
     start-input : (r : ℕ) (o : Operation) (y : Path) (k2 : Optional Response)
         → branchAt k m ≡ sequence l (fromInput (record { row = r; operation = o; into = y; response = k2 })) b → T (eqb (o .row) (i .row))
         → T (permitsInput q (record { row = r; operation = o; into = y; response = k2 }))
-        → SessionSound N rows q (suc n) (started c k (record { row = r; operation = o; into = y; response = k2 }) back x)
+        → SessionSound N rows q (suc n) (started c k (record { row = r; operation = o; into = y; response = k2 }) back x 0)
     start-input r o y none e t u = start-one r o y e t (permits-one q input o u)
     start-input r o y (some a) e t u = start-two r o y (a .path) (a .body) e t (permits-two q input o u)
 
@@ -245,8 +250,8 @@ module _ (N : Network) (rows : ℕ) (acc : Accepted N rows) where
 
   started-sound : (i : Operation) (n : ℕ) (c k : ℕ) (a : Input) (x : Tree Value) (back : Optional Destination) → Arriving i x back
       → Starting N (i .service) n (i .row) c k a
-      → T (permitsInput (i .service) a) → SessionSound N rows (i .service) n (started c k a back x)
-  started-sound i n c k a x back arr s u =
+      → T (permitsInput (i .service) a) → (key : ℕ) → SessionSound N rows (i .service) n (started c k a back x key)
+  started-sound i n c k a x back arr s u key =
       let q = i .service in
       let m = s .options in
       let f = s .found in
@@ -255,23 +260,47 @@ module _ (N : Network) (rows : ℕ) (acc : Accepted N rows) where
       let br : branchAt k m ≡ sequence (f .label) (fromInput a) (f .after) =
       subst (λ (z : ℕ). branchAt z m ≡ sequence (f .label) (fromInput a) (f .after)) ahead (f .isBranch) in
       let runs : behaviourIn N q (suc (s .before)) ≡ some (choice c m) = subst (λ (z : ℕ). behaviourIn N q z ≡ some (choice c m)) (s .number) (s .runs) in
-      subst (λ (z : ℕ). SessionSound N rows q z (started c k a back x)) (sym (s .number))
+      subst (λ (z : ℕ). SessionSound N rows q z (started c k a back x key)) (sym (s .number))
+      (with-key-sound N rows q (suc (s .before)) (started c k a back x 0) key
       (start-input q (s .before) c k m runs (begins q (s .before) c k m runs small (s .derived)) (f .label) (f .after) i x back arr
-      (a .row) (a .operation) (a .into) (a .response) br (f .named) u)
+      (a .row) (a .operation) (a .into) (a .response) br (f .named) u))
     where
       sym-zero : (j : ℕ) → k ≡ 0 + j → j ≡ k
       sym-zero j e = omega arith
 
+  -- A session that is started is one of 1 to 3.
+  started-place : (q n w c k : ℕ) (a : Input) → Starting N q n w c k a → (1 ≤ n) × (n ≤ 3)
+  started-place q n w c k a s = let e = s .number in (omega arith, behaviour-place N q n (choice c (s .options)) (s .runs) .1)
+
   pub deliver-keeps : (claims : Claims) (G : State) → Sound N rows G → (i : Operation) (n : ℕ) (x : Tree Value) (back : Optional Destination)
-      → Arriving i x back → (t : Target) → TargetInfo N G i n t → LetsPass (i .service) t → Keeps N rows claims (deliver G i n t back x)
-  deliver-keeps claims G hG i n x back arr noTarget f a = absurd a
-  deliver-keeps claims G hG i n x back arr queueFull f a = absurd a
-  deliver-keeps claims G hG i n x back arr queued f a =
+      → Arriving i x back → (t : Target) → TargetInfo N G i n t → LetsPass (i .service) t → KeyInfo N i n x G t
+      → Keeps N rows claims (deliver N G i n t back x)
+  deliver-keeps claims G hG i n x back arr noTarget f a key = absurd a
+  deliver-keeps claims G hG i n x back arr queueFull f a key = absurd a
+  deliver-keeps claims G hG i n x back arr queued f a key =
+      let q = i .service in
       let msg : Queued = record { operation = i .row; message = x; replyTo = back } in
-      by-live N rows claims (G (i .service) n) (λ S. moved (setSlot G (i .service) n (live (withQueue S (S .queue ++ (msg ∷ []))))) [])
+      by-live N rows claims (G q n) (λ S. moved (setSlot G q n (live (withQueue S (S .queue ++ (msg ∷ []))))) [])
       (λ S e.
-      let made = queue-sound N rows acc (i .service) n S (hG .sessions (i .service) n S e) msg (queued-sound i x back arr) (f S e) in
-      (sound-set N rows G (i .service) n (live (withQueue S (S .queue ++ (msg ∷ [])))) hG made, nothingOut))
-  deliver-keeps claims G hG i n x back arr (starts c k a) f ad =
-      goes-keeps N rows claims false (saveWithin G (i .service) n (started c k a back x) []) (λ t. absurd t)
-      (save-goes N rows acc G (i .service) n (started c k a back x) hG (started-sound i n c k a x back arr f ad))
+      let made = queue-sound N rows acc q n S (hG .sessions q n S e) msg (queued-sound i x back arr) (f S e) in
+      let k = hG .keys q n S e in
+      let more : KeySound N q n (S .key) (S .queue ++ (msg ∷ [])) = record {
+        fits = k .fits;
+        none = k .none;
+        queue = record {
+          ofKey = λ h. of-key-more (keyId N q) (S .key) (S .queue) msg (k .queue .ofKey h) (key (T-of (held-keyed N q n h)) .1 S e);
+          first = λ h z. absurd (key h .0 z);
+        };
+      } in
+      (sound-set N rows G q n (live (withQueue S (S .queue ++ (msg ∷ [])))) hG made (key-stays N rows hG e refl more), nothingOut))
+  deliver-keeps claims G hG i n x back arr (starts c k a) f ad key =
+      let q = i .service in
+      let y = keyToKeep N i x in
+      let S = started c k a back x y in
+      let place = started-place q n (i .row) c k a f in
+      let own : SlotKey N rows G q n (live S) = record {
+        own = λ R e. subst (λ (z : Session). KeySound N q n (z .key) (z .queue)) (live-inj e) (start-key N i x (arr .good) n (place .0) (place .1));
+        suits = start-suits N i x G n c k refl (place .0) (place .1) key;
+      } in
+      goes-keeps N rows claims false (saveWithin G q n S []) (λ t. absurd t)
+      (save-goes N rows acc G q n S hG (started-sound i n c k a x back arr f ad y) own)

@@ -17,7 +17,7 @@ use Rattle.check_subtyping.specs.Subtype.{areSubtypes}
 use Rattle.check_typing.specs.Checker.{sameTypes, check}
 use Rattle.check_typing.specs.Environment.{firmSteps, firmAboveSteps, noMandatory}
 use Rattle.check_typing.specs.ExpressionTyping.{expressionType}
-use Rattle.check_typing.specs.NetworkChecker.{checkEach, oneType, oneTypeWith, oneTypeEach, checkServices, checkOutputs, checkNetwork}
+use Rattle.check_typing.specs.NetworkChecker.{checkEach, oneType, oneTypeWith, oneTypeEach, checkServices, checkOutputs, checkKeys, checkNetwork}
 use Rattle.check_typing.specs.NetworkRules.{Environments, sequencesOf, branchesOf, union, unionOf}
 use Rattle.check_typing.specs.Occurs.{occursIn, occurs, allRootsIn, allRoots}
 use Rattle.check_typing.specs.Result.{passed, next}
@@ -35,7 +35,7 @@ use Rattle.network.specs.Rows.{laterRun, pathRow, typeId, cardinality, typeBasi
 use Rattle.network.specs.Rows.{typeRow, expressionKindAt, kindAt, subFits, inputFits, constantFits, fieldFits, fieldsRule, basicFits, expressionRow}
 use Rattle.network.specs.Rows.{behaviourHead, branchRule, branchRowRule, choiceRun, behaviourRow, operationService, operationDirection, operationTwoWay}
 use Rattle.network.specs.Rows.{operationId, operationLocation, requestType, replyType, rootFits, locationFits, replyFits, sameService, sameName}
-use Rattle.network.specs.Rows.{repeatRule, operationFields, operationLinks, operationRow, serviceLocation, starterRow, clientRow, starterFits}
+use Rattle.network.specs.Rows.{repeatRule, operationFields, operationLinks, operationRow, serviceLocation, starterRow, clientRow, serviceKey, starterFits}
 use Rattle.network.specs.Rows.{clientFits, locationRule, serviceRow, pathRows, typeRows, expressionRows, behaviourRows, operationRows, serviceRows}
 use Rattle.network.specs.Sizes.{rowsSum, rowsAll, levelsWithin, nodesTo, typeWithin, depthWithin, typeLarge, expressionLarge, typeSizes}
 use Rattle.network.specs.Sizes.{expressionSizes, large}
@@ -76,14 +76,14 @@ environments =
 pub file-passes : checkFile file ≡ passed environments
 unfolding find set measure mapForest readSteps writeSteps u16At unsignedOf isValue areSubtypes sameTypes check firmSteps firmAboveSteps
     noMandatory expressionType
-    checkEach oneType oneTypeWith oneTypeEach checkServices checkOutputs checkNetwork sequencesOf branchesOf union unionOf occursIn occurs
+    checkEach oneType oneTypeWith oneTypeEach checkServices checkOutputs checkKeys checkNetwork sequencesOf branchesOf union unionOf occursIn occurs
     allRootsIn allRoots next permits untilZero pathOf markOf siblings writtenOut expressionFrom expressionTo operationOf branchesFrom behaviourFrom
     behaviourTo behaviourOf serviceOf rowsFrom networkOf formOf expressionKind behaviourKind expressionFields behaviourFields trailer start count
     pathAt typeAt expressionAt behaviourAt operationAt serviceAt dataPart lengthFits sectionsFollow endsFit counted least rule leastOver sumOver entry
     someAt meets firstOf metInput laterRun pathRow typeId cardinality typeBasic firstChild childCount childrenFit idBefore childRule childIds typeRow
     expressionKindAt kindAt subFits inputFits constantFits fieldFits fieldsRule basicFits expressionRow behaviourHead branchRule branchRowRule choiceRun
     behaviourRow operationService operationDirection operationTwoWay operationId operationLocation requestType replyType rootFits locationFits
-    replyFits sameService sameName repeatRule operationFields operationLinks operationRow serviceLocation starterRow clientRow starterFits clientFits
+    replyFits sameService sameName repeatRule operationFields operationLinks operationRow serviceLocation starterRow clientRow serviceKey starterFits clientFits
     locationRule serviceRow pathRows typeRows expressionRows behaviourRows operationRows serviceRows rowsSum rowsAll levelsWithin nodesTo typeWithin
     depthWithin typeLarge expressionLarge typeSizes expressionSizes large fieldUses rowUses serviceUses usedByRows used secondUse rowUseRule
     serviceUseRule usesRow usesRows broken checkFile

@@ -20,7 +20,7 @@ use Rattle.network.specs.Kinds.{expressionKind, behaviourKind, expressionFields
 use Rattle.network.specs.Layout.{trailer, start, count as sectionCount, pathAt, typeAt, expressionAt, behaviourAt, operationAt as operationPlace}
 use Rattle.network.specs.Layout.{serviceAt as servicePlace, dataPart}
 use Rattle.network.specs.Rows.{typeId, cardinality, typeBasic, firstChild, childCount, expressionKindAt, kindAt, operationService, operationDirection}
-use Rattle.network.specs.Rows.{operationTwoWay, operationId, operationLocation, requestType, replyType, serviceLocation, starterRow, clientRow}
+use Rattle.network.specs.Rows.{operationTwoWay, operationId, operationLocation, requestType, replyType, serviceLocation, starterRow, clientRow, serviceKey}
 use Rattle.network_syntax.specs.Meets.{someAt, meets, firstOf, metInput}
 use Rattle.state.specs.Shape.{freshState}
 use Rattle.move_rules.specs.Evaluation.{evaluate}
@@ -43,7 +43,7 @@ unfolding u16At find set measure mapForest readSteps writeSteps unsignedOf isVal
     behaviourFrom behaviourTo behaviourOf serviceOf rowsFrom networkOf expressionKind behaviourKind expressionFields behaviourFields trailer start
     sectionCount pathAt typeAt expressionAt behaviourAt operationPlace servicePlace dataPart typeId cardinality typeBasic firstChild childCount
     expressionKindAt kindAt operationService operationDirection operationTwoWay operationId operationLocation requestType replyType serviceLocation
-    starterRow clientRow entry someAt meets firstOf metInput evaluate localAt oldest receiveAt sendAt move isDone offer reach
+    starterRow clientRow serviceKey entry someAt meets firstOf metInput evaluate localAt oldest receiveAt sendAt move isDone offer reach
     startFrom numbers reachedBy
 computed = (refl, refl, refl, refl)
 

@@ -10,8 +10,10 @@ pub mod ReadyLaws
 pub mod Accepted
 pub mod MadeLaws
 pub mod Well
+pub mod KeyedQueues
 pub mod LeafLaws
 pub mod Invariant
+pub mod KeyedLaws
 pub mod SessionLaws
 pub mod FilePartsLaws
 pub mod AcceptedLaws
@@ -36,3 +38,5 @@ pub mod ExampleLaws
 pub mod ExampleFileLaws
 pub mod RangeExample
 pub mod RangeExampleLaws
+pub mod KeyExample
+pub mod KeyExampleLaws

@@ -1,6 +1,6 @@
 -- Local moves, receives and closing keep the invariant; a ready assign, if or while moves, or is refused with 22 by its expression's result.
 use mathlib.Core.Path.{_≡_, refl, sym, ap, subst, _∙_}
-use Prim.Native.Nat.{ℕ, _≤_}
+use Prim.Native.Nat.{ℕ, _≤_, _<_}
 use mathlib.Core.Bool.{Bool, true, false, _&&_}
 use mathlib.Core.List.{List, [], _∷_}
 use native.Mathlib.Omega.{arith}
@@ -42,11 +42,12 @@ use Rattle.soundness.specs.ReachLaws.{Offered, Found, reach-found, reach
 use Rattle.soundness.specs.Accepted.{OfFile, MadeOf, Accepted}
 use Rattle.soundness.specs.MadeLaws.{made-at, plain-request, reaches-atRow}
 use Rattle.network_syntax.specs.ViewLaws.{own-row, some-inj, input-is, local-is}
-use Rattle.soundness.specs.Invariant.{ReplyFits, RepliesFit, AnswersAt, QueuedSound, AllQueued, SessionSound, Sound}
+use Rattle.soundness.specs.KeyedQueues.{AllOfKey}
+use Rattle.soundness.specs.Invariant.{ReplyFits, RepliesFit, AnswersAt, QueuedSound, AllQueued, SessionSound, KeySound, Sound}
 use Rattle.soundness.specs.SessionLaws.{advance-here, advance-below-branches, advance-apart, once-of, made-of, tree-limit, assign-sound, oneWay-sound}
 use Rattle.soundness.specs.SessionLaws.{request-sound, if-sound, while-sound, again-sound, select-sound}
 use Rattle.soundness.specs.ResultLaws.{Claims, claimsOf, Keeps, Goes, goes-keeps, keeps-15, by-require, by-undone, by-session, at-evaluation}
-use Rattle.soundness.specs.ResultLaws.{at-require, at-truth, sound-set}
+use Rattle.soundness.specs.ResultLaws.{at-require, at-truth, SlotKey, free-slot, key-stays, same-key, sound-set}
 use Rattle.soundness.specs.Texts.{nothingOut}
 use Rattle.soundness.specs.Property3.{localExpression, isBeyond, LeavesRange}
 
@@ -56,23 +57,44 @@ pub record TakenSound (N : Network) (rows q w : ℕ) (m : Queued) (l before : Li
   pub sound : QueuedSound N rows q m
   pub others : AllQueued N rows q l
   pub fewer : length l ≤ length before
+  pub filled : 0 < length before
+  pub ofKey : (k x : ℕ) → AllOfKey k x before → AllOfKey k x l
 
 abbrev pub AnyTaken : Network → ℕ → ℕ → ℕ → List Queued → QueueSplit → Type 0
 AnyTaken N rows q w before nothing = Unit {0}
 AnyTaken N rows q w before (message m l) = TakenSound N rows q w m l before
 
 pub oldest-sound : (N : Network) (rows q w : ℕ) (l : List Queued) → AllQueued N rows q l → AnyTaken N rows q w l (oldest w l)
-unfolding oldest AllQueued
+unfolding oldest AllQueued AllOfKey
 oldest-sound N rows q w [] a = tt
 oldest-sound N rows q w (m ∷ l) a = go (eqb (m .operation) w) (λ t. eqb→eq (m .operation) w t) (oldest w l) (oldest-sound N rows q w l (a .1))
   where
     kept : (x : QueueSplit) → AnyTaken N rows q w l x → AnyTaken N rows q w (m ∷ l) (keeping m x)
     kept nothing g = tt
-    kept (message y t) g = record { named = g .named; sound = g .sound; others = (a .0, g .others); fewer = let z = g .fewer in omega arith }
+    kept (message y t) g = record {
+      named = g .named;
+      sound = g .sound;
+      others = (a .0, g .others);
+      fewer = let z = g .fewer in omega arith;
+      filled = omega arith;
+      ofKey = λ k x b. (b .0, g .ofKey k x (b .1));
+    }
 
     go : (b : Bool) → (T b → m .operation ≡ w) → (x : QueueSplit) → AnyTaken N rows q w l x → AnyTaken N rows q w (m ∷ l) (pick b (message m l) (keeping m x))
-    go true f x g = record { named = f tt; sound = a .0; others = a .1; fewer = omega arith }
+    go true f x g = record { named = f tt; sound = a .0; others = a .1; fewer = omega arith; filled = omega arith; ofKey = λ k x b. b .1 }
     go false f x g = kept x g
+
+-- What is left has the key that all had.
+taken-key : {N : Network} {rows q w n x : ℕ} {m : Queued} {l before : List Queued} → TakenSound N rows q w m l before → KeySound N q n x before
+    → KeySound N q n x l
+taken-key {n = n} {x} {before = before} f k = record {
+  fits = k .fits;
+  none = k .none;
+  queue = record {
+    ofKey = λ h. f .ofKey _ x (k .queue .ofKey h);
+    first = λ h e. absurd (let z = ap length (k .queue .first h e) in let y = f .filled in omega arith);
+  };
+}
 
 pub message-good : (m : Tree Value) → WellFormedTree messageLevelsBelow messageNodesBelow m → GoodTree m
 message-good (tree v k) w = (w .root, (w .rising, w .sound))
@@ -138,12 +160,13 @@ suits-none N rows q to o t e = go to (suits-reply N rows q to o t false e)
 
 module _ (N : Network) (rows : ℕ) (acc : Accepted N rows) where
   -- A session changed and kept within the limits.
-  pub save-goes : (G : State) (q n : ℕ) (S : Session) → Sound N rows G → SessionSound N rows q n S → Goes N rows false (saveWithin G q n S [])
-  save-goes G q n S h s =
+  pub save-goes : (G : State) (q n : ℕ) (S : Session) → Sound N rows G → SessionSound N rows q n S → SlotKey N rows G q n (live S)
+      → Goes N rows false (saveWithin G q n S [])
+  save-goes G q n S h s k =
       at-require N rows false (within (S .tree)) Stuck (moved (setSlot G q n (live S)) []) (tree-limit N rows acc q n S s)
-      (sound-set N rows G q n (live S) h s, nothingOut)
+      (sound-set N rows G q n (live S) h s k, nothingOut)
 
-  module _ (G : State) (hG : Sound N rows G) (q n : ℕ) (S : Session) (h : SessionSound N rows q n S) where
+  module _ (G : State) (hG : Sound N rows G) (q n : ℕ) (S : Session) (h : SessionSound N rows q n S) (eS : G q n ≡ live S) where
     abbrev p : Progresses
     p = S .progress
 
@@ -153,7 +176,7 @@ module _ (N : Network) (rows : ℕ) (acc : Accepted N rows) where
     assign-goes r x e a t =
         at-evaluation N rows (evaluate (S .tree) e) (λ b. unassigned G q n S x) (assigned G q n S r x) (assign-sound N rows acc q n S h r x e a t)
         (λ b u. at-require N rows true (within (setPayloadAt voidValue x voidValue (S .tree))) Stuck outOfRange u refl)
-        (λ y u. save-goes G q n _ hG u)
+        (λ y u. save-goes G q n _ hG u (same-key N rows hG eS refl refl))
 
     pub if-goes : (r : ℕ) (e : Expression) (x y : Behaviour) → Reaches p (ifThenElse r e x y) (h .what) → p r ≡ undone
         → Goes N rows (isBeyond (evaluate (S .tree) e)) (onTruth (evaluate (S .tree) e) (decided G q n S r))
@@ -163,13 +186,13 @@ module _ (N : Network) (rows : ℕ) (acc : Accepted N rows) where
       where
         go : (c : Bool) → SessionSound N rows q n (withProgress S (advance p r (taken 0))) → SessionSound N rows q n (withProgress S (advance p r (taken 1)))
             → Goes N rows false (decided G q n S r c)
-        go true x y = (sound-set N rows G q n (live (withProgress S (advance p r (taken 0)))) hG x, nothingOut)
-        go false x y = (sound-set N rows G q n (live (withProgress S (advance p r (taken 1)))) hG y, nothingOut)
+        go true x y = (sound-set N rows G q n (live (withProgress S (advance p r (taken 0)))) hG x (same-key N rows hG eS refl refl), nothingOut)
+        go false x y = (sound-set N rows G q n (live (withProgress S (advance p r (taken 1)))) hG y (same-key N rows hG eS refl refl), nothingOut)
 
     repeated-goes : (r : ℕ) (b : Behaviour) (c : Bool) → SessionSound N rows q n (withProgress S (advance (reopen p b) r (taken 0)))
         → SessionSound N rows q n (withProgress S (advance p r done)) → Goes N rows false (repeated G q n S r b c)
-    repeated-goes r b true x y = (sound-set N rows G q n (live (withProgress S (advance (reopen p b) r (taken 0)))) hG x, nothingOut)
-    repeated-goes r b false x y = (sound-set N rows G q n (live (withProgress S (advance p r done))) hG y, nothingOut)
+    repeated-goes r b true x y = (sound-set N rows G q n (live (withProgress S (advance (reopen p b) r (taken 0)))) hG x (same-key N rows hG eS refl refl), nothingOut)
+    repeated-goes r b false x y = (sound-set N rows G q n (live (withProgress S (advance p r done))) hG y (same-key N rows hG eS refl refl), nothingOut)
 
     pub while-goes : (r : ℕ) (e : Expression) (b : Behaviour) → Reaches p (whileDo r e b) (h .what) → p r ≡ undone
         → Goes N rows (isBeyond (evaluate (S .tree) e)) (onTruth (evaluate (S .tree) e) (repeated G q n S r b))
@@ -222,9 +245,9 @@ module _ (N : Network) (rows : ℕ) (acc : Accepted N rows) where
             local-by claims l (subst (λ (z : Behaviour). Reaches p z (h .what)) (local-is X l e) a) (λ w i. f w (ap localExpression e ∙ i))
 
     -- A reached row whose expression has a result that is beyond.
-    pub leaves-range : (eS : G q n ≡ live S) (i : ℕ) (expression : Behaviour → Optional Expression) (X : Behaviour) → Found p i (h .what) (reached X)
+    pub leaves-range : (i : ℕ) (expression : Behaviour → Optional Expression) (X : Behaviour) → Found p i (h .what) (reached X)
         → (e : Expression) → expression X ≡ some e → T (isBeyond (evaluate (S .tree) e)) → LeavesRange N G q n i expression
-    leaves-range eS i expression X f e its t =
+    leaves-range i expression X f e its t =
         record {
           session = S;
           at = record { alive = eS; what = h .what; runs = h .runs; row = X; number = f .1; way = f .0 };
@@ -233,16 +256,16 @@ module _ (N : Network) (rows : ℕ) (acc : Accepted N rows) where
           leaves = t;
         }
 
-    local-reached : (claims : Claims) (eS : G q n ≡ live S) (i : ℕ) → (LeavesRange N G q n i (λ b. localExpression (localOf b)) → claims .cause)
+    local-reached : (claims : Claims) (i : ℕ) → (LeavesRange N G q n i (λ b. localExpression (localOf b)) → claims .cause)
         → (l : Reached) → Found p i (h .what) l → Keeps N rows claims (localReached G q n S l)
-    local-reached claims eS i c unreached f = keeps-15 N rows claims
-    local-reached claims eS i c (reached X) f = local-at claims X (f .0) (λ e its t. c (leaves-range eS i (λ b. localExpression (localOf b)) X f e its t))
-    local-reached claims eS i c (offered d k b) f = keeps-15 N rows claims
+    local-reached claims i c unreached f = keeps-15 N rows claims
+    local-reached claims i c (reached X) f = local-at claims X (f .0) (λ e its t. c (leaves-range i (λ b. localExpression (localOf b)) X f e its t))
+    local-reached claims i c (offered d k b) f = keeps-15 N rows claims
 
-    pub local-keeps : (claims : Claims) → G q n ≡ live S → (r : ℕ) → (LeavesRange N G q n r (λ b. localExpression (localOf b)) → claims .cause)
+    pub local-keeps : (claims : Claims) (r : ℕ) → (LeavesRange N G q n r (λ b. localExpression (localOf b)) → claims .cause)
         → Keeps N rows claims (localReached G q n S (reach p r (h .what)))
-    local-keeps claims eS r c =
-        local-reached claims eS r c (reach p r (h .what)) (reach-found p r (h .what) (once-of N rows acc q n (h .what) (h .runs)) (h .clean))
+    local-keeps claims r c =
+        local-reached claims r c (reach p r (h .what)) (reach-found p r (h .what) (once-of N rows acc q n (h .what) (h .runs)) (h .clean))
 
     -- Receive, in the session with `settled` for its progress.
     module _ (settled : Progresses) (hs : SessionSound N rows q n (withProgress S settled)) where
@@ -265,7 +288,8 @@ module _ (N : Network) (rows : ℕ) (acc : Accepted N rows) where
           goes-keeps N rows claims false (receiveMessage G q n S x settled r (message m l)) (λ t. absurd t)
           (subst (λ (z : Optional Destination). Goes N rows false (saveWithin G q n (after x r m l z) [])) (sym no) (save-goes G q n (after x r m l none) hG
           (oneWay-sound N rows acc q n (withProgress S settled) hs r o x (m .message) a u (message-good (m .message) (k .good))
-          (subst (λ (z : Operation). Fits (m .message) (z .request)) eo (k .fit)) l (let z = f .fewer in let w = h .few in omega arith) (f .others))))
+          (subst (λ (z : Operation). Fits (m .message) (z .request)) eo (k .fit)) l (let z = f .fewer in let w = h .few in omega arith) (f .others))
+          (key-stays N rows hG eS refl (taken-key f (hG .keys q n S eS)))))
 
       two-takes : (r : ℕ) (o : Operation) (x c : Path) (d : Behaviour) → Reaches settled (requestResponse r o x c d) (hs .what) → settled r ≡ undone
           → o .twoWay ≡ true
@@ -286,7 +310,8 @@ module _ (N : Network) (rows : ℕ) (acc : Accepted N rows) where
           (save-goes G q n (after x r m l (some (to .0))) hG
           (request-sound N rows acc q n (withProgress S settled) hs r o x c d (m .message) (to .0) a u (message-good (m .message) (k .good))
           (subst (λ (z : Operation). Fits (m .message) (z .request)) eo (k .fit)) (to .2) ans l
-          (let z = f .fewer in let w = h .few in omega arith) (f .others))))
+          (let z = f .fewer in let w = h .few in omega arith) (f .others))
+          (key-stays N rows hG eS refl (taken-key f (hG .keys q n S eS)))))
         where
           request-operation : {r r2 : ℕ} {o o2 : Operation} {x x2 c c2 : Path} {d d2 : Behaviour}
               → requestResponse r o x c d ≡ requestResponse r2 o2 x2 c2 d2 → o ≡ o2
@@ -372,16 +397,16 @@ module _ (N : Network) (rows : ℕ) (acc : Accepted N rows) where
       by-session N rows claims G q n (λ B S. localReached G q n S (reach (S .progress) r B))
       (λ B S e eS. let h = hG .sessions q n S eS in
       subst (λ (z : Behaviour). Keeps N rows claims (localReached G q n S (reach (S .progress) r z))) (some-inj (sym (h .runs) ∙ e))
-      (local-keeps G hG q n S h claims eS r (λ c. c)))
+      (local-keeps G hG q n S h eS claims r (λ c. c)))
 
   pub receive-move : (claims : Claims) (G : State) → Sound N rows G → (q n r : ℕ) → Keeps N rows claims (receiveMove N G q n r)
   receive-move claims G hG q n r =
       by-session N rows claims G q n (λ B S. receiveReached G q n S (reach (S .progress) r B))
       (λ B S e eS. let h = hG .sessions q n S eS in
       subst (λ (z : Behaviour). Keeps N rows claims (receiveReached G q n S (reach (S .progress) r z))) (some-inj (sym (h .runs) ∙ e))
-      (receive-keeps G hG q n S h claims r))
+      (receive-keeps G hG q n S h eS claims r))
 
   pub close-move : (claims : Claims) (G : State) → Sound N rows G → (q n : ℕ) → Keeps N rows claims (closeMove N G q n)
   close-move claims G hG q n =
       by-session N rows claims G q n (λ B S. require (isDone (S .progress) B) MoveNotAllowed (moved (setSlot G q n free) []))
-      (λ B S e eS. by-require N rows claims (isDone (S .progress) B) (moved (setSlot G q n free) []) (λ t. (sound-set N rows G q n free hG tt, nothingOut)))
+      (λ B S e eS. by-require N rows claims (isDone (S .progress) B) (moved (setSlot G q n free) []) (λ t. (sound-set N rows G q n free hG tt (free-slot N rows), nothingOut)))

@@ -3,7 +3,7 @@
 -- after it live sessions are well typed, no next move, on the same file and the state so left, gives 18, no send or reply gives 19, one
 -- to an outsider included, and a ready assign, if or while gives 0, or 1 for its out buffer." 02: "From fresh, a ready local row of an
 -- accepted network therefore moves, has such a result or gives 1 for its out buffer"; "State trees and queues hold only well-formed strings
--- from a fresh state on".
+-- from a fresh state on"; "From fresh, no two live sessions of a service hold one key".
 use mathlib.Core.Path.{_≡_}
 use mathlib.Core.Bool.{Bool, true, false, _&&_, _||_}
 use mathlib.Core.List.{List, [], _∷_}
@@ -28,7 +28,7 @@ use Rattle.network.specs.Decode.{networkOf}
 use Rattle.state.specs.Places.{outRoom}
 use Rattle.state.specs.Session.{Progress, Progresses, undone, done, waits, received, taken, Queued, Session, live, State}
 use Rattle.state.specs.Bytes.{stateBytes}
-use Rattle.state.specs.Shape.{isUndone, behaviourIn, operationOfRow, Stands}
+use Rattle.state.specs.Shape.{isUndone, behaviourIn, operationOfRow, KeysApart, Stands}
 use Rattle.move_rules.specs.Readiness.{isDone, rest}
 use Rattle.move_rules.specs.Evaluation.{Evaluation, missing, wrongKind, beyond, given, evaluate}
 use Rattle.move_rules.specs.Moves.{Move, local, receive, send, reply, outerMessage, outerReply, close}
@@ -36,6 +36,7 @@ use Rattle.move_rules.specs.Step.{Step, step}
 use Rattle.move_rules.specs.Fresh.{freshBytes}
 use Rattle.soundness.specs.Parts.{Reaches}
 use Rattle.soundness.specs.Texts.{AllText, TextQueue, TextOut}
+use Rattle.soundness.specs.KeyedQueues.{KeyedQueue}
 
 -- "each queued message fits its operation's request type"
 pub record FitsOperation (N : Network) (m : Queued) : Type 0 where
@@ -215,7 +216,11 @@ AllTexts G = (q n : ℕ) (S : Session) → G q n ≡ live S → AllText (S .tree
 abbrev pub WritesText : List ℕ → State → Type 0
 WritesText file G = (t : Turn) → Given t → TextOut (outgoingOfNext file (stateBytes G) t)
 
--- What holds of a state from fresh.
+-- Every message queued at a session that holds a key has that key; at session 0 of a keyed service none is queued.
+abbrev pub KeyedQueues : List ℕ → State → Type 0
+KeyedQueues file G = (q n : ℕ) (S : Session) → G q n ≡ live S → KeyedQueue (networkOf file) q n (S .key) (S .queue)
+
+-- What holds of a state from fresh. 02: "From fresh, no two live sessions of a service hold one key".
 pub record Holds (file : List ℕ) (G : State) : Type 0 where
   pub wellTyped : AllWellTyped file G
   pub never18 : Never18 file G
@@ -224,8 +229,10 @@ pub record Holds (file : List ℕ) (G : State) : Type 0 where
   pub only22 : Only22 file G
   pub texts : AllTexts G
   pub writesText : WritesText file G
+  pub oneKey : KeysApart (networkOf file) G
+  pub keyedQueues : KeyedQueues file G
 
--- An accepted file: bytes that the checker, which tries 2 to 13, passes.
+-- An accepted file: bytes that the checker, which tries 2 to 13 and 23, passes.
 pub record AcceptedFile (file : List ℕ) : Type 0 where
   pub octets : Octets file
   pub environments : List Environments

@@ -21,9 +21,9 @@ use Rattle.network.specs.Form.{formOf}
 use Rattle.network.specs.Layout.{behaviourCount}
 use Rattle.network.specs.Decode.{networkOf}
 use Rattle.state.specs.Places.{outRoom}
-use Rattle.state.specs.Session.{Progress, Progresses, undone, done, waits, received, taken, Queued, Session, Slot, State}
+use Rattle.state.specs.Session.{Progress, Progresses, undone, done, waits, received, taken, Queued, Session, Slot, live, State}
 use Rattle.state.specs.Bytes.{stateBytes}
-use Rattle.state.specs.Shape.{isUndone, Stands, freshState}
+use Rattle.state.specs.Shape.{isUndone, KeysApart, Stands, freshState}
 use Rattle.state.specs.ShapeLaws.{decode-state-complete, stands-length, stands-unique}
 use Rattle.move_rules.specs.Readiness.{isDone, Reached, reached, reach, rest}
 use Rattle.move_rules.specs.Evaluation.{evaluate}
@@ -52,7 +52,7 @@ use Rattle.soundness.specs.Texts.{TextOut, nothingOut}
 use Rattle.soundness.specs.Property3.{Turn, NumberFits, Given, AllGiven, after, outgoing}
 use Rattle.soundness.specs.TextLaws.{shape-texts}
 use Rattle.move_rules.specs.Fresh.{freshBytes, fresh}
-use Rattle.soundness.specs.Property3.{AllWellTyped, Never18, Never19, ReadyMoves, Only22, AllTexts, WritesText, Holds, AcceptedFile, Property3}
+use Rattle.soundness.specs.Property3.{AllWellTyped, Never18, Never19, ReadyMoves, Only22, AllTexts, WritesText, KeyedQueues, Holds, AcceptedFile, Property3}
 
 is-undone : (s : Progress) → T (isUndone s) → s ≡ undone
 is-undone undone t = refl
@@ -100,21 +100,21 @@ module _ (N : Network) (rows : ℕ) (acc : Accepted N rows) where
       }
 
   -- A ready assign, if or while moves, or is refused with 22 by its expression's result.
-  ready-by : (G : State) → Sound N rows G → (q n : ℕ) (S : Session) (h : SessionSound N rows q n S) (l : Local)
+  ready-by : (G : State) → Sound N rows G → (q n : ℕ) (S : Session) (h : SessionSound N rows q n S) → G q n ≡ live S → (l : Local)
       → Reaches (S .progress) (fromLocal l) (h .what)
       → T (canMove (S .progress) (some l)) → (e : Expression) → localExpression (some l) ≡ some e
       → Goes N rows (isBeyond (evaluate (S .tree) e)) (localBy G q n S (some l))
-  ready-by G hG q n S h (assigns r x e) a t w its =
+  ready-by G hG q n S h eS (assigns r x e) a t w its =
       let u = is-undone (S .progress r) t in
       let R = onEvaluation (evaluate (S .tree) e) (λ b. unassigned G q n S x) (assigned G q n S r x) in
       subst (λ (z : Expression). Goes N rows (isBeyond (evaluate (S .tree) z)) (ifUndone (S .progress r) R)) (some-inj its)
-      (subst (λ (s : Progress). Goes N rows (isBeyond (evaluate (S .tree) e)) (ifUndone s R)) (sym u) (assign-goes N rows acc G hG q n S h r x e a u))
-  ready-by G hG q n S h (decides r e x y) a t w its =
+      (subst (λ (s : Progress). Goes N rows (isBeyond (evaluate (S .tree) e)) (ifUndone s R)) (sym u) (assign-goes N rows acc G hG q n S h eS r x e a u))
+  ready-by G hG q n S h eS (decides r e x y) a t w its =
       let u = is-undone (S .progress r) t in
       let R = onTruth (evaluate (S .tree) e) (decided G q n S r) in
       subst (λ (z : Expression). Goes N rows (isBeyond (evaluate (S .tree) z)) (ifUndone (S .progress r) R)) (some-inj its)
-      (subst (λ (s : Progress). Goes N rows (isBeyond (evaluate (S .tree) e)) (ifUndone s R)) (sym u) (if-goes N rows acc G hG q n S h r e x y a u))
-  ready-by G hG q n S h (repeats r e b) a t w its =
+      (subst (λ (s : Progress). Goes N rows (isBeyond (evaluate (S .tree) e)) (ifUndone s R)) (sym u) (if-goes N rows acc G hG q n S h eS r e x y a u))
+  ready-by G hG q n S h eS (repeats r e b) a t w its =
       subst (λ (z : Expression). Goes N rows (isBeyond (evaluate (S .tree) z)) (ifReadyWhile (S .progress r) (isDone (S .progress) b) R)) (some-inj its)
       (go (S .progress r) refl t)
     where
@@ -130,22 +130,22 @@ module _ (N : Network) (rows : ℕ) (acc : Accepted N rows) where
 
       go : (s : Progress) → S .progress r ≡ s → T (isUndone s || (isTaken s && isDone (S .progress) b))
           → Goes N rows past (ifReadyWhile s (isDone (S .progress) b) R)
-      go undone u t = while-goes N rows acc G hG q n S h r e b a u
+      go undone u t = while-goes N rows acc G hG q n S h eS r e b a u
       go done u t = absurd t
       go waits u t = absurd t
       go (received to) u t = absurd t
-      go (taken k) u t = when (isDone (S .progress) b) t (λ d. again-goes N rows acc G hG q n S h r e b k a u d)
+      go (taken k) u t = when (isDone (S .progress) b) t (λ d. again-goes N rows acc G hG q n S h eS r e b k a u d)
 
-  ready-at : (G : State) → Sound N rows G → (q n : ℕ) (S : Session) (h : SessionSound N rows q n S) (X : Behaviour) → Reaches (S .progress) X (h .what)
-      → T (isReadyLocal (S .progress) X) → (e : Expression) → localExpression (localOf X) ≡ some e
+  ready-at : (G : State) → Sound N rows G → (q n : ℕ) (S : Session) (h : SessionSound N rows q n S) → G q n ≡ live S → (X : Behaviour)
+      → Reaches (S .progress) X (h .what) → T (isReadyLocal (S .progress) X) → (e : Expression) → localExpression (localOf X) ≡ some e
       → Goes N rows (isBeyond (evaluate (S .tree) e)) (localAt G q n S X)
   unfolding localAt
-  ready-at G hG q n S h X a t w its = seen (localOf X) refl t its
+  ready-at G hG q n S h eS X a t w its = seen (localOf X) refl t its
     where
       seen : (l : Optional Local) → localOf X ≡ l → T (canMove (S .progress) l) → localExpression l ≡ some w
           → Goes N rows (isBeyond (evaluate (S .tree) w)) (localBy G q n S l)
       seen none e t i = absurd t
-      seen (some l) e t i = ready-by G hG q n S h l (subst (λ (z : Behaviour). Reaches (S .progress) z (h .what)) (local-is X l e) a) t w i
+      seen (some l) e t i = ready-by G hG q n S h eS l (subst (λ (z : Behaviour). Reaches (S .progress) z (h .what)) (local-is X l e) a) t w i
 
   -- A row that can move is found.
   ready-found : (p : Progresses) (X : Behaviour) → T (isReadyLocal p X) → Findable p X
@@ -168,7 +168,7 @@ module _ (N : Network) (rows : ℕ) (acc : Accepted N rows) where
       (reach-complete (S .progress) (a .row) (h .what) (ready-found (S .progress) (a .row) (k .ready)) (once-of N rows acc q n (h .what) (h .runs))
       (h .clean) way) in
       let there : reach (S .progress) r (a .what) ≡ reached (a .row) = ap (reach (S .progress) r) (sym sameB) ∙ found in
-      let g = ready-at G hG q n S h (a .row) way (k .ready) e (k .works) in
+      let g = ready-at G hG q n S h (a .alive) (a .row) way (k .ready) e (k .works) in
       let f : Behaviour → Slot → Result = λ B x. onLive x (λ S2. localReached G q n S2 (reach (S2 .progress) r B)) in
       subst (λ (b : Optional Behaviour). Goes N rows past (onBehaviour b (λ B. f B (G q n)))) (sym (a .runs))
       (subst (λ (x : Slot). Goes N rows past (f (a .what) x)) (sym (a .alive))
@@ -278,6 +278,8 @@ module _ (file : List ℕ) (acc : AcceptedFile file) where
           only22 = sound-only-22;
           texts = sound-texts;
           writesText = sound-writes;
+          oneKey = h .keysApart;
+          keyedQueues = λ q n S e. h .keys q n S e .queue;
         }
 
   -- The bytes are those of a sound state.
@@ -324,6 +326,13 @@ module _ (file : List ℕ) (acc : AcceptedFile file) where
   texts-from-fresh l g G s =
       let P = property3 l g in
       subst (λ (H : State). AllTexts H × WritesText file H) (stands-unique (P .stands) s) (P .holds .texts, P .holds .writesText)
+
+  -- "From fresh, no two live sessions of a service hold one key", whichever state the bytes stand for; messages are queued by it.
+  pub keys-from-fresh : (l : List Turn) → AllGiven l → (G : State) → Stands (networkOf file) (behaviourCount file) (after file (freshBytes file) l) G
+      → KeysApart (networkOf file) G × KeyedQueues file G
+  keys-from-fresh l g G s =
+      let P = property3 l g in
+      subst (λ (H : State). KeysApart (networkOf file) H × KeyedQueues file H) (stands-unique (P .stands) s) (P .holds .oneKey, P .holds .keyedQueues)
 
 -- Of an accepted file, fresh writes the state that the list of moves starts from.
 pub fresh-writes : (file state : List ℕ) → AcceptedFile file → length state ≡ 65536

@@ -16,7 +16,7 @@ use Rattle.scalar.specs.Value.{isValue}
 use Rattle.check_typing.specs.Checker.{check}
 use Rattle.check_typing.specs.Environment.{firmAboveSteps}
 use Rattle.check_typing.specs.ExpressionTyping.{expressionType}
-use Rattle.check_typing.specs.NetworkChecker.{checkServices, checkOutputs, checkNetwork}
+use Rattle.check_typing.specs.NetworkChecker.{checkServices, checkOutputs, checkKeys, checkNetwork}
 use Rattle.check_typing.specs.Occurs.{occursIn, occurs, allRootsIn, allRoots}
 use Rattle.network.specs.Decode.{untilZero, pathOf, expressionFrom, expressionTo, behaviourFrom, behaviourTo, behaviourOf, serviceOf, rowsFrom}
 use Rattle.network.specs.Decode.{networkOf}
@@ -27,7 +27,7 @@ use Rattle.network.specs.Layout.{sectionsFollow, endsFit, counted}
 use Rattle.network.specs.Least.{least, rule, leastOver, sumOver}
 use Rattle.network_syntax.specs.Rows.{entry}
 use Rattle.network.specs.Rows.{pathRow, expressionKindAt, kindAt, subFits, constantFits, fieldFits, fieldsRule, basicFits, expressionRow}
-use Rattle.network.specs.Rows.{behaviourHead, choiceRun, behaviourRow, serviceLocation, starterRow, clientRow, starterFits, clientFits, serviceRow}
+use Rattle.network.specs.Rows.{behaviourHead, choiceRun, behaviourRow, serviceLocation, starterRow, clientRow, serviceKey, starterFits, clientFits, serviceRow}
 use Rattle.network.specs.Rows.{pathRows, typeRows, expressionRows, behaviourRows, operationRows, serviceRows}
 use Rattle.network.specs.Sizes.{depthWithin, expressionLarge, typeSizes, expressionSizes, large}
 use Rattle.network.specs.Uses.{fieldUses, rowUses, serviceUses, usedByRows, used, secondUse, rowUseRule, serviceUseRule, usesRow, usesRows, broken}
@@ -53,11 +53,11 @@ range-computed :
     × (reachedBy (networkOf rangeFile) (freshState (networkOf rangeFile)) assignsSum ≡ freshState (networkOf rangeFile))
     × (numbers (networkOf rangeFile) (freshState (networkOf rangeFile)) assignsOpposite ≡ 22 ∷ [])
     × (reachedBy (networkOf rangeFile) (freshState (networkOf rangeFile)) assignsOpposite ≡ freshState (networkOf rangeFile))
-unfolding find set measure readSteps writeSteps u16At unsignedOf isValue check firmAboveSteps expressionType checkServices checkOutputs checkNetwork
+unfolding find set measure readSteps writeSteps u16At unsignedOf isValue check firmAboveSteps expressionType checkServices checkOutputs checkKeys checkNetwork
     occursIn occurs allRootsIn allRoots next untilZero pathOf expressionFrom expressionTo behaviourFrom behaviourTo behaviourOf serviceOf rowsFrom
     networkOf formOf expressionKind behaviourKind expressionFields behaviourFields trailer start count pathAt typeAt expressionAt behaviourAt
     operationAt serviceAt dataPart lengthFits sectionsFollow endsFit counted least rule leastOver sumOver entry pathRow expressionKindAt kindAt
-    subFits constantFits fieldFits fieldsRule basicFits expressionRow behaviourHead choiceRun behaviourRow serviceLocation starterRow clientRow
+    subFits constantFits fieldFits fieldsRule basicFits expressionRow behaviourHead choiceRun behaviourRow serviceLocation starterRow clientRow serviceKey
     starterFits clientFits serviceRow pathRows typeRows expressionRows behaviourRows operationRows serviceRows depthWithin expressionLarge typeSizes
     expressionSizes large fieldUses rowUses serviceUses usedByRows used secondUse rowUseRule serviceUseRule usesRow usesRows broken checkFile inWidth
     addOf evaluate localAt move reach numbers reachedBy negateOf

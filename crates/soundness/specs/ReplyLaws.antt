@@ -38,7 +38,7 @@ use Rattle.network_syntax.specs.ViewLaws.{some-inj, input-is, output-is}
 use Rattle.soundness.specs.Invariant.{SessionSound, Sound}
 use Rattle.soundness.specs.SessionLaws.{once-of, made-of, advance-apart, answer-sound, waiting-sound, waits-received}
 use Rattle.soundness.specs.ResultLaws.{Claims, Keeps, goes-keeps, keeps-15, by-require, by-received, by-waiting, by-session}
-use Rattle.soundness.specs.ResultLaws.{by-live, by-message, live-inj, set-elim, by-pick, keeps-tree, keeps-fit, outside-fit, sound-set}
+use Rattle.soundness.specs.ResultLaws.{by-live, by-message, live-inj, set-elim, by-pick, keeps-tree, keeps-fit, outside-fit, same-key, sound-set}
 use Rattle.soundness.specs.TextLaws.{reply-out}
 use Rattle.soundness.specs.LocalLaws.{save-goes}
 use Rattle.soundness.specs.SendLaws.{decoded-good}
@@ -79,7 +79,7 @@ module _ (N : Network) (rows : ℕ) (acc : Accepted N rows) where
       let way = open-reached q n S h r (solicitResponse r o e x) at2 (subst (λ (s : Progress). T (isOpen s)) (sym ew) tt) in
       goes-keeps N rows claims false (saveWithin G q n (withProgress (withTree S (replaceAt voidValue x m (S .tree))) (advance (S .progress) r done)) [])
       (λ t. absurd t) (save-goes N rows acc G q n (withProgress (withTree S (replaceAt voidValue x m (S .tree))) (advance (S .progress) r done)) hG
-      (waiting-sound N rows acc q n S h r o e x m way ew gm f)))
+      (waiting-sound N rows acc q n S h r o e x m way ew gm f) (same-key N rows hG eS refl refl)))
 
   -- The row that waits, found wherever it stands.
   by-waiting-row : (claims : Claims) (q : ℕ) (S : Session) (r : ℕ) (B : Behaviour) (k : Operation → Path → Result)
@@ -130,9 +130,9 @@ module _ (N : Network) (rows : ℕ) (acc : Accepted N rows) where
             let f = acc .operations (o .row) o fo in
             keeps-tree N rows claims (found (read c (S .tree))) K (u .0) (λ b eb z. absurd z)
             (λ y v. keeps-fit N rows claims y (o .reply) (moved G2 (u32Bytes k ++ messageBytes y)) (v .1) (f .rising .1) (f .smallReply) (v .0)
-            (λ w. (sound-set N rows G q n (live (withProgress S (advance p r done))) hG (u .1), reply-out k y w)))
+            (λ w. (sound-set N rows G q n (live (withProgress S (advance p r done))) hG (u .1) (same-key N rows hG eS refl refl), reply-out k y w)))
         go (waitingRow q2 n2 r2) t u fo =
-            let h2 = sound-set N rows G q n (live (withProgress S (advance p r done))) hG (u .1) in
+            let h2 = sound-set N rows G q n (live (withProgress S (advance p r done))) hG (u .1) (same-key N rows hG eS refl refl) in
             let K : Behaviour → Session → Result = λ B2 S2. onWaitingRow q2 S2 (atRow r2 B2)
             (λ o2 x2. onTree (found (read c (S .tree))) (λ m. mustFit m (o2 .reply) (takeReply G2 q2 n2 r2 x2 m))) in
             by-session N rows claims G q2 n2 K

@@ -22,6 +22,7 @@ use Rattle.check_typing.specs.TypedLaws.{by-bool}
 use Rattle.tree_forest.specs.Limits.{messageLevelsBelow, messageNodesBelow}
 use Rattle.state.specs.Session.{Destination, Progress, undone, done, waits, received, taken, Session, Slot, free, live, State, setSlot}
 use Rattle.state.specs.Shape.{behaviourIn}
+use Rattle.state.specs.KeyLaws.{not-live, KeySuits, free-key, kept-key, set-apart}
 use Rattle.move_rules.specs.Evaluation.{Evaluation, missing, wrongKind, beyond, given}
 use Rattle.move_rules.specs.Moves.{Result, refused, moved, notAllowed, require, outOfRange, onEvaluation, onTree, rootValue, onBool, onTruth, onLive}
 use Rattle.move_rules.specs.Moves.{onBehaviour, onOperation, inSession, ifUndone, ifWaiting, onReceived, onMessage, isMessageTree, mustFit, Move}
@@ -32,7 +33,7 @@ use Rattle.soundness.specs.Texts.{TextOut}
 use Rattle.soundness.specs.Property3.{isBeyond, Causes22, sendsOrReplies}
 use Rattle.soundness.specs.GoodTrees.{GoodTree}
 use Rattle.soundness.specs.Accepted.{SmallType}
-use Rattle.soundness.specs.Invariant.{SessionSound, Sound}
+use Rattle.soundness.specs.Invariant.{SessionSound, KeySound, Sound}
 
 -- What is claimed of a move's refusals beside that none is 18: of a send or reply (`strict`) none is 19, and 22 has its cause.
 pub record Claims : Type 1 where
@@ -66,9 +67,6 @@ allowed-22 claims c = record { not18 = λ e. omega arith; not19 = λ t e. omega 
 
 pub live-inj : {a b : Session} → live a ≡ live b → a ≡ b
 live-inj h = cc
-
-pub not-live : {S : Session} → free ≡ live S → ⊥
-not-live h = let z : _≡_ {A = ℕ} 0 1 = cc in omega arith
 
 -- A slot of a state with one slot changed.
 pub set-elim : {X : Type 0} (G : State) (q n : ℕ) (x : Slot) (i j : ℕ) (y : Slot) → (i ≡ q → j ≡ n → x ≡ y → X) → (G i j ≡ y → X)
@@ -225,9 +223,37 @@ module _ (N : Network) (rows : ℕ) where
   SlotSound q n free = Unit {0}
   SlotSound q n (live S) = SessionSound N rows q n S
 
-  pub sound-set : (G : State) (q n : ℕ) (x : Slot) → Sound N rows G → SlotSound q n x → Sound N rows (setSlot G q n x)
-  sound-set G q n x h k = record { sessions = λ i j S. set-elim G q n x i j (live S) (go x k i j S) (h .sessions i j S) }
+  -- Its key: that of its session, and no other live session of the service holds it.
+  pub record SlotKey (G : State) (q n : ℕ) (x : Slot) : Type 0 where
+    pub own : (S : Session) → x ≡ live S → KeySound N q n (S .key) (S .queue)
+    pub suits : KeySuits N G q n x
+
+  pub free-slot : {G : State} {q n : ℕ} → SlotKey G q n free
+  free-slot = record { own = λ S e. absurd (not-live e); suits = free-key }
+
+  module _ {G : State} (h : Sound N rows G) {q n : ℕ} {S : Session} (e : G q n ≡ live S) where
+    -- The session R in the place of S, with the same key and another queue; with the same queue.
+    pub key-stays : {R : Session} → R .key ≡ S .key → KeySound N q n (R .key) (R .queue) → SlotKey G q n (live R)
+    key-stays {R} k s = record {
+      own = λ T f. subst (λ (z : Session). KeySound N q n (z .key) (z .queue)) (live-inj f) s;
+      suits = kept-key (λ i j T w g. h .keys i j T g .none w) (h .keysApart) e k;
+    }
+
+    pub same-key : {R : Session} → R .key ≡ S .key → R .queue ≡ S .queue → SlotKey G q n (live R)
+    same-key {R} k l =
+        key-stays k (subst (λ (x : ℕ). KeySound N q n x (R .queue)) (sym k) (subst (KeySound N q n (S .key)) (sym l) (h .keys q n S e)))
+
+  pub sound-set : (G : State) (q n : ℕ) (x : Slot) → Sound N rows G → SlotSound q n x → SlotKey G q n x → Sound N rows (setSlot G q n x)
+  sound-set G q n x h k s = record {
+    sessions = λ i j S. set-elim G q n x i j (live S) (go x k i j S) (h .sessions i j S);
+    keys = λ i j S. set-elim G q n x i j (live S) (key i j S) (h .keys i j S);
+    keysApart = set-apart q n x (s .suits) (h .keysApart);
+  }
     where
+      key : (i j : ℕ) (S : Session) → i ≡ q → j ≡ n → x ≡ live S → KeySound N i j (S .key) (S .queue)
+      key i j S a b e =
+          subst (λ (z : ℕ). KeySound N z j (S .key) (S .queue)) (sym a) (subst (λ (z : ℕ). KeySound N q z (S .key) (S .queue)) (sym b) (s .own S e))
+
       go : (x : Slot) → SlotSound q n x → (i j : ℕ) (S : Session) → i ≡ q → j ≡ n → x ≡ live S → SessionSound N rows i j S
       go free k i j S a b e = absurd (not-live e)
       go (live S2) k i j S a b e =

@@ -31,7 +31,7 @@ use Rattle.state.specs.Shape.{operationOfRow, suitsReply, suitsOperation}
 use Rattle.move_rules.specs.Readiness.{Reached, unreached, reached, offered, reach}
 use Rattle.move_rules.specs.Evaluation.{Evaluation, beyond, evaluate}
 use Rattle.move_rules.specs.Targets.{Target, noTarget, queueFull, queued, starts, target}
-use Rattle.move_rules.specs.Moves.{Result, moved, require, onTree, onOperation, onMessage, mustFit, deliver, goneOn, admit, sendInside}
+use Rattle.move_rules.specs.Moves.{Result, moved, require, onTree, onOperation, onMessage, mustFit, mustFind, deliver, goneOn, admit, sendInside}
 use Rattle.move_rules.specs.Moves.{sendOutside, sendBy, sendOutput, sendAt, sendReached, sendMove, isInputNamed, inputNamed, outerMessageMove}
 use Rattle.move_rules.specs.Moves.{send}
 use Rattle.soundness.specs.GoodTrees.{GoodTree}
@@ -44,7 +44,10 @@ use Rattle.network_syntax.specs.ViewLaws.{some-inj, output-is}
 use Rattle.soundness.specs.Invariant.{RepliesFit, SessionSound, Sound}
 use Rattle.soundness.specs.SessionLaws.{once-of, made-of, notification-sound, solicit-sound}
 use Rattle.soundness.specs.ResultLaws.{Claims, claimsOf, Keeps, keeps-15, by-require, by-undone, by-session, by-operation, by-message}
-use Rattle.soundness.specs.ResultLaws.{live-inj, set-elim, by-pick, keeps-tree, keeps-fit, outside-fit, sound-set}
+use Rattle.soundness.specs.ResultLaws.{live-inj, set-elim, by-pick, keeps-tree, keeps-fit, outside-fit, same-key, sound-set}
+use Rattle.soundness.specs.KeyedLaws.{KeyInfo, key-info}
+use Rattle.state.specs.KeyLaws.{keyIn}
+use Rattle.move_rules.specs.Keys.{findsSession}
 use Rattle.soundness.specs.TextLaws.{message-out}
 use Rattle.soundness.specs.Property3.{outputExpression, isBeyond, LeavesRange}
 use Rattle.soundness.specs.LocalLaws.{permits-one, permits-two, permits-output, message-good, leaves-range}
@@ -92,6 +95,27 @@ module _ (N : Network) (rows : ℕ) (acc : Accepted N rows) where
       (λ g. f S2 g) e2
   gone-info G q n S p2 e i k (starts c j a) f = f
 
+  -- The message's key by the target, then.
+  gone-key : (G : State) (q n : ℕ) (S : Session) (p2 : Progresses) → G q n ≡ live S → (i : Operation) (k : ℕ) (x : Tree Value) (t : Target)
+      → KeyInfo N i k x G t → KeyInfo N i k x (setSlot G q n (live (withProgress S p2))) t
+  gone-key G q n S p2 e i k x noTarget f = tt
+  gone-key G q n S p2 e i k x queueFull f = tt
+  gone-key G q n S p2 e i k x queued f = λ w. (
+    f w .0,
+    (λ S2 e2.
+        set-elim G q n (live (withProgress S p2)) (i .service) k (live S2)
+        (λ a b c. f w .1 S (subst (λ (z : ℕ). G z k ≡ live S) (sym a) (subst (λ (z : ℕ). G q z ≡ live S) (sym b) e)) ∙ ap some (ap keyIn c))
+        (λ g. f w .1 S2 g) e2),
+  )
+  gone-key G q n S p2 e i k x (starts c j a) f = λ w. (
+    f w .0,
+    f w .1,
+    (λ l S2 lo hi e2 y.
+        set-elim G q n (live (withProgress S p2)) (i .service) l (live S2)
+        (λ a b c. f w .2 l S lo hi (subst (λ (z : ℕ). G z l ≡ live S) (sym a) (subst (λ (z : ℕ). G q z ≡ live S) (sym b) e)) (ap keyIn c ∙ y))
+        (λ g. f w .2 l S2 lo hi g y) e2),
+  )
+
   module _ (G : State) (hG : Sound N rows G) (q n : ℕ) (S : Session) (eS : G q n ≡ live S) (h : SessionSound N rows q n S) (to : ℕ) where
     abbrev p : Progresses
     p = S .progress
@@ -103,7 +127,7 @@ module _ (N : Network) (rows : ℕ) (acc : Accepted N rows) where
         → Keeps N rows claims (sendBy N G q n S to r o e after back)
     send-by claims r o e after back fo dir g c hs dest =
         let G2 = goneOn G q n S r after in
-        let h2 = sound-set N rows G q n (live (withProgress S (advance p r after))) hG hs in
+        let h2 = sound-set N rows G q n (live (withProgress S (advance p r after))) hG hs (same-key N rows hG eS refl refl) in
         let fo2 = acc .operations (o .row) o fo in
         by-pick N rows claims (inFile N (o .location)) (onOperation (metInput N o) (sendInside N G q n S to r e after back))
         (sendOutside N G q n S to r o e after)
@@ -114,15 +138,18 @@ module _ (N : Network) (rows : ℕ) (acc : Accepted N rows) where
         let fi = acc .operations (i .row) i (m .ofFile) in
         let d = dest i m ag in
         let t = target N G i to in
-        let K : Tree Value → Result = λ x. mustFit x (i .request) (deliver G2 i to t back x) in
+        let D : Tree Value → Result = λ x. deliver N G2 i to t back x in
+        let K : Tree Value → Result = λ x. mustFit x (i .request) (mustFind N G i to x (D x)) in
         allowed-keeps N rows acc claims (i .service) t (onTree (evaluate (S .tree) e) K)
         (λ ad. keeps-tree N rows claims (evaluate (S .tree) e) K g cause
         (λ y k.
         let fit2 : Fits y (i .request) = subtype-trans (k .0) (ag .requests) in
-        keeps-fit N rows claims y (i .request) (deliver G2 i to t back y) (k .1) (fi .rising .0) (fi .smallRequest) fit2
-        (λ w. deliver-keeps N rows acc claims G2 h2 i to y back
+        keeps-fit N rows claims y (i .request) (mustFind N G i to y (D y)) (k .1) (fi .rising .0) (fi .smallRequest) fit2
+        (λ w. by-require N rows claims (findsSession N G i to y) (D y)
+        (λ kf. deliver-keeps N rows acc claims G2 h2 i to y back
         (record { ofFile = m .ofFile; suit = suit-of i back (m .isIn) (d .1); good = k .1; fit = fit2; destination = d .0 })
-        t (gone-info G q n S (advance p r after) eS i to t (target-info N rows acc G i to)) ad)))))
+        t (gone-info G q n S (advance p r after) eS i to t (target-info N rows acc G i to)) ad
+        (gone-key G q n S (advance p r after) eS i to y t (key-info N i to y G kf))))))))
         (λ outside.
         let K : Tree Value → Result = λ x. mustFit x (o .request) (moved G2 (messageBytes x)) in
         by-require N rows claims (eqb to 0) (onTree (evaluate (S .tree) e) K)
@@ -219,11 +246,12 @@ module _ (N : Network) (rows : ℕ) (acc : Accepted N rows) where
       and-l (isInputOperation (i .direction)) (eqb (i .id) id) (and-r (eqb (i .service) q) (isInputOperation (i .direction) && eqb (i .id) id) (u .2)) in
       let t = target N G i n in
       let back = pick (i .twoWay) (some (outsider number)) none in
-      let D : Tree Value → Result = λ m. mustFit m (i .request) (deliver G i n t back m) in
+      let D : Tree Value → Result = λ m. mustFit m (i .request) (mustFind N G i n m (deliver N G i n t back m)) in
       allowed-keeps N rows acc claims (i .service) t (onMessage (decodeMessage bytes) D)
       (λ ad. by-message N rows claims (decodeMessage bytes) D
-      (λ m em. outside-fit N rows claims lax m (i .request) (deliver G i n t back m)
-      (λ f. deliver-keeps N rows acc claims G hG i n m back
+      (λ m em. outside-fit N rows claims lax m (i .request) (mustFind N G i n m (deliver N G i n t back m))
+      (λ f. by-require N rows claims (findsSession N G i n m) (deliver N G i n t back m)
+      (λ kf. deliver-keeps N rows acc claims G hG i n m back
       (record {
         ofFile = of-file (u .0) i (u .1);
         suit = suit-of i back isIn (outside-pick (i .twoWay) number small);
@@ -231,4 +259,4 @@ module _ (N : Network) (rows : ℕ) (acc : Accepted N rows) where
         fit = subtype-sound (ownType m) (i .request) f;
         destination = outside-destination i (i .twoWay) number;
       })
-      t (target-info N rows acc G i n) ad))))
+      t (target-info N rows acc G i n) ad (key-info N i n m G kf))))))

@@ -24,7 +24,7 @@ use Rattle.check_typing.specs.Rules.{WellSorted}
 use Rattle.check_typing.specs.Typed.{Typed}
 use Rattle.check_typing.specs.TypedLaws.{by-bool, within-before}
 use Rattle.state.specs.Session.{Destination, Progress, Progresses, undone, done, waits, received, taken}
-use Rattle.state.specs.Session.{advance, reopen, Queued, Session, withTree, withQueue, withProgress}
+use Rattle.state.specs.Session.{advance, reopen, Queued, Session, withTree, withQueue, withProgress, withKey}
 use Rattle.state.specs.Shape.{behaviourIn, isDestination, undoneOrDone, undoneDoneOrWaits, undoneDoneOrReceived, undoneOrTaken, undoneDoneOrBody}
 use Rattle.state.specs.Shape.{branches, suits, suitsBranches}
 use Rattle.move_rules.specs.Readiness.{unlessDone, unlessWaits, unlessReceived, unlessTaken, thenOrElse, isDone, branchDone, rest, branchRest}
@@ -596,3 +596,21 @@ module _ (N : Network) (rows : ℕ) (acc : Accepted N rows) where
           few = queue-longer (S .queue) m 3 (omega arith);
           queued = queue-added N rows q (S .queue) m (h .queued) k;
         }
+
+-- The key has no part in it.
+pub with-key-sound : (N : Network) (rows q n : ℕ) (S : Session) (x : ℕ) → SessionSound N rows q n S → SessionSound N rows q n (withKey S x)
+with-key-sound N rows q n S x h = record {
+  what = h .what;
+  runs = h .runs;
+  last = h .last;
+  limit = h .limit;
+  clean = h .clean;
+  suit = h .suit;
+  quiet = h .quiet;
+  opened = h .opened;
+  replies = h .replies;
+  good = h .good;
+  well = h .well;
+  few = h .few;
+  queued = h .queued;
+}

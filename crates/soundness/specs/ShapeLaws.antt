@@ -19,7 +19,7 @@ use Rattle.soundness.specs.GoodTreesLaws.{proper-void}
 use Rattle.network.specs.Shapes.{Outside}
 use Rattle.soundness.specs.Accepted.{Accepted}
 use Rattle.soundness.specs.MadeLaws.{row-below}
-use Rattle.soundness.specs.Invariant.{AllQueued, SessionSound, Sound}
+use Rattle.soundness.specs.Invariant.{AllQueued, SessionSound, KeySound, Sound}
 use Rattle.soundness.specs.SessionLaws.{made-of, tree-limit}
 use Rattle.soundness.specs.DeliverLaws.{behaviour-place}
 
@@ -45,8 +45,8 @@ quiet-suits (suc n) p B h =
     (quiet-suits n p B h)
 
 module _ (N : Network) (rows : ℕ) (acc : Accepted N rows) where
-  session-made : (q n : ℕ) (S : Session) → SessionSound N rows q n S → WellMade S
-  session-made q n S h =
+  session-made : (q n : ℕ) (S : Session) → SessionSound N rows q n S → KeySound N q n (S .key) (S .queue) → WellMade S
+  session-made q n S h k =
       let w = tree-limit N rows acc q n S h in
       let F = S .tree in
       record {
@@ -61,6 +61,7 @@ module _ (N : Network) (rows : ℕ) (acc : Accepted N rows) where
         messages = all-messages N rows q (S .queue) (h .queued);
         noRowsPast = λ r past. h .quiet r (λ t. absurd (let z = row-below N rows (h .what) r (made-of N rows acc q n (h .what) (h .runs)) t in
             let y = acc .fewRows in omega arith));
+        keyFits = k .fits;
       }
 
   session-suits : (q n : ℕ) (S : Session) → SessionSound N rows q n S → suitsSlot N rows q n (live S) ≡ true
@@ -74,11 +75,17 @@ module _ (N : Network) (rows : ℕ) (acc : Accepted N rows) where
 
   pub sound-shape : (G : State) → Sound N rows G → HasShape N rows G
   sound-shape G h =
-      record { made = λ q n a b. made q n (G q n) refl; suited = λ q n a b. suited q n (G q n) refl; elsewhere = λ q n far. free-there q n far (G q n) refl }
+      record {
+        made = λ q n a b. made q n (G q n) refl;
+        suited = λ q n a b. suited q n (G q n) refl;
+        elsewhere = λ q n far. free-there q n far (G q n) refl;
+        keyless = λ q n S w e. h .keys q n S e .none w;
+        keysApart = h .keysApart;
+      }
     where
       made : (q n : ℕ) (x : Slot) → G q n ≡ x → MadeSlot x
       made q n free e = tt
-      made q n (live S) e = session-made q n S (h .sessions q n S e)
+      made q n (live S) e = session-made q n S (h .sessions q n S e) (h .keys q n S e)
 
       suited : (q n : ℕ) (x : Slot) → G q n ≡ x → suitsSlot N rows q n x ≡ true
       suited q n free e = refl

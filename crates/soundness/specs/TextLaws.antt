@@ -19,7 +19,7 @@ use Rattle.state.specs.Shape.{AllMessages, WellMade, MadeSlot, HasShape}
 use Rattle.state.specs.Bytes.{messageBytes}
 use Rattle.soundness.specs.Texts.{IsText, AllText, TextTree, TextQueue, TextOut, messageOut, replyOut}
 use Rattle.soundness.specs.Property3.{AllTexts}
-use Rattle.soundness.specs.ResultLaws.{not-live}
+use Rattle.state.specs.KeyLaws.{not-live}
 
 proper-text : (v : Value) → Proper v → IsText v
 proper-text v p e = string-utf8 (bytesOf v) (ap (λ (b : ℕ). isValue b (bytesOf v)) (sym e) ∙ p .valid)

@@ -14,7 +14,7 @@ use Rattle.wire.specs.Wire.{byteAt, u16At, u32At, part, u16Bytes, u32Bytes}
 use Rattle.tree.specs.Encode.{encode, rooted, empty}
 use Rattle.tree_forest.specs.Limits.{sessionLevels, sessionNodes}
 use Rattle.tree.specs.Decode.{decode, decodeMessage}
-use Rattle.state.specs.Places.{slotSize, treeRoom, messageRoom, entrySize, lengthPlace, treePlace, queuePlace, keptSize, slotStart, rowStart}
+use Rattle.state.specs.Places.{slotSize, treeRoom, messageRoom, entrySize, lengthPlace, keyPlace, treePlace, queuePlace, keptSize, slotStart, rowStart}
 use Rattle.state.specs.Session.{Destination, outsider, waitingRow, Progress, undone, done, waits, received}
 use Rattle.state.specs.Session.{taken, Progresses, Queued, Session, sessionOf, Slot, free, live, State}
 
@@ -87,9 +87,9 @@ rowsBytes p = joined (λ r. progressBytes (p r)) 0 256
 abbrev pub treeBytes : Forest Value → List ℕ
 treeBytes F = encode (rooted (tree empty F))
 
--- The head of a live slot, 16 bytes: 1, a byte kept 0, the tree's length as a u16, 12 bytes kept 0. HeadLaws has its laws.
+-- The head of a live slot, 16 bytes: 1, a byte kept 0, the tree's length as a u16, the key as a u32, 8 bytes kept 0. HeadLaws has its laws.
 unfoldable pub headBytes : Session → List ℕ
-headBytes S = (1 ∷ 0 ∷ u16Bytes (length (treeBytes (S .tree)))) ++ zeros 12
+headBytes S = (1 ∷ 0 ∷ u16Bytes (length (treeBytes (S .tree)))) ++ (u32Bytes (S .key) ++ zeros 8)
 
 -- A slot, 4,096 bytes: zeros if free. If live: its head, the tree in 1,024 bytes, four queue entries, 256 rows, 144 zeros (kept).
 unfoldable pub slotBytes : Slot → List ℕ
@@ -152,10 +152,15 @@ treeLength s at = u16At s (at + lengthPlace)
 abbrev pub readTree : List ℕ → ℕ → Forest Value
 readTree s at = childrenOf (decode sessionLevels sessionNodes (part s (at + treePlace) (treeLength s at)))
 
+-- The key in the slot that starts at `at`.
+abbrev pub readKey : List ℕ → ℕ → ℕ
+readKey s at = u32At s (at + keyPlace)
+
 -- The session in the slot that starts at `at`; rows past 255 have no progress.
 unfoldable pub readSession : List ℕ → ℕ → Session
 readSession s at =
     sessionOf (readTree s at) (readQueue s 4 (at + queuePlace)) (λ r. pick (ltb r 256) (readRow s at r) undone)
+    (readKey s at)
 
 -- The slot that starts at `at`.
 unfoldable pub readSlot : List ℕ → ℕ → Slot

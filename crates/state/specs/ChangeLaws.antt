@@ -13,16 +13,16 @@ use Rattle.scalar.specs.Value.{Value}
 use Rattle.wire.specs.Wire.{part, withPart}
 use Rattle.wire.specs.WireLaws.{length-part, length-withPart}
 use Rattle.state.specs.Places.{slotSize, headSize, treeRoom, messageRoom, entrySize, queueSize, rowSize}
-use Rattle.state.specs.Places.{lengthPlace, treePlace, queuePlace, rowsPlace, keptSize, slotStart, rowStart}
-use Rattle.state.specs.Session.{Progress, Progresses, advance, Queued, Session, withTree, withQueue, withProgress, Slot, live, State, setSlot}
+use Rattle.state.specs.Places.{lengthPlace, keyPlace, treePlace, queuePlace, rowsPlace, keptSize, slotStart, rowStart}
+use Rattle.state.specs.Session.{Progress, Progresses, advance, Queued, Session, withTree, withQueue, withProgress, withKey, Slot, live, State, setSlot}
 use Rattle.state.specs.Bytes.{zeros, padded, messageBytes, entryBytes, queueBytes, progressBytes}
 use Rattle.state.specs.Bytes.{rowsBytes, treeBytes, headBytes, slotBytes, slotAt, stateBytes, readSlot}
-use Rattle.wire.specs.Wire.{u16Bytes}
+use Rattle.wire.specs.Wire.{u16Bytes, u32Bytes}
 use Rattle.state.specs.Shape.{AllMessages, MadeSlot}
 use Rattle.state.specs.PartLaws.{take-past, drop-past, length-zeros, length-padded, holds-part, replace-middle}
 use Rattle.state.specs.PartLaws.{replace-rest, replace-first, replace-within, replace-both, replace-joined}
 use Rattle.state.specs.SizeLaws.{message-size, entry-size, progress-size, rows-size, SessionFits, Sized, sized-length}
-use Rattle.state.specs.HeadLaws.{head-size, head-tree, head-queue, head-progress}
+use Rattle.state.specs.HeadLaws.{head-size, head-tree, head-queue, head-progress, head-with-key}
 use Rattle.state.specs.ReadLaws.{read-slot, state-slot}
 
 -- ---- one slot of a state
@@ -140,6 +140,13 @@ module _ (S : Session) (f : SessionFits S) where
       let c = replace-middle (headBytes (withTree S F)) t rest new headSize (head-size (withTree S F))
       (length-padded treeRoom (treeBytes F) l ∙ sym (length-padded treeRoom (treeBytes (S .tree)) (f .treeFits))) in
       sym (ap (λ (x : List ℕ). withPart x treePlace new) (a ∙ b) ∙ c)
+
+  -- The key: 4 to 7.
+  pub change-key : (x : ℕ) → slotBytes (live (withKey S x)) ≡ withPart (slotBytes (live S)) keyPlace (u32Bytes x)
+  unfolding slotBytes
+  change-key x =
+      let rest = padded treeRoom (treeBytes (S .tree)) ++ (queueBytes 4 (S .queue) ++ (rowsBytes (S .progress) ++ zeros keptSize)) in
+      ap (λ (y : List ℕ). y ++ rest) (head-with-key S x) ∙ sym (replace-first (headBytes S) rest keyPlace (u32Bytes x) (omega (arith, head-size S)))
 
   -- What stands past the tree.
   past-tree : (b : List ℕ) (k : ℕ) (y : List ℕ)

@@ -28,7 +28,7 @@ unfolding encode rootCount
 assigned-bytes = refl
 
 pub moved-bytes : slotBytes (live movedSession)
-    ≡ (1 ∷ 0 ∷ 19 ∷ 0 ∷ []) ++ (zeros 12 ++ ((treeBytes assignedTree ++ zeros 1005)
+    ≡ (1 ∷ 0 ∷ 19 ∷ 0 ∷ 0 ∷ 0 ∷ 0 ∷ 0 ∷ []) ++ (zeros 8 ++ ((treeBytes assignedTree ++ zeros 1005)
     ++ (zeros queueSize ++ (withPart (zeros rowsSize) 0 (1 ∷ zeros 5) ++ zeros keptSize))))
 unfolding slotBytes headBytes encode rootCount progressBytes
 moved-bytes =

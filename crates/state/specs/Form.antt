@@ -41,9 +41,9 @@ unfoldable pub queueForm : List ℕ → ℕ → ℕ → Bool
 queueForm s at zero = true
 queueForm s at (suc n) = pick (eqb (byteAt s at) 0) (allZero s at (entrySize * suc n)) (entryForm s at && queueForm s (at + entrySize) n)
 
--- A live slot's head: the bytes that are kept 0. (Its tree's length is tested with the tree.)
+-- A live slot's head: the bytes that are kept 0. (Its tree's length is tested with the tree; any four bytes are a key.)
 unfoldable pub headForm : List ℕ → ℕ → Bool
-headForm s at = (eqb (byteAt s at) 1 && eqb (byteAt s (at + 1)) 0) && allZero s (at + 4) 12
+headForm s at = (eqb (byteAt s at) 1 && eqb (byteAt s (at + 1)) 0) && allZero s (at + 8) 8
 
 -- Its tree, of the length it says, and zeros.
 unfoldable pub treeForm : List ℕ → ℕ → Bool

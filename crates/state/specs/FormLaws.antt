@@ -12,7 +12,7 @@ use borrow.Author.Tests.{eq-eqb, ne-eqb, eqb-true, eqb-false, leb-true, le-leb, 
 use Rattle.tree_forest.specs.Forest.{Forest, tree, childrenOf}
 use Rattle.scalar.specs.Value.{Value}
 use Rattle.basics.specs.Choice.{pick}
-use Rattle.basics.specs.TestLaws.{agree, and-left, and-right}
+use Rattle.basics.specs.TestLaws.{agree, and-left, and-right, and-true, and-false}
 use Rattle.network_syntax.specs.Syntax.{Optional, none, some, Network}
 use Rattle.wire.specs.Wire.{byteAt, u16At, u32At, part}
 use Rattle.wire.specs.WireLaws.{length-part}
@@ -29,7 +29,7 @@ use Rattle.state.specs.Bytes.{zeros, joined, padded, replyKind, replyByt
 use Rattle.state.specs.Bytes.{rowsBytes, treeBytes, headBytes, slotBytes, slotAt, stateBytes, readDestination, readReply}
 use Rattle.state.specs.Bytes.{treeOr, readEntry, readQueue, readProgress, treeLength, readSession, readSlot, readState}
 use Rattle.wire.specs.Wire.{u16Bytes, u32Bytes}
-use Rattle.state.specs.Shape.{AllMessages, MadeSlot, suitsSlot, suitsServices, sameBytes, decodeState}
+use Rattle.state.specs.Shape.{AllMessages, MadeSlot, suitsSlot, suitsServices, suitsAllKeys, sameBytes, decodeState}
 use Rattle.state.specs.Form.{allZero, progressForm, rowsForm, entryForm, queueForm, headForm, treeForm, liveForm, slotForm, slotsStand, slotsForm}
 use Rattle.state.specs.PartLaws.{length-padded, HoldsAt, holds-first, holds-rest, holds-part}
 use Rattle.state.specs.SizeLaws.{message-size, session-tree-size, entry-size, reply-size, progress-size}
@@ -325,7 +325,7 @@ module _ (s : List ℕ) (o : Octets s) where
       let back = tree-back l (octets-part s (at + treePlace) n o) (and-left (isSessionTree l) z h5) in
       let h67 = and-right f5 (f6 && f7) h2 in
       record {
-        head = tested-head s o at (readSession s at) (omega arith) (and-left f1 f4 h1) (sym (ap length back ∙ length-part s (at + treePlace) n (omega arith)));
+        head = tested-head s o at (readSession s at) (omega arith) (and-left f1 f4 h1) (sym (ap length back ∙ length-part s (at + treePlace) n (omega arith))) refl;
         tree = rw back (padded-holds s o (at + treePlace) treeRoom n l (omega arith) small refl (and-right (isSessionTree l) z h5));
         queue = queue-holds s o (at + queuePlace) 4 (omega arith) (and-left f5 (f6 && f7) h2);
         rows = rows-hold s o _ (at + rowsPlace) 0 256 (omega arith) (λ k u. rw (zero-add k, lt-ltb k 256 u) refl) (and-left f6 f7 h67);
@@ -433,7 +433,9 @@ module _ (s : List ℕ) (o : Octets s) where
 
   -- So 14 is decided by tests of bytes and of what is read.
   pub decode-form : (N : Network) (rows : ℕ)
-      → decodeState N rows s ≡ pick (suitsServices N rows (readState s) 4 && (eqb (length s) 65536 && slotsForm s 16)) (some (readState s)) none
+      → decodeState N rows s
+      ≡ pick ((suitsServices N rows (readState s) 4 && suitsAllKeys N (readState s) 4) && (eqb (length s) 65536 && slotsForm s 16))
+      (some (readState s)) none
   unfolding decodeState
   decode-form N rows = rw same-form
 
@@ -481,15 +483,20 @@ module _ (N : Network) (rows : ℕ) (s : List ℕ) where
             all-form s 16 (λ k i. and-left (slotForm s (slotSize * k)) (suitsSlot N rows (k / 4) (k % 4) (readSlot s (slotSize * k))) (each-stands 16 h k i)),
           )
 
-  -- 14, slot by slot: the bytes stand for the state that is read from them, or for none.
-  pub decode-slots : Octets s → decodeState N rows s ≡ pick (eqb (length s) 65536 && slotsStand N rows s 16) (some (readState s)) none
+  -- 14, slot by slot, then the keys: the bytes stand for the state that is read from them, or for none.
+  pub decode-slots : Octets s
+      → decodeState N rows s
+      ≡ pick ((eqb (length s) 65536 && slotsStand N rows s 16) && suitsAllKeys N (readState s) 4) (some (readState s)) none
   decode-slots o =
+      let a = suitsServices N rows (readState s) 4 in
+      let k = suitsAllKeys N (readState s) 4 in
+      let b = eqb (length s) 65536 in
       decode-form s o N rows
       ∙ ap (λ (t : Bool). pick t (some (readState s)) none)
-      (swap (suitsServices N rows (readState s) 4) (eqb (length s) 65536) (slotsForm s 16) ∙ ap (λ (t : Bool). eqb (length s) 65536 && t) slots-both)
+      (swap a k b (slotsForm s 16) ∙ ap (λ (t : Bool). (b && t) && k) slots-both)
     where
-      swap : (a b c : Bool) → (a && (b && c)) ≡ (b && (a && c))
-      swap true true c = refl
-      swap true false c = refl
-      swap false true c = refl
-      swap false false c = refl
+      swap : (a k b c : Bool) → ((a && k) && (b && c)) ≡ ((b && (a && c)) && k)
+      swap true true b c = sym (and-true (b && c))
+      swap true false b c = sym (and-false (b && c))
+      swap false k true c = refl
+      swap false k false c = refl

@@ -17,7 +17,7 @@ use Rattle.network_syntax.specs.Rows.{rowOf, hasRow}
 use Rattle.tree.specs.Encode.{WellFormedTree, empty}
 use Rattle.tree_forest.specs.Limits.{messageLevelsBelow, messageNodesBelow, sessionLevels, sessionNodes}
 use Rattle.state.specs.Session.{Progress, undone, Progresses, advance, reopen, Queued, Session}
-use Rattle.state.specs.Session.{withTree, withQueue, withProgress, Slot, free, live, State, setSlot}
+use Rattle.state.specs.Session.{withTree, withQueue, withProgress, withKey, Slot, free, live, State, setSlot}
 use Rattle.state.specs.Shape.{isUndone, suits, quietElsewhere, suitsOperation, suitsQueue, operationOfRow}
 use Rattle.state.specs.Shape.{behaviourIn, suitsBehaviour, suitsSlot, AllMessages, WellMade, MadeSlot, HasShape}
 use Rattle.state.specs.RowShape.{suitsRow, PartOf, BranchRowOf, PartSuits}
@@ -126,13 +126,16 @@ remove-messages (c ∷ a) m b h = (h .0, remove-messages a m b (h .1))
 
 module _ {S : Session} (w : WellMade S) where
   pub made-tree : (F : Forest Value) → WellFormedTree sessionLevels sessionNodes (tree empty F) → WellMade (withTree S F)
-  made-tree F g = record { bounded = g; upToFour = w .upToFour; messages = w .messages; noRowsPast = w .noRowsPast }
+  made-tree F g = record { bounded = g; upToFour = w .upToFour; messages = w .messages; noRowsPast = w .noRowsPast; keyFits = w .keyFits }
 
   pub made-queue : (l : List Queued) → length l ≤ 4 → AllMessages l → WellMade (withQueue S l)
-  made-queue l h m = record { bounded = w .bounded; upToFour = h; messages = m; noRowsPast = w .noRowsPast }
+  made-queue l h m = record { bounded = w .bounded; upToFour = h; messages = m; noRowsPast = w .noRowsPast; keyFits = w .keyFits }
 
   pub made-progress : (p : Progresses) → ((i : ℕ) → 256 ≤ i → p i ≡ undone) → WellMade (withProgress S p)
-  made-progress p h = record { bounded = w .bounded; upToFour = w .upToFour; messages = w .messages; noRowsPast = h }
+  made-progress p h = record { bounded = w .bounded; upToFour = w .upToFour; messages = w .messages; noRowsPast = h; keyFits = w .keyFits }
+
+  pub made-key : (x : ℕ) → x < 0x100000000 → WellMade (withKey S x)
+  made-key x h = record { bounded = w .bounded; upToFour = w .upToFour; messages = w .messages; noRowsPast = w .noRowsPast; keyFits = h }
 
   pub made-row : (r : ℕ) (x : Progress) → r < 256 → WellMade (withProgress S (advance (S .progress) r x))
   made-row r x l = made-progress (advance (S .progress) r x) (advance-past (S .progress) r x l (w .noRowsPast))
@@ -182,20 +185,3 @@ set-elsewhere G h q n x i j k m o = set-other G q n x k m (λ u v. apart o u v) 
     apart : (4 ≤ k) ⊎ (4 ≤ m) → k ≡ q → m ≡ n → ⊥
     apart (inl o) u v = omega arith
     apart (inr o) u v = omega arith
-
-pub set-shape : {N : Network} {rows : ℕ} {G : State} → HasShape N rows G → (q n : ℕ) (x : Slot) → q < 4 → n < 4 → MadeSlot x → suitsSlot N rows q n x ≡ true
-    → HasShape N rows (setSlot G q n x)
-set-shape {N} {rows} {G} h q n x i j w e = record {
-  made = set-made G (h .made) q n x w;
-  suited = λ k m a b. suited k m a b (ℕ-discrete k q) (ℕ-discrete m n);
-  elsewhere = set-elsewhere G (h .elsewhere) q n x i j;
-}
-  where
-    suited : (k m : ℕ) → k < 4 → m < 4 → Dec (k ≡ q) → Dec (m ≡ n) → suitsSlot N rows k m (setSlot G q n x k m) ≡ true
-    suited k m a b (yes u) (yes v) = rw (u, v, slot-same G q n x) e
-    suited k m a b (yes u) (no v) = rw (set-other G q n x k m (λ _ y. v y)) (h .suited k m a b)
-    suited k m a b (no u) v = rw (set-other G q n x k m (λ y _. u y)) (h .suited k m a b)
-
--- Closing a session.
-pub free-shape : {N : Network} {rows : ℕ} {G : State} → HasShape N rows G → (q n : ℕ) → q < 4 → n < 4 → HasShape N rows (setSlot G q n free)
-free-shape h q n i j = set-shape h q n free i j tt refl

@@ -7,6 +7,7 @@ pub mod HoldLaws
 pub mod HeadLaws
 pub mod SizeLaws
 pub mod ReadLaws
+pub mod KeyLaws
 pub mod ShapeLaws
 pub mod ChangeLaws
 pub mod RowShape

@@ -26,7 +26,7 @@ use Rattle.state.specs.Session.{Destination, outsider, waitingRow, Progr
 use Rattle.state.specs.Session.{received, taken, Progresses, Queued, Session, Slot, free, live, State}
 use Rattle.state.specs.Bytes.{zeros, joined, padded, destinationBytes, replyKind, replyBytes, messageBytes, entryBytes}
 use Rattle.state.specs.Bytes.{queueBytes, progressBytes, rowsBytes, treeBytes, headBytes, slotBytes, slotAt, stateBytes}
-use Rattle.wire.specs.Wire.{u16Bytes}
+use Rattle.wire.specs.Wire.{u16Bytes, u32Bytes}
 use Rattle.state.specs.Shape.{isDestination, suitsReply, isUndone, undoneOrDone, undoneDoneOrWaits, undoneDoneOrReceived}
 use Rattle.state.specs.Shape.{undoneOrTaken, undoneDoneOrBody, branches, suits, quietElsewhere, suitsOperation, suitsQueue}
 use Rattle.state.specs.Shape.{operationOfRow, behaviourIn, suitsBehaviour, suitsSlot, AllMessages, WellMade, MadeSlot, HasShape}
@@ -65,6 +65,9 @@ octets-joined f k (suc n) h =
 octets-u16 : (v : ℕ) → v < 65536 → Octets (u16Bytes v)
 octets-u16 v h = octets-cons (omega arith) (octets-cons (omega arith) octets-nil)
 
+octets-u32 : (v : ℕ) → v < 0x100000000 → Octets (u32Bytes v)
+octets-u32 v h = octets-cons (omega arith) (octets-cons (omega arith) (octets-cons (omega arith) (octets-cons (omega arith) octets-nil)))
+
 -- ---- trees
 
 node-octets : (i b : ℕ) (v : List ℕ) (ks : Forest Value) (t : List ℕ) → i < 65536 → Proper (value b v) → nodes ks < 256 → Octets t
@@ -90,9 +93,7 @@ module _ {N : Network} {rows : ℕ} (w : WithinLimits N rows) where
   -- ---- where replies go
 
   destination-octets : (d : Destination) → isDestination N rows d ≡ true → Octets (destinationBytes d)
-  destination-octets (outsider k) h =
-      let l : k < 4294967296 = ltb-true k 4294967296 h in
-      octets-cons (omega arith) (octets-cons (omega arith) (octets-cons (omega arith) (octets-cons (omega arith) octets-nil)))
+  destination-octets (outsider k) h = octets-u32 k (ltb-true k 0x100000000 h)
   destination-octets (waitingRow q n r) h =
       let a = ltb-true q (length (N .services)) (and-left (ltb q (length (N .services))) (leb n 3 && ltb r rows) h) in
       let h′ = and-right (ltb q (length (N .services))) (leb n 3 && ltb r rows) h in
@@ -238,11 +239,12 @@ module _ {N : Network} {rows : ℕ} (w : WithinLimits N rows) where
 
   -- ---- slots and states
 
-  head-octets : (S : Session) → length (treeBytes (S .tree)) < 65536 → Octets (headBytes S)
+  head-octets : (S : Session) → length (treeBytes (S .tree)) < 65536 → S .key < 0x100000000 → Octets (headBytes S)
   unfolding headBytes
-  head-octets S l =
-      octets-append (1 ∷ 0 ∷ u16Bytes (length (treeBytes (S .tree)))) (zeros 12)
-      (octets-cons (omega arith) (octets-cons (omega arith) (octets-u16 (length (treeBytes (S .tree))) l))) (octets-zeros 12)
+  head-octets S l k =
+      octets-append (1 ∷ 0 ∷ u16Bytes (length (treeBytes (S .tree)))) (u32Bytes (S .key) ++ zeros 8)
+      (octets-cons (omega arith) (octets-cons (omega arith) (octets-u16 (length (treeBytes (S .tree))) l)))
+      (octets-append (u32Bytes (S .key)) (zeros 8) (octets-u32 (S .key) k) (octets-zeros 8))
 
   live-octets : (q n : ℕ) (S : Session) (B : Behaviour) → behaviourIn N q n ≡ some B → WellMade S → suitsBehaviour N rows q S (some B) ≡ true
       → Octets (slotBytes (live S))
@@ -253,7 +255,7 @@ module _ {N : Network} {rows : ℕ} (w : WithinLimits N rows) where
       let u = suits N rows (S .progress) B in
       let v = quietElsewhere 256 (S .progress) B in
       let h′ = and-right s (u && v) h in
-      octets-append (headBytes S) _ (head-octets S (omega (arith, session-tree-size (S .tree) (f .bounded))))
+      octets-append (headBytes S) _ (head-octets S (omega (arith, session-tree-size (S .tree) (f .bounded))) (f .keyFits))
       (octets-append (padded treeRoom t) _
       (octets-append t (zeros (treeRoom - length t)) (tree-octets sessionLevels sessionNodes (tree empty (S .tree)) (omega arith) (f .bounded))
       (octets-zeros (treeRoom - length t)))

@@ -34,9 +34,12 @@ rowSize = 6
 abbrev pub rowsSize : ℕ
 rowsSize = 256 * rowSize
 
--- Where in a slot the tree's length stands, the tree, the queue (1,040), the rows (2,416), and the bytes after them (3,952).
+-- Where in a slot the tree's length stands, the key, the tree, the queue (1,040), the rows (2,416), and the bytes after them (3,952).
 abbrev pub lengthPlace : ℕ
 lengthPlace = 2
+
+abbrev pub keyPlace : ℕ
+keyPlace = 4
 
 abbrev pub treePlace : ℕ
 treePlace = headSize

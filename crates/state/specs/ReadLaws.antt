@@ -31,7 +31,7 @@ use Rattle.wire.specs.Wire.{u16Bytes, u32Bytes}
 use Rattle.state.specs.Shape.{AllMessages, WellMade, MadeSlot, HasShape, Stands}
 use Rattle.state.specs.PartLaws.{length-padded, HoldsAt, holds-whole, holds-first, holds-rest, holds-part, holds-joined}
 use Rattle.state.specs.HoldLaws.{holds-head, holds-tail, holds-zeros, holds-u16, holds-u32}
-use Rattle.state.specs.HeadLaws.{head-size, head-live, head-length}
+use Rattle.state.specs.HeadLaws.{head-size, head-live, head-length, head-key}
 use Rattle.state.specs.SizeLaws.{message-size, entry-size, reply-size, progress-size, rows-size, SessionFits, made-fits, Sized, shape-sized}
 
 -- ---- where replies go
@@ -155,9 +155,9 @@ slot-parts {s} {at} S f h =
 pub read-tree : (F : Forest Value) → WellFormedTree sessionLevels sessionNodes (tree empty F) → childrenOf (decode sessionLevels sessionNodes (treeBytes F)) ≡ F
 read-tree F w = ap childrenOf (decode-complete sessionLevels sessionNodes (treeBytes F) (tree empty F) (record { bytes = refl; good = w }))
 
-same-session : (S : Session) {F : Forest Value} {l : List Queued} {p : Progresses} → F ≡ S .tree → l ≡ S .queue → p ≡ S .progress
-    → sessionOf F l p ≡ S
-same-session S e f g = λ i. sessionOf (e i) (f i) (g i)
+same-session : (S : Session) {F : Forest Value} {l : List Queued} {p : Progresses} {x : ℕ} → F ≡ S .tree → l ≡ S .queue → p ≡ S .progress
+    → x ≡ S .key → sessionOf F l p x ≡ S
+same-session S e f g h = λ i. sessionOf (e i) (f i) (g i) (h i)
 
 -- The six bytes of the row r.
 pub holds-row : {s : List ℕ} {at : ℕ} (p : Progresses) → HoldsAt s at (rowsBytes p) → (r : ℕ) → r < 256 → HoldsAt s (at + rowSize * r) (progressBytes (p r))
@@ -183,6 +183,7 @@ read-session {s} {at} S w h =
     (rw (head-length S (p .head), holds-part (holds-first t _ (p .tree)) (length t) refl) (read-tree (S .tree) (w .bounded)))
     (read-queue 4 (S .queue) (w .upToFour) (w .messages) (p .queue))
     (read-rows at (S .progress) (w .noRowsPast) (p .rows))
+    (head-key S (p .head))
 
 pub read-slot : {s : List ℕ} {at : ℕ} (x : Slot) → MadeSlot x → HoldsAt s at (slotBytes x) → readSlot s at ≡ x
 unfolding readSlot slotBytes

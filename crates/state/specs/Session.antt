@@ -46,11 +46,12 @@ pub record Queued : Type 0 where
   pub replyTo : Optional Destination
 
 -- A live session: 01's "A session that isn't free is *live*". The tree is written without its void root; the queue has the
--- oldest message first.
+-- oldest message first. The key is an int as a u32 (02: "A started session keeps the key of its first message"), 0 in a session that holds none.
 pub record Session : Type 0 where
   pub tree : Forest Value
   pub queue : List Queued
   pub progress : Progresses
+  pub key : ℕ
 
 pub data Slot : Type 0 where
   free : Slot
@@ -64,20 +65,23 @@ State = ℕ → ℕ → Slot
 abbrev pub setSlot : State → ℕ → ℕ → Slot → State
 setSlot G q n x = λ i j. pick (eqb i q) (pick (eqb j n) x (G i j)) (G i j)
 
--- A session by its parts. Sessions are made by this and changed by the next three, so that a new part is added to these.
-abbrev pub sessionOf : Forest Value → List Queued → Progresses → Session
-sessionOf F l p = record { tree = F; queue = l; progress = p }
+-- A session by its parts. Sessions are made by this and changed by the next four, so that a new part is added to these.
+abbrev pub sessionOf : Forest Value → List Queued → Progresses → ℕ → Session
+sessionOf F l p x = record { tree = F; queue = l; progress = p; key = x }
 
--- The session with another tree; with another queue; with another progress.
+-- The session with another tree; with another queue; with another progress; with another key.
 abbrev pub withTree : Session → Forest Value → Session
-withTree S F = record { tree = F; queue = S .queue; progress = S .progress }
+withTree S F = sessionOf F (S .queue) (S .progress) (S .key)
 
 abbrev pub withQueue : Session → List Queued → Session
-withQueue S l = record { tree = S .tree; queue = l; progress = S .progress }
+withQueue S l = sessionOf (S .tree) l (S .progress) (S .key)
 
 abbrev pub withProgress : Session → Progresses → Session
-withProgress S p = record { tree = S .tree; queue = S .queue; progress = p }
+withProgress S p = sessionOf (S .tree) (S .queue) p (S .key)
 
--- A session in which nothing was done: an empty tree and queue, every row undone.
+abbrev pub withKey : Session → ℕ → Session
+withKey S x = sessionOf (S .tree) (S .queue) (S .progress) x
+
+-- A session in which nothing was done: an empty tree and queue, every row undone, no key.
 abbrev pub newSession : Session
-newSession = sessionOf end [] (λ i. undone)
+newSession = sessionOf end [] (λ i. undone) 0

@@ -6,7 +6,7 @@ use mathlib.Core.Bool.{Bool, true, false, not, _&&_, _||_}
 use mathlib.Core.List.{List, [], _∷_}
 use mathlib.Core.Logic.{_⊎_}
 use Prim.Native.Nat.{ℕ, zero, suc, _≤_, _<_}
-use lib.Dec.{eqb, leb, ltb}
+use lib.Dec.{T, eqb, leb, ltb}
 use lib.ListN.{length}
 use Rattle.tree_forest.specs.Forest.{tree}
 use Rattle.basics.specs.Choice.{pick}
@@ -14,6 +14,7 @@ use Rattle.network_syntax.specs.Syntax.{Optional, none, some, Service, Network,
 use Rattle.network_syntax.specs.Syntax.{nil, oneWay, requestResponse, notification, solicitResponse}
 use Rattle.network_syntax.specs.Syntax.{ifThenElse, whileDo, sequence, parallel, assign, choice, waiting, answering, Branches, lastBranch, branch}
 use Rattle.network_syntax.specs.Rows.{hasRow, entry, isInputOperation}
+use Rattle.network_syntax.specs.Keys.{isKeyed, holdsKey}
 use Rattle.tree.specs.Encode.{WellFormedTree, empty}
 use Rattle.tree_forest.specs.Limits.{messageLevelsBelow, messageNodesBelow, sessionLevels, sessionNodes}
 use Rattle.state.specs.Session.{Destination, outsider, waitingRow, Progress, undone, done, waits, received, taken, Progresses}
@@ -164,22 +165,35 @@ AllMessages [] = Unit {0}
 AllMessages (m ∷ l) = WellFormedTree messageLevelsBelow messageNodesBelow (m .message) × AllMessages l
 
 -- What a live session is in any file: a tree within "48 nodes or 6 levels", "a queue of up to four messages", and progress of the rows
--- that a file can have.
+-- that a file can have; a key is an int's four bytes.
 pub record WellMade (S : Session) : Type 0 where
   pub bounded : WellFormedTree sessionLevels sessionNodes (tree empty (S .tree))
   pub upToFour : length (S .queue) ≤ 4
   pub messages : AllMessages (S .queue)
   pub noRowsPast : (r : ℕ) → 256 ≤ r → S .progress r ≡ undone
+  pub keyFits : S .key < 0x100000000
 
 abbrev pub MadeSlot : Slot → Type 0
 MadeSlot free = Unit {0}
 MadeSlot (live S) = WellMade S
 
--- "this file's shape": each slot of the services and sessions 0 to 3 is free, or live with what suits what it runs; every other is free.
+-- 02: "no two live sessions of a service hold one key". Only sessions 1 to 3 of a keyed service hold one.
+abbrev pub KeysApart : Network → State → Type 0
+KeysApart N G =
+    (q n m : ℕ) (S R : Session) → T (holdsKey N q n) → T (holdsKey N q m) → G q n ≡ live S → G q m ≡ live R
+    → S .key ≡ R .key → n ≡ m
+
+abbrev pub NoKeyElsewhere : Network → State → Type 0
+NoKeyElsewhere N G = (q n : ℕ) (S : Session) → holdsKey N q n ≡ false → G q n ≡ live S → S .key ≡ 0
+
+-- "this file's shape": each slot of the services and sessions 0 to 3 is free, or live with what suits what it runs; every other is free;
+-- 02: "a state in which two do is 14".
 pub record HasShape (N : Network) (rows : ℕ) (G : State) : Type 0 where
   pub made : (q n : ℕ) → q < 4 → n < 4 → MadeSlot (G q n)
   pub suited : (q n : ℕ) → q < 4 → n < 4 → suitsSlot N rows q n (G q n) ≡ true
   pub elsewhere : (q n : ℕ) → (4 ≤ q) ⊎ (4 ≤ n) → G q n ≡ free
+  pub keyless : NoKeyElsewhere N G
+  pub keysApart : KeysApart N G
 
 -- The bytes s stand for the state G of this file's shape.
 pub record Stands (N : Network) (rows : ℕ) (s : List ℕ) (G : State) : Type 0 where
@@ -193,11 +207,32 @@ sameBytes [] (b ∷ t) = false
 sameBytes (a ∷ s) [] = false
 sameBytes (a ∷ s) (b ∷ t) = eqb a b && sameBytes s t
 
+-- The session of a slot, if it is live, has no key; those of two slots, if both are live, have different ones.
+abbrev pub hasNoKey : Slot → Bool
+hasNoKey free = true
+hasNoKey (live S) = eqb (S .key) 0
+
+abbrev pub keysDiffer : Slot → Slot → Bool
+keysDiffer free y = true
+keysDiffer (live S) free = true
+keysDiffer (live S) (live R) = not (eqb (S .key) (R .key))
+
+-- The keys of the sessions of a service, which is keyed or not.
+abbrev pub suitsKeys : Bool → (ℕ → Slot) → Bool
+suitsKeys true g = hasNoKey (g 0) && (keysDiffer (g 1) (g 2) && (keysDiffer (g 1) (g 3) && keysDiffer (g 2) (g 3)))
+suitsKeys false g = hasNoKey (g 0) && (hasNoKey (g 1) && (hasNoKey (g 2) && hasNoKey (g 3)))
+
+-- Those of the services 0 to q - 1.
+unfoldable pub suitsAllKeys : Network → State → ℕ → Bool
+suitsAllKeys N G zero = true
+suitsAllKeys N G (suc q) = suitsKeys (isKeyed N q) (G q) && suitsAllKeys N G q
+
 -- The state that the bytes stand for, if they stand for one: what is read has the shape, and its byte form is these bytes.
 -- `rows` is the file's number of B rows.
 unfoldable pub decodeState : Network → ℕ → List ℕ → Optional State
 decodeState N rows s =
-    pick (suitsServices N rows (readState s) 4 && sameBytes (stateBytes (readState s)) s) (some (readState s)) none
+    let G = readState s in
+    pick ((suitsServices N rows G 4 && suitsAllKeys N G 4) && sameBytes (stateBytes G) s) (some G) none
 
 -- Fresh state: "clients live in session 0, all else free".
 abbrev pub freshSlot : Optional Behaviour → Slot

@@ -25,14 +25,16 @@ use Rattle.tree_forest.specs.Limits.{messageLevelsBelow, messageNodesBelow, ses
 use Rattle.tree.specs.Decode.{decode, decodeMessage}
 use Rattle.tree.specs.EncodeLaws.{octets-part, empty-proper}
 use Rattle.tree.specs.DecodeLaws.{decode-sound}
-use Rattle.state.specs.Places.{entrySize, treePlace, queuePlace, slotStart}
-use Rattle.state.specs.Session.{undone, free, live, State, newSession}
+use Rattle.wire.specs.WireLaws.{u32-below}
+use Rattle.state.specs.Places.{entrySize, keyPlace, treePlace, queuePlace, slotStart}
+use Rattle.state.specs.Session.{undone, Session, Slot, free, live, State, newSession}
 use Rattle.state.specs.Bytes.{stateBytes, treeOr, readEntry, readQueue, treeLength, readSession, readSlot, readState}
 use Rattle.state.specs.Shape.{suitsSlot, suitsSlots, suitsServices, AllMessages, WellMade, MadeSlot}
 use Rattle.state.specs.Shape.{HasShape, Stands, sameBytes, decodeState, serviceOfRow, clientOf, suitsBehaviour}
-use Rattle.state.specs.Shape.{suitsQueue, suits, suitsBranches, quietElsewhere, freshSlot, freshState}
+use Rattle.state.specs.Shape.{suitsQueue, suits, suitsBranches, quietElsewhere, suitsAllKeys, freshSlot, freshState}
 use Rattle.state.specs.SizeLaws.{state-length}
 use Rattle.state.specs.ReadLaws.{read-state}
+use Rattle.state.specs.KeyLaws.{keyIn, not-live, held-first, suit-keys, keys-none, keys-apart}
 
 -- ---- what is read is well made
 
@@ -86,6 +88,7 @@ module _ (s : List ℕ) (o : Octets s) where
         upToFour = queue-length 4 (at + queuePlace);
         messages = queue-made 4 (at + queuePlace);
         noRowsPast = λ r h. rw (le-ltb r 256 h);
+        keyFits = u32-below s (at + keyPlace) (o .small);
       }
 
   pub slot-made : (at : ℕ) → MadeSlot (readSlot s at)
@@ -158,15 +161,19 @@ unfolding decodeState
 decode-state-complete {N} {rows} {s} {G} h =
     let r : readState s ≡ G = ap readState (h .bytes) ∙ read-state (h .shape) in
     let a : suitsServices N rows G 4 ≡ true = suit-services N rows G 4 (h .shape .suited) in
+    let k : suitsAllKeys N G 4 ≡ true = suit-keys N G (h .shape .keyless) (h .shape .keysApart) 4 in
     let b : sameBytes (stateBytes G) s ≡ true = rw (h .bytes) (same-true (stateBytes G)) in
-    rw (r, a, b)
+    rw (r, a, k, b)
 
-read-shape : (N : Network) (rows : ℕ) (s : List ℕ) → Octets s → suitsServices N rows (readState s) 4 ≡ true → HasShape N rows (readState s)
+read-shape : (N : Network) (rows : ℕ) (s : List ℕ) → Octets s → suitsServices N rows (readState s) 4 ≡ true → suitsAllKeys N (readState s) 4 ≡ true
+    → HasShape N rows (readState s)
 unfolding readState
-read-shape N rows s o e = record {
+read-shape N rows s o e k = record {
   made = λ q n i j. rw (lt-ltb q 4 i, lt-ltb n 4 j) (slot-made s o (slotStart q n));
   suited = services-suit N rows (readState s) 4 e;
   elsewhere = outside;
+  keyless = keys-none N (readState s) outside k;
+  keysApart = keys-apart N (readState s) outside k;
 }
   where
     inside : (q n : ℕ) → Dec (q < 4) → 4 ≤ n → pick (ltb q 4 && ltb n 4) (readSlot s (slotStart q n)) free ≡ free
@@ -186,10 +193,13 @@ pub decode-state-sound : {N : Network} {rows : ℕ} {s : List ℕ} {G : State} �
 unfolding decodeState
 decode-state-sound {N} {rows} {s} {G} o e =
     let R = readState s in
-    let p = picked (suitsServices N rows R 4 && sameBytes (stateBytes R) s) R G e in
-    let a = and-left (suitsServices N rows R 4) (sameBytes (stateBytes R) s) (p .0) in
-    let b = and-right (suitsServices N rows R 4) (sameBytes (stateBytes R) s) (p .0) in
-    subst (Stands N rows s) (p .1) (record { shape = read-shape N rows s o a; bytes = sym (same-equal (stateBytes R) s b) })
+    let x = suitsServices N rows R 4 in
+    let y = suitsAllKeys N R 4 in
+    let z = sameBytes (stateBytes R) s in
+    let p = picked ((x && y) && z) R G e in
+    let f = and-left (x && y) z (p .0) in
+    let shape = read-shape N rows s o (and-left x y f) (and-right x y f) in
+    subst (Stands N rows s) (p .1) (record { shape = shape; bytes = sym (same-equal (stateBytes R) s (and-right (x && y) z (p .0))) })
 
 -- ---- one byte form
 
@@ -252,7 +262,7 @@ mutual
 
 pub new-made : WellMade newSession
 unfolding AllMessages
-new-made = record { bounded = end-well-formed sessionLevels sessionNodes; upToFour = omega arith; messages = tt; noRowsPast = λ r h. refl }
+new-made = record { bounded = end-well-formed sessionLevels sessionNodes; upToFour = omega arith; messages = tt; noRowsPast = λ r h. refl; keyFits = omega arith }
 
 pub new-suits : (N : Network) (rows q : ℕ) (B : Behaviour) → suitsBehaviour N rows q newSession (some B) ≡ true
 unfolding suitsQueue
@@ -271,8 +281,18 @@ fresh-shape N rows few = record {
   made = λ q n i j. made q n (eqb n 0);
   suited = λ q n i j. suited q n (ℕ-discrete n 0);
   elsewhere = λ q n e. elsewhere q n e;
+  keyless = λ q n S h e. no-key q n S (eqb n 0) (clientOf (serviceOfRow (N .services) q)) e;
+  keysApart = λ q n m S R a b e f g. absurd (not-first q n S (held-first N q n a) e);
 }
   where
+    no-key : (q n : ℕ) (S : Session) (t : Bool) (b : Optional Behaviour) → pick t (freshSlot b) free ≡ live S → S .key ≡ 0
+    no-key q n S true none e = absurd (not-live e)
+    no-key q n S true (some B) e = sym (ap (λ (x : Slot). keyIn x) e)
+    no-key q n S false b e = absurd (not-live e)
+
+    not-first : (q n : ℕ) (S : Session) → 1 ≤ n → freshState N q n ≡ live S → ⊥
+    not-first q n S i e = not-live (sym (rw (ne-eqb n 0 (λ z. omega arith)) refl) ∙ e)
+
     slot-made : (b : Optional Behaviour) → MadeSlot (freshSlot b)
     slot-made none = tt
     slot-made (some B) = new-made

@@ -274,7 +274,7 @@ module _ (s : List ℕ) (at v w : ℕ) (f : v ≡ treeLength s at) (g : w ≡ v)
 
 pub ruleset tree-laws = (tree-long, tree-not, tree-padded)
 
-pub head-is : (s : List ℕ) (at a b : ℕ) (x y r : Bool) → a ≡ byteAt s at → b ≡ byteAt s (at + 1) → x ≡ (eqb a 1 && eqb b 0) → y ≡ allZero s (at + 4) 12
+pub head-is : (s : List ℕ) (at a b : ℕ) (x y r : Bool) → a ≡ byteAt s at → b ≡ byteAt s (at + 1) → x ≡ (eqb a 1 && eqb b 0) → y ≡ allZero s (at + 8) 8
     → r ≡ (x && y) → r ≡ headForm s at
 unfolding headForm
 head-is s at a b x y r e f g h i = i ∙ rw (g, h, e, f)

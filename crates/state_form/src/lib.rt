@@ -177,7 +177,7 @@ fn head_form(s: &[u8], at: usize) -> bool
     ensures { λ r. ⌜ r ≡ headForm (now (s .entry)) at ⌝ }
 {
     let flags = network_layout::both(wire::byte_at(s, at) == 1, wire::byte_at(s, at + 1) == 0);
-    network_layout::both(flags, all_zero(s, at + 4, 12))
+    network_layout::both(flags, all_zero(s, at + 8, 8))
 }
 
 // A live slot.

@@ -1,2 +1,3 @@
 pub mod QueueLaws
 pub mod StandLaws
+pub mod KeyLaws

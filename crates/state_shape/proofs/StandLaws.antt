@@ -21,7 +21,7 @@ use Rattle.network.specs.Decode.{serviceOf, rowsFrom, networkOf, behaviourOf, o
 use Rattle.network.specs.RowLaws.{service-kept}
 use Rattle.state.specs.Places.{slotSize, queuePlace, rowsPlace}
 use Rattle.state.specs.Bytes.{readQueue, readSession, readSlot, readState}
-use Rattle.state.specs.Shape.{serviceOfRow, behaviourIn, suits, quietElsewhere, suitsQueue, suitsBehaviour, decodeState}
+use Rattle.state.specs.Shape.{serviceOfRow, behaviourIn, suits, quietElsewhere, suitsQueue, suitsBehaviour, suitsAllKeys, decodeState}
 use Rattle.state.specs.Form.{slotForm, slotsStand}
 use Rattle.state.specs.FormLaws.{decode-slots}
 use Rattle.state_rows.specs.Marks.{RowsOf}
@@ -37,7 +37,7 @@ service-row f zero first q h = absurd (omega arith)
 service-row f (suc n) first zero h = rw (add-zero first)
 service-row f (suc n) first (suc q) h = let e : suc first + q ≡ first + suc q = omega arith in service-row f n (suc first) q (omega arith) ∙ rw e
 
-no-service : (f : ℕ → Service) (n first q : ℕ) → n ≤ q → serviceOfRow (rowsFrom f first n) q ≡ none
+pub no-service : (f : ℕ → Service) (n first q : ℕ) → n ≤ q → serviceOfRow (rowsFrom f first n) q ≡ none
 unfolding entry rowsFrom
 no-service f zero first q h = refl
 no-service f (suc n) first zero h = absurd (omega arith)
@@ -161,7 +161,10 @@ module _ (file s : List ℕ) (k : ℕ) (c : Upward file s k) where
   upward-next x h t f = record { few = omega (arith, c .few); same = λ w. slot-more w x h t ∙ rw (not-false x f) }
 
 module _ (file s : List ℕ) (o : Octets s) where
-  told : (x : Bool) → (WellFormed file → (eqb (length s) 65536 && slotsStand (networkOf file) (behaviourCount file) s 16) ≡ x) → Tells file s x
+  told : (x : Bool)
+      → (WellFormed file
+      → ((eqb (length s) 65536 && slotsStand (networkOf file) (behaviourCount file) s 16) && suitsAllKeys (networkOf file) (readState s) 4) ≡ x)
+      → Tells file s x
   unfolding standsFor
   told x e = record { tells = λ w. by x ∙ ap isSome (sym (decoded w)); decodes = decoded }
     where
@@ -177,14 +180,14 @@ module _ (file s : List ℕ) (o : Octets s) where
 
   module _ (k : ℕ) (h : length s ≡ 65536) (c : Upward file s k) where
     pub stands-not : (x : Bool) → 0 < k → SlotTells file s (k - 1) x → not x ≡ true → Tells file s false
-    stands-not x i t f = told false (λ w. rw (eq-eqb (length s) 65536 h) (slot-more file s k c w x i t ∙ rw (not-true x f)))
+    stands-not x i t f = told false (λ w. rw (eq-eqb (length s) 65536 h, slot-more file s k c w x i t, not-true x f))
 
-    pub stands-all : k ≤ 0 → Tells file s true
+    pub stands-keys : (x : Bool) → k ≤ 0 → x ≡ suitsAllKeys (networkOf file) (readState s) 4 → Tells file s x
     unfolding slotsStand
-    stands-all i =
+    stands-keys x i e =
         let z : k ≡ 0 = omega arith in
-        told true (λ w. rw (eq-eqb (length s) 65536 h) (c .same w ∙ ap (slotsStand (networkOf file) (behaviourCount file) s) z))
+        told x (λ w. rw (eq-eqb (length s) 65536 h, c .same w ∙ ap (slotsStand (networkOf file) (behaviourCount file) s) z) (sym e))
 
-pub ruleset stand-laws = (stands-length, stands-not, stands-all)
+pub ruleset stand-laws = (stands-length, stands-not, stands-keys)
 
 pub ruleset stand-again-laws = (upward-next)

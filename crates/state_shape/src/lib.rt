@@ -1,11 +1,13 @@
 // Refusal 14: "The state bytes stand for no state of this file's shape." `stands` decides it for every file that none of 2 to 5 refuses.
 ghost use mathlib.Core.Path.{_≡_};
+ghost use mathlib.Core.Bool.{true, false};
 ghost use Prim.Native.Nat.{_+_, _*_, _≤_, _<_};
+ghost use Rattle.network_syntax.specs.Keys.{isKeyed};
 ghost use Rattle.network.specs.Layout.{behaviourCount};
 ghost use Rattle.network.specs.Decode.{networkOf};
 ghost use Rattle.state.specs.Places.{slotSize, entrySize};
-ghost use Rattle.state.specs.Bytes.{readQueue};
-ghost use Rattle.state.specs.Shape.{suitsReply, suitsQueue};
+ghost use Rattle.state.specs.Bytes.{readQueue, readState};
+ghost use Rattle.state.specs.Shape.{suitsReply, suitsQueue, hasNoKey, keysDiffer, suitsKeys, suitsAllKeys};
 ghost use Rattle.state_destinations.specs.Meaning.{replyOf};
 ghost use Rattle.state_shape.specs.Stands.{suitsEntry, TopRow, SessionTells, SlotTells, Tells};
 use state_destinations::ReplyTo;
@@ -105,6 +107,103 @@ fn slot_stands(file: &[u8], s: &[u8], k: u8) -> bool
     session_suits(file, s, k / 4, k % 4, at)
 }
 
+// Has session n of service q, if it is live, no key?
+fn no_key(s: &[u8], q: u16, n: u16) -> bool
+    requires { ⌜ (q < 4) × (n < 4) ⌝ }
+    ensures { λ x. ⌜ x ≡ hasNoKey (readState (now (s .entry)) q n) ⌝ }
+{
+    let at = state::slot_start(q, n);
+    if wire::byte_at(s, at) == 0 {
+        return true;
+    }
+    wire::u32_at(s, at + state::KEY) == 0
+}
+
+// Have the sessions n and m of service q, if both are live, different keys?
+fn keys_differ(s: &[u8], q: u16, n: u16, m: u16) -> bool
+    requires { ⌜ (q < 4) × (n < 4) × (m < 4) ⌝ }
+    ensures { λ x. ⌜ x ≡ keysDiffer (readState (now (s .entry)) q n) (readState (now (s .entry)) q m) ⌝ }
+{
+    let at = state::slot_start(q, n);
+    let to = state::slot_start(q, m);
+    if wire::byte_at(s, at) == 0 {
+        return true;
+    }
+    if wire::byte_at(s, to) == 0 {
+        return true;
+    }
+    wire::u32_at(s, at + state::KEY) != wire::u32_at(s, to + state::KEY)
+}
+
+// 02: "no two live sessions of a service hold one key": of the keyed service q, whose session 0 has none.
+fn keys_apart(s: &[u8], q: u16) -> bool
+    requires { ⌜ q < 4 ⌝ }
+    ensures { λ x. ⌜ x ≡ suitsKeys true (readState (now (s .entry)) q) ⌝ }
+{
+    if !no_key(s, q, 0) {
+        return false;
+    }
+    if !keys_differ(s, q, 1, 2) {
+        return false;
+    }
+    if !keys_differ(s, q, 1, 3) {
+        return false;
+    }
+    keys_differ(s, q, 2, 3)
+}
+
+// Have the sessions of the service q, which is not keyed, no keys?
+fn no_keys(s: &[u8], q: u16) -> bool
+    requires { ⌜ q < 4 ⌝ }
+    ensures { λ x. ⌜ x ≡ suitsKeys false (readState (now (s .entry)) q) ⌝ }
+{
+    if !no_key(s, q, 0) {
+        return false;
+    }
+    if !no_key(s, q, 1) {
+        return false;
+    }
+    if !no_key(s, q, 2) {
+        return false;
+    }
+    no_key(s, q, 3)
+}
+
+// Is the service q keyed? One that the file does not have is not.
+fn is_keyed(file: &[u8], q: u16) -> bool
+    ensures { λ x. ⌜ x ≡ isKeyed (networkOf (now (file .entry))) q ⌝ }
+{
+    if network_layout::service_count(file) <= q {
+        return false;
+    }
+    network_rows::service_key(file, q) != 0
+}
+
+// Do the keys of the sessions of service q suit it?
+fn keys_suit(file: &[u8], s: &[u8], q: u16) -> bool
+    requires { ⌜ q < 4 ⌝ }
+    ensures { λ x. ⌜ x ≡ suitsKeys (isKeyed (networkOf (now (file .entry))) q) (readState (now (s .entry)) q) ⌝ }
+{
+    if is_keyed(file, q) {
+        return keys_apart(s, q);
+    }
+    no_keys(s, q)
+}
+
+// Those of every service?
+fn all_keys_suit(file: &[u8], s: &[u8]) -> bool
+    ensures { λ x. ⌜ x ≡ suitsAllKeys (networkOf (now (file .entry))) (readState (now (s .entry))) 4 ⌝ }
+{
+    let mut q: u16 = 4;
+    while 0 < q {
+        q -= 1;
+        if !keys_suit(file, s, q) {
+            return false;
+        }
+    }
+    true
+}
+
 // Do the bytes stand for a state of this file's shape?
 pub fn stands(file: &[u8], state: &[u8]) -> bool
     ensures { λ x. ⌜ Tells (now (file .entry)) (now (state .entry)) x ⌝ }
@@ -120,5 +219,5 @@ pub fn stands(file: &[u8], state: &[u8]) -> bool
             return false;
         }
     }
-    true
+    all_keys_suit(file, state)
 }

@@ -6,16 +6,16 @@ use Prim.Native.Nat.{ℕ, _+_, _-_, _≤_, _<_}
 use native.Mathlib.Omega.{arith}
 use borrow.Author.Tests.{le-leb, lt-leb}
 use lib.ListN.{length, take, drop, set, replicate, length-take, length-set}
-use Rattle.wire.specs.Wire.{part, withPart, putU16}
+use Rattle.wire.specs.Wire.{part, withPart, putU16, putU32}
 use Rattle.basics.specs.Choice.{pick}
-use Rattle.wire.specs.WireLaws.{put-8, put-16}
+use Rattle.wire.specs.WireLaws.{put-8, put-16, put-32}
 use Rattle.tree_edit.specs.Wrote.{stored}
-use Rattle.state.specs.Places.{slotSize, treeRoom, lengthPlace, treePlace}
+use Rattle.state.specs.Places.{slotSize, treeRoom, lengthPlace, keyPlace, treePlace}
 use Rattle.state.specs.Bytes.{zeros, padded, slotBytes, treeLength}
 use Rattle.wire.specs.Wire.{u16Bytes}
 use Rattle.state.specs.PartLaws.{length-padded}
 use Rattle.state.specs.FreshLaws.{replicate-zeros}
-use Rattle.state_slots.specs.Slots.{treeIn, begun, treeStored, freed}
+use Rattle.state_slots.specs.Slots.{treeIn, begun, treeStored, keyStored, freed}
 
 pub begin-sets : (s : List ℕ) (at : ℕ) {s₁ s₂ s₃ : List ℕ} → at + slotSize ≤ length s → s₁ ≡ withPart s at (1 ∷ [])
     → s₂ ≡ withPart s₁ (at + lengthPlace) (5 ∷ []) → s₃ ≡ withPart s₂ (at + treePlace + 2) (6 ∷ []) → s₃ ≡ begun s at
@@ -48,6 +48,10 @@ tree-bytes s src slot n {s₁} {s₂} {i} h a k b =
     let u : s₁ ≡ withPart s (slot + lengthPlace) (u16Bytes n) = a ∙ put-16 s (slot + lengthPlace) n (omega (arith, h .0)) in
     b ∙ (ap (λ (j : ℕ). stored s₁ (slot + treePlace) treeRoom src j) k ∙ (store-padded s₁ (slot + treePlace) treeRoom src n (h .1) (h .2)
     ∙ ap (λ (x : List ℕ). withPart x (slot + treePlace) (padded treeRoom (take n src))) u))
+
+pub key-bytes : (s : List ℕ) (slot x : ℕ) {s₁ : List ℕ} → slot + slotSize ≤ length s → s₁ ≡ putU32 s (slot + keyPlace) x → s₁ ≡ keyStored s slot x
+unfolding keyStored
+key-bytes s slot x h e = e ∙ put-32 s (slot + keyPlace) x (omega (arith, h))
 
 -- ---- the tree's bytes
 

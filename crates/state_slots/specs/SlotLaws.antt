@@ -13,19 +13,19 @@ use Rattle.basics.specs.Choice.{pick}
 use Rattle.wire.specs.Wire.{part, withPart}
 use Rattle.wire.specs.WireLaws.{length-withPart}
 use Rattle.network_syntax.specs.Syntax.{Network}
-use Rattle.state.specs.Places.{slotSize, treeRoom, lengthPlace, treePlace, slotStart, rowStart}
-use Rattle.state.specs.Session.{Progress, advance, Session, withTree, withProgress, Slot, free, live, State, setSlot, newSession}
-use Rattle.state.specs.Bytes.{zeros, padded, progressBytes, treeBytes, slotBytes, treeLength, stateBytes}
-use Rattle.wire.specs.Wire.{u16Bytes}
+use Rattle.state.specs.Places.{slotSize, treeRoom, lengthPlace, keyPlace, treePlace, slotStart, rowStart}
+use Rattle.state.specs.Session.{Progress, advance, Session, withTree, withProgress, withKey, Slot, free, live, State, setSlot, newSession}
+use Rattle.state.specs.Bytes.{zeros, padded, progressBytes, treeBytes, slotBytes, treeLength, readKey, stateBytes}
+use Rattle.wire.specs.Wire.{u16Bytes, u32Bytes}
 use Rattle.state.specs.Shape.{WellMade, MadeSlot, Stands}
 use Rattle.state.specs.ShapeLaws.{new-made}
 use Rattle.state.specs.SizeLaws.{Sized, slot-size, session-tree-size, progress-size, made-fits, shape-sized, sized-length}
 use Rattle.state.specs.PartLaws.{HoldsAt, holds-first, holds-part, length-padded, replace-within, replace-both, replace-again, part-replaced}
-use Rattle.state.specs.HeadLaws.{head-length}
+use Rattle.state.specs.HeadLaws.{head-length, head-key}
 use Rattle.state.specs.ReadLaws.{slot-parts}
 use Rattle.state.specs.FreshLaws.{store-part, part-back, new-stores}
-use Rattle.state.specs.ChangeLaws.{set-bytes, slot-part, change-tree, change-row}
-use Rattle.state_slots.specs.Slots.{treeIn, begun, treeStored, freed}
+use Rattle.state.specs.ChangeLaws.{set-bytes, slot-part, change-tree, change-key, change-row}
+use Rattle.state_slots.specs.Slots.{treeIn, begun, treeStored, keyStored, freed}
 use Rattle.state_progress.specs.Stored.{rowStored}
 use Rattle.state_slots.specs.Living.{Living}
 
@@ -51,6 +51,13 @@ tree-set {s} {at} {S} h F tree n t e l =
     ∙ (ap (λ (y : List ℕ). withPart (withPart s (at + lengthPlace) a) (at + treePlace) (padded treeRoom y)) t
     ∙ (sym (replace-both s at slotSize lengthPlace treePlace a b (h .inside) (omega arith) (omega (arith, length-padded treeRoom (treeBytes F) k)))
     ∙ ap (withPart s at) (ap (λ (y : List ℕ). withPart (withPart y lengthPlace a) treePlace b) (h .bytes) ∙ sym (change-tree S (made-fits (h .made)) F k))))
+
+-- Another key.
+pub key-set : {s : List ℕ} {at : ℕ} {S : Session} → Living s at S → (x : ℕ) → keyStored s at x ≡ withPart s at (slotBytes (live (withKey S x)))
+unfolding keyStored
+key-set {s} {at} {S} h x =
+    sym (replace-within s at slotSize keyPlace (u32Bytes x) (h .inside) (omega arith))
+    ∙ ap (withPart s at) (ap (λ (t : List ℕ). withPart t keyPlace (u32Bytes x)) (h .bytes) ∙ sym (change-key S (made-fits (h .made)) x))
 
 -- A free slot becomes a new session by three stores.
 pub begin-set : (s : List ℕ) (at : ℕ) → at + slotSize ≤ length s → part s at slotSize ≡ slotBytes free
@@ -126,3 +133,6 @@ living-tree {s} {at} {S} h =
     let e = head-length S (p .head) in
     ap (λ (b : Bool). pick b (part s (at + treePlace) (treeLength s at)) []) (le-leb (treeLength s at) treeRoom (omega (arith, e, l)))
     ∙ (ap (part s (at + treePlace)) e ∙ holds-part (holds-first t (zeros (treeRoom - length t)) (p .tree)) (length t) refl)
+
+pub living-key : {s : List ℕ} {at : ℕ} {S : Session} → Living s at S → readKey s at ≡ S .key
+living-key {S = S} h = head-key S (slot-parts S (made-fits (h .made)) (living-holds h) .head)

@@ -1,10 +1,10 @@
-// Slots of a state's bytes: the tree of a live session, a session that becomes new or free. Each function changes
+// Slots of a state's bytes: tree and key of a live session, a session that becomes new or free. Each function changes
 // the bytes that it names and no others; SlotLaws say which session the slot holds afterwards.
 ghost use mathlib.Core.Path.{_≡_};
 ghost use Prim.Native.Nat.{_+_, _≤_, _<_};
 ghost use lib.ListN.{length};
 ghost use Rattle.state.specs.Places.{slotSize, treeRoom};
-ghost use Rattle.state_slots.specs.Slots.{treeIn, begun, treeStored, freed};
+ghost use Rattle.state_slots.specs.Slots.{treeIn, begun, treeStored, keyStored, freed};
 
 // Makes a new session of the free slot that starts at `slot`: live, with an empty tree.
 pub fn begin(state: &mut [u8], slot: usize)
@@ -37,6 +37,14 @@ pub fn put_tree(state: &mut [u8], slot: usize, tree: &[u8], n: u16)
         tree,
         wire::index(n),
     );
+}
+
+// Sets the key.
+pub fn put_key(state: &mut [u8], slot: usize, x: u32)
+    requires { ⌜ slot + slotSize ≤ length (now state) ⌝ }
+    ensures { λ _. ⌜ now (state .exit) ≡ keyStored (now (state .entry)) slot x ⌝ }
+{
+    wire::put_u32(state, slot + state::KEY, x);
 }
 
 // The bytes of the tree of the session in the slot.

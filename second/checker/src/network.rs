@@ -76,6 +76,21 @@ pub enum Behaviour {
     Branch { input: usize, then: usize },
 }
 
+impl Behaviour {
+    /// The rows of its sub-behaviours.
+    pub fn parts(&self) -> Vec<usize> {
+        use Behaviour::*;
+        match self {
+            Nil | OneWay { .. } | Notification { .. } | SolicitResponse { .. } | Assign { .. } => Vec::new(),
+            RequestResponse { body, .. } | While { body, .. } => vec![*body],
+            If { then, otherwise, .. } => vec![*then, *otherwise],
+            Sequence(a, b) | Parallel(a, b) => vec![*a, *b],
+            Choice { branches } => branches.clone().collect(),
+            Branch { input, then } => vec![*input, *then],
+        }
+    }
+}
+
 #[derive(Clone, Copy, PartialEq, Eq, Debug)]
 pub enum Direction {
     In,
@@ -98,6 +113,8 @@ pub struct Service {
     pub location: u16,
     pub starter: Option<usize>,
     pub client: Option<usize>,
+    /// The id of the child by which messages find their session.
+    pub key: Option<u16>,
 }
 
 /// A type node; children are later rows.
@@ -152,6 +169,11 @@ impl Network {
         let network = Network::of_rows(tables, layout);
         network.sizes()?;
         Ok(network)
+    }
+
+    /// The child of a type row with an id.
+    pub fn child(&self, row: usize, id: u16) -> Option<&TypeNode> {
+        self.types[self.types[row].children.clone()].iter().find(|child| child.id == id)
     }
 
     /// The nodes of a type row written out, in preorder.
@@ -275,7 +297,12 @@ impl Network {
         let services = tables
             .services
             .iter()
-            .map(|row| Service { location: row.location, starter: link(row.starter), client: link(row.client) })
+            .map(|row| Service {
+                location: row.location,
+                starter: link(row.starter),
+                client: link(row.client),
+                key: (row.key != 0).then_some(row.key),
+            })
             .collect();
 
         Network {
@@ -536,7 +563,6 @@ impl Rules<'_> {
             self.field(service.starter == NONE || kind(service.starter) == Some(CHOICE), start + 2);
             let client = service.client == NONE || kind(service.client).is_some_and(|kind| kind != BRANCH);
             self.field(client, start + 4);
-            self.field(service.unused == 0, start + 6);
         }
     }
 }

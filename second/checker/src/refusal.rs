@@ -64,10 +64,14 @@ pub enum Cause {
     InputKind,
     InputRequest,
     InputReply,
+    // 23
+    KeyMissing,
+    KeyOptional,
+    KeyBasic,
 }
 
 impl Cause {
-    pub const ALL: [Cause; 47] = {
+    pub const ALL: [Cause; 50] = {
         use Cause::*;
         [
             Length,
@@ -117,6 +121,9 @@ impl Cause {
             InputKind,
             InputRequest,
             InputReply,
+            KeyMissing,
+            KeyOptional,
+            KeyBasic,
         ]
     };
 
@@ -143,6 +150,7 @@ impl Cause {
             SharedRoot => 11,
             PlacedNodes | PlacedLevels | UnionNodes => 12,
             NoInput | InputKind | InputRequest | InputReply => 13,
+            KeyMissing | KeyOptional | KeyBasic => 23,
         }
     }
 
@@ -197,11 +205,14 @@ impl Cause {
             InputKind => "one of output and input is two-way, the other is not",
             InputRequest => "the output's request type is no subtype of the input's",
             InputReply => "the input's reply type is no subtype of the output's",
+            KeyMissing => "the service is keyed, and the input's request type has no such child",
+            KeyOptional => "the service is keyed, and the key is an optional child of the input's request type",
+            KeyBasic => "the service is keyed, and the key is no int in the input's request type",
         }
     }
 }
 
-/// A refusal of the checker, 2 to 13.
+/// A refusal of the checker, 2 to 13 or 23.
 #[derive(Clone, Copy, PartialEq, Eq, Debug)]
 pub struct Refusal {
     pub number: u8,

@@ -163,7 +163,8 @@ pub struct ServiceRow {
     pub location: u16,
     pub starter: u16,
     pub client: u16,
-    pub unused: u16,
+    /// The id of the child that is the key, 0 for none.
+    pub key: u16,
 }
 
 /// A service without a starter or client has this row number.
@@ -220,7 +221,7 @@ impl Tables {
                     location: u16_at(row, 0),
                     starter: u16_at(row, 2),
                     client: u16_at(row, 4),
-                    unused: u16_at(row, 6),
+                    key: u16_at(row, 6),
                 })
                 .collect(),
             data: section(Section::Data).to_vec(),
@@ -263,7 +264,7 @@ impl Tables {
             put(&mut file, &[row.id, row.location, row.request, row.reply]);
         }
         for row in &self.services {
-            put(&mut file, &[row.location, row.starter, row.client, row.unused]);
+            put(&mut file, &[row.location, row.starter, row.client, row.key]);
         }
         file.extend(&self.data);
         for section in Section::ALL {

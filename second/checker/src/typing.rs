@@ -1,4 +1,4 @@
-//! The typing rules: refusals 6 to 13.
+//! The typing rules: refusals 6 to 13, and 23.
 
 use crate::environment::{is_subtype, Environment, Lookup, Node, ENVIRONMENT_NODES};
 use crate::network::{Behaviour, Direction, Expression, Network, Operation};
@@ -13,7 +13,7 @@ pub struct ServiceEnvironments {
     pub client: Option<Environment>,
 }
 
-/// Refusals 6 to 13 of a network: services by row, starter first, then all outputs.
+/// Refusals 6 to 13 and 23 of a network: services by row, starter first, then all outputs, then all keys.
 pub fn environments(network: &Network) -> Result<Vec<ServiceEnvironments>, Refusal> {
     let types = OperationTypes::of(network);
     let roots = Roots::of(network);
@@ -25,6 +25,7 @@ pub fn environments(network: &Network) -> Result<Vec<ServiceEnvironments>, Refus
         result.push(ServiceEnvironments { starter, client });
     }
     outputs(network, &types)?;
+    keys(network)?;
     Ok(result)
 }
 
@@ -355,6 +356,27 @@ fn meets(network: &Network, types: &OperationTypes, output: usize, input: Option
         Err(Cause::InputRequest)
     } else if two_way && !is_subtype(&types.replies[input], &types.replies[output]) {
         Err(Cause::InputReply)
+    } else {
+        Ok(())
+    }
+}
+
+/// Refusal 23: "in a keyed service the request type of each input has that id as a mandatory int child of its root".
+fn keys(network: &Network) -> Result<(), Refusal> {
+    for (row, input) in network.operations.iter().enumerate() {
+        if let (Direction::In, Some(key)) = (input.direction, network.services[input.service].key) {
+            keyed(network, input.request, key).map_err(|cause| Refusal::new(cause, row))?;
+        }
+    }
+    Ok(())
+}
+
+fn keyed(network: &Network, request: usize, key: u16) -> Result<(), Cause> {
+    let child = network.child(request, key).ok_or(Cause::KeyMissing)?;
+    if !child.mandatory {
+        Err(Cause::KeyOptional)
+    } else if child.basic != Basic::Int {
+        Err(Cause::KeyBasic)
     } else {
         Ok(())
     }

@@ -225,7 +225,7 @@ fn any_text_is_read_where_that_is_all() {
     let network = Network::read_any_text(&tables.write()).expect("a network");
     assert_eq!(network.data[4..], *b"a\xff");
     for (change, cause) in [
-        ((|tables| tables.services[0].unused = 1) as fn(&mut Tables), BrokenText),
+        ((|tables| tables.services[0].location = 0) as fn(&mut Tables), BrokenText),
         (|tables| tables.types[2].first_child = 9, TypeRun),
         (|tables| tables.expressions[0].fields[1] = 3, Constant),
         (|tables| tables.types.extend(vec![mandatory(1, INT); 300]), TooManyRows),
@@ -358,7 +358,6 @@ fn four_operations() {
 fn four_services() {
     at_byte(|t| t.services[1].location = 0, S, 1, 0, Field);
     at_byte(|t| t.services[1].location = 10, S, 1, 0, RepeatedLocation);
-    at_byte(|t| t.services[1].unused = 1, S, 1, 6, Field);
     at_byte(|t| t.services[0].starter = 13, B, 0, 0, NeverUsed);
     at_byte(|t| t.services[1].client = 13, B, 10, 0, NeverUsed);
     // A starter that is no choice, a client past the rows.
@@ -371,7 +370,7 @@ fn four_services() {
 fn four_the_lowest_place_of_all() {
     at_byte(
         |t| {
-            t.services[1].unused = 1;
+            t.services[1].location = 0;
             t.operations[2].id = 0;
             t.expressions[1].kind = 10;
             t.behaviours[8].unused = 1;
@@ -385,11 +384,11 @@ fn four_the_lowest_place_of_all() {
     at_byte(
         |t| {
             chain_of_types(t, 5);
-            t.services[1].unused = 1;
+            t.services[1].location = 0;
         },
         S,
         1,
-        6,
+        0,
         Field,
     );
 }
@@ -764,4 +763,114 @@ fn thirteen_outputs() {
         12,
         OtherService,
     );
+}
+
+/// The base network with another child of the first input's request type, and 7 in the second's.
+fn keyed(child: second::tables::TypeRow) -> Tables {
+    let mut tables = base();
+    // 0: void { child, 7: int, 9?: bool { 4: int } }, 7: int { 7: int }
+    tables.types = vec![
+        root(VOID, 1, 3),
+        child,
+        mandatory(7, INT),
+        optional(9, BOOL),
+        mandatory(4, INT),
+        root(BOOL, 0, 0),
+        root(INT, 7, 1),
+        mandatory(7, INT),
+    ];
+    (tables.types[3].first_child, tables.types[3].child_count) = (4, 1);
+    tables.operations = vec![input(0, 1, 0, None), input(0, 2, 6, None), output(0, 7, 99, 5, None)];
+    tables.behaviours = vec![behaviour(10, &[1, 1]), behaviour(11, &[2, 3]), behaviour(1, &[0, 0]), behaviour(0, &[])];
+    tables.services = vec![service(10, Some(0), None), service(20, None, None)];
+    tables
+}
+
+#[test]
+fn twenty_three_by_the_child() {
+    let verdict = |key: u16, child| {
+        let mut tables = keyed(child);
+        tables.services[0].key = key;
+        check(&tables.write()).err()
+    };
+    let int = mandatory(3, INT);
+    assert_eq!(verdict(0, int), None);
+    assert_eq!(verdict(7, int), None, "both inputs have it");
+    assert_eq!(verdict(3, int), Some(Refusal::new(KeyMissing, 1)), "the second input has it not");
+    assert_eq!(verdict(7, mandatory(3, LONG)), None, "only the key counts");
+    assert_eq!(verdict(3, mandatory(3, LONG)), Some(Refusal::new(KeyBasic, 0)));
+    assert_eq!(verdict(3, optional(3, INT)), Some(Refusal::new(KeyOptional, 0)));
+    assert_eq!(verdict(3, optional(3, LONG)), Some(Refusal::new(KeyOptional, 0)));
+    assert_eq!(verdict(9, int), Some(Refusal::new(KeyOptional, 0)));
+    // Only the root's own children count; any id is one.
+    assert_eq!(verdict(4, int), Some(Refusal::new(KeyMissing, 0)));
+    assert_eq!(verdict(65_535, int), Some(Refusal::new(KeyMissing, 0)));
+}
+
+#[test]
+fn twenty_three_by_the_operation() {
+    let verdict = |change: &dyn Fn(&mut Tables)| {
+        let mut tables = keyed(mandatory(3, INT));
+        change(&mut tables);
+        check(&tables.write()).err()
+    };
+    // A service without inputs may have any key; outputs are not judged.
+    assert_eq!(verdict(&|t| t.services[1].key = 3), None);
+    let outputs = |t: &mut Tables| t.operations.retain(|row| row.direction == 1);
+    let idle = |t: &mut Tables| (t.services[0], t.behaviours) = (service(10, None, None), vec![]);
+    assert_eq!(
+        verdict(&|t| {
+            outputs(t);
+            idle(t);
+            t.services[0].key = 3;
+        }),
+        None
+    );
+    // No behaviour uses the second input.
+    assert_eq!(verdict(&|t| t.services[0].key = 3), Some(Refusal::new(KeyMissing, 1)));
+    // The lowest O row over all services, the second one's here.
+    assert_eq!(
+        verdict(&|t| {
+            (t.services[0].key, t.services[1].key) = (3, 3);
+            t.operations.insert(0, input(1, 5, 5, None));
+            t.behaviours[2].fields[0] = 1;
+        }),
+        Some(Refusal::new(KeyMissing, 0))
+    );
+    // The key's own children are free.
+    assert_eq!(
+        verdict(&|t| {
+            t.services[0].key = 7;
+            (t.types[2].first_child, t.types[2].child_count) = (4, 1);
+        }),
+        None
+    );
+}
+
+#[test]
+fn twenty_three_after_thirteen() {
+    let both = |change: fn(&mut Tables)| {
+        let mut tables = keyed(mandatory(3, INT));
+        tables.services[0].key = 3;
+        change(&mut tables);
+        refusal(&tables)
+    };
+    assert_eq!(both(|_| ()), Refusal::new(KeyMissing, 1));
+    assert_eq!(both(|t| t.operations.push(output(1, 9, 10, 5, None))), Refusal::new(NoInput, 3));
+    assert_eq!(both(|t| t.operations[0].id = 2), Refusal::new(RepeatedInput, keyed_row(1)));
+}
+
+/// The first byte of an O row of `keyed`.
+fn keyed_row(row: usize) -> usize {
+    keyed(mandatory(3, INT)).layout().row(O, row)
+}
+
+/// Whatever the last field of an S row is, 4 does not judge it.
+#[test]
+fn four_not_for_a_key() {
+    for key in [0, 1, 7, 255, 256, 65_535] {
+        let mut tables = base();
+        tables.services[1].key = key;
+        assert!(check(&tables.write()).is_ok(), "{key}: the second service has no input");
+    }
 }

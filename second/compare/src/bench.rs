@@ -51,9 +51,10 @@ fn line(name: &str, sides: &[Box<dyn Side>], call: impl Fn(&dyn Side)) {
 }
 
 fn checks(sides: &[Box<dyn Side>], hall: &[u8], largest: &[u8]) {
+    // The last service, which has no starter, names one past the rows. Its last field is a key, which nobody judges.
     let mut damaged = largest.to_vec();
     let last_service = maximal::tables().layout().row(second::tables::Section::Services, 3);
-    damaged[last_service + 6] = 1;
+    damaged[last_service + 2] = 0;
     let small: &[u8] = include_bytes!("../../../examples/assign.bin");
     let files: [(&str, &[u8]); 4] = [
         ("check, largest accepted file", largest),

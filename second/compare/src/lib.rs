@@ -15,6 +15,7 @@ use std::fmt;
 use std::ops::Range;
 use std::process::ExitCode;
 
+use generate::keys;
 use generate::strings::decide::{wrong_part, wrong_refusal};
 use second::ServiceEnvironments;
 use stepper::{Move, Refused};
@@ -198,6 +199,12 @@ pub fn differing_part(message: &[u8], ids: [u16; 4], left: &dyn Side, right: &dy
 pub fn wrong_by_constants(file: &[u8]) -> Option<String> {
     let wrong = wrong_refusal(file, second::check(file).as_ref().err());
     wrong.then(|| format!("file {}\nnot by its string constants: {}", hex(file), Second.check(file)))
+}
+
+/// The library's verdict where the keys of a file ask for another.
+pub fn wrong_by_keys(file: &[u8]) -> Option<String> {
+    let wrong = keys::decide::wrong_refusal(file, second::check(file).as_ref().err());
+    wrong.then(|| format!("file {}\nnot by its keys: {}", hex(file), Second.check(file)))
 }
 
 /// The library's part where the strings of a message ask for another.

@@ -8,7 +8,7 @@ use std::process::ExitCode;
 use std::time::Instant;
 
 use compare::{differing_check, differing_part, other, texts, walks, with_large_stack, Second, Side};
-use compare::{wrong_by_constants, wrong_by_strings};
+use compare::{wrong_by_constants, wrong_by_keys, wrong_by_strings};
 use generate::declarations::DeclarationHits;
 use generate::walks::WalkHits;
 use generate::{file, messages, Hits, Random};
@@ -94,7 +94,8 @@ fn files_and_messages(options: &Options, other: &dyn Side) -> Result<Vec<String>
     let mut hits = Hits::default();
     for index in 0..options.files {
         let file = file(&mut random);
-        let difference = differing_check(&file, &Second, other).or_else(|| wrong_by_constants(&file));
+        let difference = differing_check(&file, &Second, other);
+        let difference = difference.or_else(|| wrong_by_constants(&file)).or_else(|| wrong_by_keys(&file));
         if let Some(difference) = difference {
             return Err(format!("file number {index} of seed {}\n{difference}", options.seed));
         }
@@ -135,7 +136,7 @@ fn all_walks(options: &Options, other: &dyn Side) -> Result<Vec<String>, String>
         moves += walk.map_err(|report| format!("walk number {index} of seed {}\n{report}", options.seed))?;
     }
     print!("{hits}");
-    println!("{} walks of {moves} moves agree and keep property 3 and well-formed strings", options.walks);
+    println!("{} walks of {moves} moves agree and keep property 3, well-formed strings and keys", options.walks);
     Ok(hits.below(LEAST).into_iter().map(String::from).collect())
 }
 

@@ -4,7 +4,7 @@ use std::ops::Range;
 
 use second::Network;
 use stepper::decode::decode;
-use stepper::encode::{encode, slot, ENTRIES, ENTRY, MESSAGE, ROW, ROWS, ROWS_END, SLOT, STATE, TREE};
+use stepper::encode::{encode, slot, ENTRIES, ENTRY, KEY, KEY_END, MESSAGE, ROW, ROWS, ROWS_END, SLOT, STATE, TREE};
 use stepper::state::{Progress, SESSIONS};
 use stepper::{Move, State};
 
@@ -99,13 +99,14 @@ fn read_move(line: &str) -> Option<(Move, Vec<u8>)> {
     Some((named, message))
 }
 
-/// The live sessions: tree, queue and rows that are not undone.
+/// The live sessions: key, tree, queue and rows that are not undone.
 fn show(state: &State) -> Vec<String> {
     let mut lines = Vec::new();
     for (service, sessions) in state.services.iter().enumerate() {
         for (number, session) in sessions.iter().enumerate() {
             let Some(session) = session else { continue };
             let here = format!("{service} {number}");
+            lines.extend(session.key.map(|key| format!("{here} key {key}")));
             lines.push(format!("{here} tree {}", hex(&session.tree.bytes())));
             for queued in &session.queue {
                 lines.push(format!("{here} queued {} {}", queued.operation, hex(&queued.message.bytes())));
@@ -125,17 +126,25 @@ fn show(state: &State) -> Vec<String> {
     lines
 }
 
-/// A line of `show`, into a state's bytes (docs/STATE.md): a session's tree first. Trees and messages are written as
-/// they are, so that the bytes may stand for no state (14). Whom a row or message answers is not in such a line.
+/// A line of `show`, into a state's bytes (docs/STATE.md): a session's tree first, its key wherever it stands. Keys, trees
+/// and messages are written as they are, so that the bytes may stand for no state (14): a key without a tree is one in a
+/// free slot. Whom a row or message answers is not in such a line.
 fn read_session(state: &mut [u8], line: &str) -> Option<()> {
     let words: Vec<&str> = line.split_whitespace().collect();
     let (numbers, words) = words.split_at_checked(2)?;
     let (service, session) = (numbers[0].parse::<usize>().ok()?, numbers[1].parse::<usize>().ok()?);
     let start = (service < 4 && session < SESSIONS).then(|| slot(service, session))?;
     let slot = &mut state[start..start + SLOT];
-    if let ["tree", digits] = words {
-        slot[0] = 1;
-        return put(slot, 2, TREE..ENTRIES, &bytes(digits)?);
+    match words {
+        ["tree", digits] => {
+            slot[0] = 1;
+            return put(slot, 2, TREE..ENTRIES, &bytes(digits)?);
+        }
+        ["key", number] => {
+            slot[KEY..KEY_END].copy_from_slice(&number.parse::<i32>().ok()?.to_le_bytes());
+            return Some(());
+        }
+        _ => {}
     }
     if slot[0] == 0 {
         return None;
@@ -227,6 +236,32 @@ mod tests {
         let long = format!("0 0 tree {}", "00".repeat(1_025));
         assert!(play(&Second, &file, &long).is_err() && play(&Second, &file, &long[..long.len() - 2]).is_ok());
         assert!(play(&Second, &file, "0 0 tree 0000060000\n0 0 row 256 done").is_err());
+    }
+
+    /// The key of a session stands before its tree, signed.
+    #[test]
+    fn the_keys_of_a_state_are_read_as_they_are_shown() {
+        let text = "service 5 { client nil } service 6 keyed by 9 { input 3: void { 9: int } client nil \
+                    starter choice { on receive 3 into 5 then nil } }";
+        let file = net::assemble(text).expect("a text").file;
+        let lines = [
+            "0 0 tree 0000060000",
+            "1 0 tree 0000060000",
+            "1 1 key 0",
+            "1 1 tree 0000060000",
+            "1 3 key -2147483648",
+            "1 3 tree 0000060000",
+        ];
+        let played = |lines: &[&str], last: &str| play(&Second, &file, &format!("{}\n{last}\n", lines.join("\n")));
+        let shown = played(&lines, "state").expect("a state");
+        assert_eq!(shown, [&lines[..], &["state"], &lines[..]].concat());
+        for wrong in ["1 2 key -1", "1 0 key 1", "0 0 key 1", "0 1 key 1", "3 3 key 1", "1 1 key -2147483648"] {
+            let played = played(&[&lines[..], &[wrong]].concat(), "close 9 9").expect("a script");
+            assert_eq!(played.last().map(String::as_str), Some("close 9 9: 14"), "{wrong}");
+        }
+        for wrong in ["1 1 key 2147483648", "1 1 key", "1 1 key x", "4 1 key 1"] {
+            assert!(played(&[wrong], "state").is_err(), "{wrong}");
+        }
     }
 
     /// Lines that give no state are refused with 14; there is none to show.

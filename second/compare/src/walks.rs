@@ -1,6 +1,6 @@
 //! Walks by both sides: fresh and each move, with the whole state and out buffer; and what holds from fresh.
 
-use generate::walks::{meetings, property, strings, Call, Walk, WalkHits};
+use generate::walks::{encounters, keys, meetings, property, strings, Call, Walk, WalkHits};
 use generate::Random;
 use stepper::decode::decode;
 use stepper::{Made, Refused};
@@ -88,7 +88,8 @@ struct Stepped {
     written: Vec<u8>,
 }
 
-/// A move by the library, which leaves every buffer as it was if it is refused, and refuses a broken string.
+/// A move by the library, which leaves every buffer as it was if it is refused, refuses a broken string and does what the
+/// keys ask for.
 fn second_step(call: &Call) -> Result<Stepped, String> {
     let mut state = call.state.clone();
     let mut out = vec![UNTOUCHED; call.out_size];
@@ -102,6 +103,9 @@ fn second_step(call: &Call) -> Result<Stepped, String> {
         return Err(format!("{}second: {result:?} for a broken string\n", given(call)));
     }
     out.truncate(written);
+    if let Some(what) = keys::wrong(call, &result, &state, &out) {
+        return Err(format!("{}second: {result:?}, but {what}\n", given(call)));
+    }
     Ok(Stepped { result, state, written: out })
 }
 
@@ -112,14 +116,17 @@ pub fn walk(random: &mut Random, hits: &mut WalkHits, other: &dyn Side) -> Resul
     }
     for _ in 0..4 {
         let _ = compared(&meetings::call(random), hits, other)?;
+        let _ = compared(&encounters::call(random), hits, other)?;
     }
     let mut walk = Walk::begin(random);
+    hits.feature(walk.is_keyed(), "a walk over a network with a keyed service");
     fresh(&walk.file, 65_536, hits, other)?;
     let accepted = walk.from_fresh;
     for _ in 0..walk.moves {
         let call = walk.call(random);
         let stepped = compared(&call, hits, other)?;
-        hits.feature(!accepted, "a move on a file that 6 to 13 refuse");
+        hits.feature(!accepted, "a move on a file that 6 to 23 refuse");
+        hits.feature(walk.starts_anew(&call, &stepped.state), "a session started with the key of one that was closed");
         if call.keeps {
             keeps_strings(&call, &stepped)?;
         }
@@ -133,6 +140,7 @@ pub fn walk(random: &mut Random, hits: &mut WalkHits, other: &dyn Side) -> Resul
     }
     if walk.from_fresh {
         hits.feature(true, "a walk from fresh");
+        hits.feature(walk.is_keyed(), "a walk from fresh over a network with a keyed service");
         sweep(random, &walk)?;
     }
     Ok(walk.moves)
@@ -146,11 +154,14 @@ fn keeps_strings(call: &Call, stepped: &Stepped) -> Result<(), String> {
     }
 }
 
-/// A move on a state from fresh, counted; the report of a result that breaks property 3.
+/// A move on a state from fresh, counted; the report of a result that breaks property 3 or of keys that do.
 fn from_fresh(walk: &Walk, call: &Call, stepped: &Stepped, hits: &mut WalkHits) -> Result<(), String> {
     let Stepped { result, state, written } = stepped;
     let after = property::strings_after(&call.named, state, written);
-    hits.from_fresh(&walk.network, &call.named, result, &after);
+    hits.from_fresh(walk, &call.named, result, state, &after);
+    if let Some(what) = keys::broken(&walk.file, state) {
+        return Err(format!("{}from fresh: {what}\n", given(call)));
+    }
     let number = answer(result.map(|made| made.bytes)).number;
     let before = decode(&walk.network, &call.state).map_err(|wrong| format!("{}{wrong:?}", given(call)))?;
     match property::broken(&walk.network, &before, &call.named, call.out_size, number) {

@@ -27,7 +27,7 @@ pub fn odd_bytes(random: &mut Random) -> Vec<u8> {
 }
 
 fn service(location: u16) -> ServiceRow {
-    ServiceRow { location, starter: 65_535, client: 65_535, unused: 0 }
+    ServiceRow { location, starter: 65_535, client: 65_535, key: 0 }
 }
 
 /// Bytes of a file, its trailer and its length.
@@ -123,7 +123,7 @@ fn field(random: &mut Random, tables: &mut Tables) {
                     1 => row.location = 0,
                     2 => row.starter = random.number(),
                     3 => row.client = random.number(),
-                    4 => row.unused = random.number(),
+                    4 => row.key = random.number(),
                     5 => row.starter = random.below(behaviours + 1) as u16,
                     6 => row.client = random.below(behaviours + 1) as u16,
                     // Past the rows, where no row is left without a user by it.
@@ -207,7 +207,7 @@ pub fn links(random: &mut Random, tables: &mut Tables) {
                 row.fields[1] = *random.pick(&[0, 0, 9, 65_535, row.fields[1] + 1]).expect("five");
             }
         }
-        4 => nine_branches(random, tables),
+        4 | 7 => nine_branches(random, tables),
         5 | 6 => {
             if let Some(&operation) = random.pick(&tables.operations) {
                 if tables.operations.len() < 64 {

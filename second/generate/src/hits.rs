@@ -8,6 +8,7 @@ use second::network::{Behaviour, Direction, Path};
 use second::tables::{Section, Tables};
 use second::{Basic, Cause, Environment, Network, Refusal, ServiceEnvironments};
 
+use crate::keys;
 use crate::messages::Damage;
 use crate::nests;
 use crate::strings::{decide, StringHits};
@@ -29,7 +30,7 @@ const FIELDS: [(Section, &[usize]); 6] = [
     (Section::Expressions, &[0, 1, 2, 4, 6]),
     (Section::Behaviours, &[0, 1, 2, 4, 6, 8]),
     (Section::Operations, &[0, 1, 2, 3, 4, 6, 10]),
-    (Section::Services, &[0, 2, 4, 6]),
+    (Section::Services, &[0, 2, 4]),
 ];
 
 const FEATURES: [&str; 15] = [
@@ -65,13 +66,16 @@ const READS: [&str; 12] = [
     "a message of one node",
 ];
 
+/// The refusals of a file that passes 2 to 5.
+const TYPING: &str = "refused by 6 to 23";
+
 /// Levels of expressions, down to the leaves that a row of 8 levels can have.
 const EXPRESSION: &str = "operands, 128 leaves";
 
 impl Default for Hits {
     fn default() -> Hits {
         let mut names: Vec<String> = vec!["accepted".into()];
-        names.extend((2..=13).map(|number| format!("refused {number:2}")));
+        names.extend((2..=13).chain([23]).map(|number| format!("refused {number:2}")));
         names.extend(Cause::ALL.map(cause_name));
         for (section, offsets) in FIELDS {
             names.extend(offsets.iter().map(|&offset| field_name(section, offset)));
@@ -90,7 +94,8 @@ impl Default for Hits {
         names.extend((0..10).map(|kind| format!("accepted with expression kind {kind}")));
         names.extend(Basic::ALL.map(|basic| format!("accepted with basic type {}", basic.name())));
         names.extend(FEATURES.map(|feature| format!("accepted with {feature}")));
-        for verdict in ["accepted", "refused by 6 to 13"] {
+        names.extend(keys::hits::NAMES.map(String::from));
+        for verdict in ["accepted", TYPING] {
             names.extend(nests::names().chain([EXPRESSION]).map(|name| format!("{verdict} with nested {name}")));
         }
         names.extend(READS.map(|read| format!("message: {read}")));
@@ -146,7 +151,8 @@ impl Hits {
             Err(refusal) => self.refused(file, refusal),
         }
         if let Ok(network) = Network::read(file) {
-            self.nests(&network, if verdict.is_ok() { "accepted" } else { "refused by 6 to 13" });
+            self.nests(&network, if verdict.is_ok() { "accepted" } else { TYPING });
+            keys::hits::of_file(file, &network, verdict).into_iter().for_each(|name| self.hit(name.into()));
         }
         decide::constants(file).iter().for_each(|seen| self.strings.hit(0, seen));
     }

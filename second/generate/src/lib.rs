@@ -5,6 +5,7 @@ pub mod damage;
 pub mod declarations;
 pub mod hits;
 pub mod hostile;
+pub mod keys;
 pub mod maximal;
 pub mod messages;
 pub mod nests;

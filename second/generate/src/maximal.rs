@@ -76,7 +76,7 @@ fn expressions(tables: &mut Tables) {
 fn client(tables: &mut Tables, service: u16) {
     let start = 64 * service;
     let location = service + 1;
-    tables.services.push(ServiceRow { location, starter: NONE, client: start, unused: 0 });
+    tables.services.push(ServiceRow { location, starter: NONE, client: start, key: 0 });
     let operation = |id: u16, output: bool| 16 * service + 2 * (id - 1) + u16::from(output);
     let push = |tables: &mut Tables, kind: u8, fields: [u16; 4]| {
         tables.behaviours.push(BehaviourRow { kind, unused: 0, fields });

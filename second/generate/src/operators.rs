@@ -65,7 +65,7 @@ fn client(kind: u8, operands: &[Basic]) -> Tables {
     let mut tables = Tables {
         paths: vec![[1, 0, 0, 0]],
         behaviours: vec![BehaviourRow { kind: 9, unused: 0, fields: [0, operands.len() as u16, 0, 0] }],
-        services: vec![ServiceRow { location: 1, starter: NONE, client: 0, unused: 0 }],
+        services: vec![ServiceRow { location: 1, starter: NONE, client: 0, key: 0 }],
         ..Tables::default()
     };
     for &basic in operands {

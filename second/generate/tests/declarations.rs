@@ -93,7 +93,7 @@ fn each_limit_gives_its_number() {
 fn file(types: &Types) -> Vec<u8> {
     let input = |(id, row): (u16, usize)| OperationRow { id, request: row as u16, ..OperationRow::default() };
     let firsts = types.declarations.iter().map(|declared| declared.row).take(64);
-    let service = ServiceRow { location: 1, starter: NONE, client: NONE, unused: 0 };
+    let service = ServiceRow { location: 1, starter: NONE, client: NONE, key: 0 };
     let operations = (1..).zip(firsts).map(input).collect();
     Tables { types: types.rows.clone(), operations, services: vec![service], ..Tables::default() }.write()
 }

@@ -1,7 +1,7 @@
 //! The generator reaches everything that it counts, and its files survive the text's round trip.
 
 use generate::strings::decide::{wrong_part, wrong_refusal};
-use generate::{file, messages, Hits, Random};
+use generate::{file, keys, messages, Hits, Random};
 
 #[test]
 fn everything_is_hit() {
@@ -11,6 +11,7 @@ fn everything_is_hit() {
         let file = file(&mut random);
         let verdict = second::check(&file);
         assert!(!wrong_refusal(&file, verdict.as_ref().err()), "{file:02x?}");
+        assert!(!keys::decide::wrong_refusal(&file, verdict.as_ref().err()), "{file:02x?}");
         hits.file(&file, &verdict);
     }
     for _ in 0..20_000 {

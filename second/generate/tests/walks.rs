@@ -3,7 +3,7 @@
 use generate::damage;
 use generate::strings::held::{in_constants, in_queues, in_trees, seen};
 use generate::walks::choose::any_move;
-use generate::walks::{meetings, property, strings, Walk, WalkHits};
+use generate::walks::{encounters, keys, meetings, property, strings, Call, Walk, WalkHits};
 use generate::Random;
 use stepper::decode::decode;
 
@@ -16,18 +16,26 @@ fn everything_is_hit() {
             let mut state = vec![0; if random.one_in(20) { random.below(70_000) } else { 65_536 }];
             hits.fresh(stepper::fresh(&file, &mut state).map_or_else(|refused| refused.number.into(), |()| 0));
         }
-        for _ in 0..2 {
-            let call = meetings::call(&mut random);
-            let mut out = vec![0; call.out_size];
-            hits.call(&call, &stepper::step(&call.file, &mut call.state.clone(), &mut out, &call.named, &[]));
+        for call in [meetings::call(&mut random), meetings::call(&mut random), encounters::call(&mut random)] {
+            single(&call, &mut hits);
         }
         walk(&mut random, &mut hits);
     }
     assert!(hits.below(2).is_empty(), "{hits}\n{:#?}", hits.below(2));
 }
 
+/// A call by itself.
+fn single(call: &Call, hits: &mut WalkHits) {
+    let (mut state, mut out) = (call.state.clone(), vec![0; call.out_size]);
+    let result = stepper::step(&call.file, &mut state, &mut out, &call.named, &call.outside);
+    let written = &out[..result.map_or(0, |made| made.bytes)];
+    assert_eq!(keys::wrong(call, &result, &state, written), None, "{:?}: {result:?}", call.named);
+    hits.call(call, &result);
+}
+
 fn walk(random: &mut Random, hits: &mut WalkHits) {
     let mut walk = Walk::begin(random);
+    hits.feature(walk.is_keyed(), "a walk over a network with a keyed service");
     let accepted = second::check(&walk.file).is_ok();
     assert!(!seen(&walk.file, &in_constants(&walk.file)).is_broken());
     for _ in 0..walk.moves {
@@ -35,13 +43,16 @@ fn walk(random: &mut Random, hits: &mut WalkHits) {
         let mut state = call.state.clone();
         let mut out = vec![0xa5; call.out_size];
         let result = stepper::step(&call.file, &mut state, &mut out, &call.named, &call.outside);
-        hits.call(&call, &result);
+        let written = &out[..result.map_or(0, |made| made.bytes)];
         assert!(!strings::wrong(&call, &result), "{:?}: {result:?}", call.named);
-        hits.feature(!accepted, "a move on a file that 6 to 13 refuse");
+        assert_eq!(keys::wrong(&call, &result, &state, written), None, "{:?}: {result:?}", call.named);
+        hits.call(&call, &result);
+        hits.feature(!accepted, "a move on a file that 6 to 23 refuse");
+        hits.feature(walk.starts_anew(&call, &state), "a session started with the key of one that was closed");
         if walk.from_fresh && call.keeps {
-            let written = &out[..result.map_or(0, |made| made.bytes)];
             let after = property::strings_after(&call.named, &state, written);
-            hits.from_fresh(&walk.network, &call.named, &result, &after);
+            hits.from_fresh(&walk, &call.named, &result, &state, &after);
+            assert_eq!(keys::broken(&walk.file, &state), None, "{:?}", call.named);
             assert_eq!(property::broken_string(&call.named, &state, written), None, "{:?}", call.named);
             let number = result.map_or_else(|refused| refused.number.into(), |_| 0);
             let before = decode(&walk.network, &call.state).expect("a state");
@@ -54,6 +65,7 @@ fn walk(random: &mut Random, hits: &mut WalkHits) {
     }
     if walk.from_fresh {
         hits.feature(true, "a walk from fresh");
+        hits.feature(walk.is_keyed(), "a walk from fresh over a network with a keyed service");
         assert_eq!(property::sweep(random, &walk.file, &walk.network, &walk.state), None);
     }
 }
@@ -62,7 +74,7 @@ fn walk(random: &mut Random, hits: &mut WalkHits) {
 #[test]
 fn any_bytes_are_answered() {
     let mut random = Random::new(6);
-    let mut numbers = [0; 23];
+    let mut numbers = [0; 24];
     for _ in 0..4000 {
         let file = if random.one_in(3) { damage::odd_bytes(&mut random) } else { generate::file(&mut random) };
         let size = if random.one_in(10) { random.below(70_000) } else { 65_536 };
@@ -87,4 +99,11 @@ fn any_bytes_are_answered() {
         }
     }
     assert!([1, 2, 4, 5, 14, 15].iter().all(|&number| numbers[number] > 5), "{numbers:?}");
+}
+
+#[test]
+fn about_a_third_of_the_walks_have_a_keyed_service() {
+    let mut random = Random::new(9);
+    let keyed = (0..600).filter(|_| Walk::begin(&mut random).is_keyed()).count();
+    assert!((180..250).contains(&keyed), "{keyed} of 600");
 }

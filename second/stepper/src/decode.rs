@@ -3,10 +3,10 @@
 use second::network::{Behaviour, Direction};
 use second::Network;
 
-use crate::encode::{slot, ENTRIES, ENTRY, MESSAGE, ROW, ROWS, ROWS_END, SLOT, STATE, TREE};
+use crate::encode::{slot, ENTRIES, ENTRY, KEY, KEY_END, MESSAGE, ROW, ROWS, ROWS_END, SLOT, STATE, TREE};
 use crate::refused::Misshape;
 use crate::rows::Rows;
-use crate::state::{Destination, Progress, Queued, Session, State, SESSIONS};
+use crate::state::{holds_key, Destination, Progress, Queued, Session, State, SESSIONS};
 use crate::tree::Tree;
 
 pub fn decode(network: &Network, bytes: &[u8]) -> Result<State, Misshape> {
@@ -19,9 +19,11 @@ pub fn decode(network: &Network, bytes: &[u8]) -> Result<State, Misshape> {
         for number in 0..SESSIONS {
             let start = slot(service, number);
             let place = Place { network, rows: &rows, service, number };
-            if let Some(session) = place.session(&bytes[start..start + SLOT])? {
-                state.services[service][number] = Some(session);
+            let Some(session) = place.session(&bytes[start..start + SLOT])? else { continue };
+            if session.key.is_some_and(|key| state.key_held(service, key)) {
+                return Err(Misshape::TwinKeys);
             }
+            state.services[service][number] = Some(session);
         }
     }
     Ok(state)
@@ -51,14 +53,27 @@ impl Place<'_> {
             _ => return Err(Misshape::Slot),
         }
         let root = self.rows.root(self.service, self.number).ok_or(Misshape::NobodyRuns)?;
-        if slot[1] != 0 || !all_zero(&slot[4..TREE]) || !all_zero(&slot[ROWS_END..]) {
+        if slot[1] != 0 || !all_zero(&slot[KEY_END..TREE]) || !all_zero(&slot[ROWS_END..]) {
             return Err(Misshape::KeptZero);
         }
         Ok(Some(Session {
             tree: tree(length_at(slot, 2), &slot[TREE..ENTRIES])?,
             queue: self.queue(&slot[ENTRIES..ROWS])?,
             progress: self.progress(root, &slot[ROWS..ROWS_END])?,
+            key: self.key(&slot[KEY..KEY_END])?,
         }))
+    }
+
+    /// The key of a session that holds one; any int is one. Else the bytes are 0.
+    fn key(&self, bytes: &[u8]) -> Result<Option<i32>, Misshape> {
+        let key = i32::from_le_bytes([bytes[0], bytes[1], bytes[2], bytes[3]]);
+        if holds_key(self.network, self.service, self.number) {
+            Ok(Some(key))
+        } else if key == 0 {
+            Ok(None)
+        } else {
+            Err(Misshape::Key)
+        }
     }
 
     fn queue(&self, bytes: &[u8]) -> Result<Vec<Queued>, Misshape> {

@@ -1,7 +1,8 @@
 //! A message on its way to a session: "queued at a live one, or starting a free 1 to 3, whose first
-//! starter branch of that operation receives it".
+//! starter branch of that operation receives it". In a keyed service its key says which.
 
 use second::network::Behaviour;
+use second::Value;
 
 use crate::moves::{Event, Stepping};
 use crate::receive::Input;
@@ -27,7 +28,7 @@ struct Start {
 }
 
 impl Stepping<'_> {
-    /// 15 and 16.
+    /// 15 and 16, whatever the key.
     pub fn target(&self, service: usize, session: usize, operation: usize) -> Result<Target, Refused> {
         let start = match self.state.live(service, session) {
             Some(live) if live.queue.len() >= QUEUE => return Err(Reason::QueueFull.into()),
@@ -57,20 +58,35 @@ impl Stepping<'_> {
         Err(NotAllowed::Target)
     }
 
-    /// The message is one and fits; 18 if it is too large for the tree of the session that it starts.
+    /// The key of a message to a keyed service: "a message goes only to the live session 1 to 3 with its key, or starts
+    /// one where no live session has it".
+    fn key(&self, target: &Target, message: &Tree) -> Result<Option<i32>, NotAllowed> {
+        let Some(id) = self.network.services[target.service].key else { return Ok(None) };
+        let found = message.find(&[id]).and_then(Tree::root_value);
+        let Some(Value::Int(key)) = found else { return Err(NotAllowed::NoKey) };
+        match self.state.live(target.service, target.session) {
+            Some(_) if target.session == 0 => Err(NotAllowed::KeylessTarget),
+            Some(live) if live.key != Some(key) => Err(NotAllowed::OtherKey),
+            None if self.state.key_held(target.service, key) => Err(NotAllowed::KeyHeld),
+            _ => Ok(Some(key)),
+        }
+    }
+
+    /// The message is one and fits; 15 for its key, 18 if it is too large for the tree of the session that it starts.
     pub fn deliver(
         &mut self,
         target: Target,
         message: Tree,
         destination: Option<Destination>,
     ) -> Result<Event, Refused> {
+        let key = self.key(&target, &message)?;
         let Some(start) = target.start else {
             let queued = Queued { operation: target.operation, message, destination };
             let live = self.state.live_mut(target.service, target.session).ok_or(NotAllowed::Target)?;
             live.queue.push(queued);
             return Ok(Event::Queued);
         };
-        let mut session = Session::new(self.network);
+        let mut session = Session { key, ..Session::new(self.network) };
         self.take(&mut session, start.input, &message, destination)?;
         session.progress[start.choice] = Progress::Taken(start.branch);
         self.state.services[target.service][target.session] = Some(session);

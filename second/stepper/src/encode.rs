@@ -4,6 +4,10 @@ use crate::state::{Destination, Progress, Queued, Session, State, SESSIONS};
 
 pub const STATE: usize = 65_536;
 pub const SLOT: usize = 4_096;
+/// Where the key stands in a slot, four bytes.
+pub const KEY: usize = 4;
+/// Bytes up to the tree are kept 0.
+pub const KEY_END: usize = 8;
 pub const TREE: usize = 16;
 pub const ENTRIES: usize = 1_040;
 pub const ENTRY: usize = 344;
@@ -36,6 +40,7 @@ fn write_session(session: &Session, slot: &mut [u8]) {
     slot[0] = 1;
     let tree = session.tree.bytes();
     slot[2..4].copy_from_slice(&(tree.len() as u16).to_le_bytes());
+    slot[KEY..KEY_END].copy_from_slice(&session.key.unwrap_or(0).to_le_bytes());
     slot[TREE..TREE + tree.len()].copy_from_slice(&tree);
     for (queued, entry) in session.queue.iter().zip(slot[ENTRIES..ROWS].chunks_mut(ENTRY)) {
         write_queued(queued, entry);

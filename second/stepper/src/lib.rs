@@ -39,7 +39,7 @@ pub struct Made {
     pub event: Event,
 }
 
-/// Refusals 1 to 13 in order; else the fresh state is written.
+/// Refusals 1 to 13 and 23 in order; else the fresh state is written.
 pub fn fresh(file: &[u8], state: &mut [u8]) -> Result<(), Refused> {
     if state.len() != STATE {
         return Err(Reason::Buffers.into());
@@ -50,7 +50,7 @@ pub fn fresh(file: &[u8], state: &mut [u8]) -> Result<(), Refused> {
     Ok(())
 }
 
-/// Refusals 1 to 5, 14 to 18, 22 and 19 in order; else the move is made.
+/// Refusals 1 to 5, 14 to 18, 22, 19 and 15 for a key in order; else the move is made.
 pub fn step(file: &[u8], state: &mut [u8], out: &mut [u8], named: &Move, outside: &[u8]) -> Result<Made, Refused> {
     if state.len() != STATE || out.len() < OUT {
         return Err(Reason::Buffers.into());

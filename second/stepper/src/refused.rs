@@ -31,10 +31,14 @@ pub enum Misshape {
     OtherRow,
     /// Rule 6: a destination outside the file's services, sessions and rows.
     Destination,
+    /// Rule 7: a key in a live session that holds none.
+    Key,
+    /// Rule 7: two live sessions of a service with one key.
+    TwinKeys,
 }
 
 impl Misshape {
-    pub const ALL: [Misshape; 12] = {
+    pub const ALL: [Misshape; 14] = {
         use Misshape::*;
         [
             Slot,
@@ -49,6 +53,8 @@ impl Misshape {
             Part,
             OtherRow,
             Destination,
+            Key,
+            TwinKeys,
         ]
     };
 }
@@ -77,10 +83,18 @@ pub enum NotAllowed {
     NotWaiting,
     /// The session that is to be closed is not done.
     NotDone,
+    /// After 19: a message to a keyed service has no int where its key should be.
+    NoKey,
+    /// After 19: the target is session 0 of a keyed service, which holds no key.
+    KeylessTarget,
+    /// After 19: the live target has another key.
+    OtherKey,
+    /// After 19: a live session has the key of a message that would start another.
+    KeyHeld,
 }
 
 impl NotAllowed {
-    pub const ALL: [NotAllowed; 11] = {
+    pub const ALL: [NotAllowed; 15] = {
         use NotAllowed::*;
         [
             NoSession,
@@ -94,6 +108,10 @@ impl NotAllowed {
             NobodyWaits,
             NotWaiting,
             NotDone,
+            NoKey,
+            KeylessTarget,
+            OtherKey,
+            KeyHeld,
         ]
     };
 }
@@ -111,7 +129,7 @@ pub enum Bound {
 pub enum Reason {
     /// 1
     Buffers,
-    /// 2 to 13
+    /// 2 to 13, 23
     File(Cause),
     /// 14
     State(Misshape),

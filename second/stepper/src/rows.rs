@@ -19,25 +19,12 @@ pub struct Ready {
     pub settles: Option<(usize, usize)>,
 }
 
-/// The sub-behaviours of a row.
-pub fn parts(behaviour: &Behaviour) -> Vec<usize> {
-    use Behaviour::*;
-    match behaviour {
-        Nil | OneWay { .. } | Notification { .. } | SolicitResponse { .. } | Assign { .. } => Vec::new(),
-        RequestResponse { body, .. } | While { body, .. } => vec![*body],
-        If { then, otherwise, .. } => vec![*then, *otherwise],
-        Sequence(a, b) | Parallel(a, b) => vec![*a, *b],
-        Choice { branches } => branches.clone().collect(),
-        Branch { input, then } => vec![*input, *then],
-    }
-}
-
 impl<'a> Rows<'a> {
     pub fn of(network: &'a Network) -> Rows<'a> {
         // Sub-behaviours are later rows and each row is used once: one pass downwards.
         let mut tops: Vec<usize> = (0..network.behaviours.len()).collect();
         for row in 0..tops.len() {
-            for part in parts(&network.behaviours[row]) {
+            for part in network.behaviours[row].parts() {
                 tops[part] = tops[row];
             }
         }
@@ -99,7 +86,7 @@ impl<'a> Rows<'a> {
     /// The part that an if, while or choice has taken.
     fn taken(&self, row: usize, progress: Progress) -> Option<usize> {
         match progress {
-            Progress::Taken(part) => parts(&self.network.behaviours[row]).get(part).copied(),
+            Progress::Taken(part) => self.network.behaviours[row].parts().get(part).copied(),
             _ => None,
         }
     }
@@ -152,10 +139,10 @@ impl<'a> Rows<'a> {
 
     /// Every row below a row.
     pub fn below(&self, row: usize) -> Vec<usize> {
-        let mut rows = parts(&self.network.behaviours[row]);
+        let mut rows = self.network.behaviours[row].parts();
         let mut next = 0;
         while next < rows.len() {
-            rows.extend(parts(&self.network.behaviours[rows[next]]));
+            rows.extend(self.network.behaviours[rows[next]].parts());
             next += 1;
         }
         rows

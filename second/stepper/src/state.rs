@@ -45,13 +45,21 @@ pub struct Session {
     pub queue: Vec<Queued>,
     /// One for each B row of the file.
     pub progress: Vec<Progress>,
+    /// The int of the message that started it, where it holds one.
+    pub key: Option<i32>,
 }
 
 impl Session {
-    /// Nothing received, nothing done.
+    /// Nothing received, nothing done, no key.
     pub fn new(network: &Network) -> Session {
-        Session { tree: Tree::void(0), queue: Vec::new(), progress: vec![Progress::Undone; network.behaviours.len()] }
+        let progress = vec![Progress::Undone; network.behaviours.len()];
+        Session { tree: Tree::void(0), queue: Vec::new(), progress, key: None }
     }
+}
+
+/// Whether a session holds a key while it is live: 1 to 3 of a keyed service.
+pub fn holds_key(network: &Network, service: usize, session: usize) -> bool {
+    session > 0 && network.services[service].key.is_some()
 }
 
 /// The sessions of each service; None for a free one.
@@ -77,6 +85,11 @@ impl State {
     /// A live session, by any numbers.
     pub fn live(&self, service: usize, session: usize) -> Option<&Session> {
         self.services.get(service)?.get(session)?.as_ref()
+    }
+
+    /// Whether a live session of a service holds this key.
+    pub fn key_held(&self, service: usize, key: i32) -> bool {
+        self.services[service].iter().flatten().any(|session| session.key == Some(key))
     }
 
     pub fn live_mut(&mut self, service: usize, session: usize) -> Option<&mut Session> {

@@ -30,6 +30,11 @@ impl Assembled {
     pub fn origin(&self, text: &str, refusal: &Refusal) -> Option<(usize, usize)> {
         origin(&self.file, &self.origins, refusal).map(|spot| line_and_column(text, spot))
     }
+
+    /// Where in the text a row of P, T, E, B, O or S stands.
+    pub fn spot(&self, section: Section, row: usize) -> Option<Spot> {
+        self.origins.get(section as usize)?.get(row).copied()
+    }
 }
 
 fn origin(file: &[u8], origins: &Origins, refusal: &Refusal) -> Option<Spot> {
@@ -40,7 +45,7 @@ fn origin(file: &[u8], origins: &Origins, refusal: &Refusal) -> Option<Spot> {
             (section, row)
         }
         6..=12 => (Section::Behaviours, refusal.place),
-        13 => (Section::Operations, refusal.place),
+        13 | 23 => (Section::Operations, refusal.place),
         _ => return None,
     };
     origins.get(section as usize)?.get(row).copied()
@@ -52,7 +57,7 @@ pub fn assemble(text: &str) -> Result<Assembled, Error> {
 }
 
 /// Makes the network file of a text and of the file that it names. A file that is made passes refusals 2 to 5, but
-/// for the text of string constants: 4 of these is left to the checker, as 6 to 13 are.
+/// for the text of string constants: 4 of these is left to the checker, as 6 to 13 and 23 are.
 pub fn assemble_with(text: &str, read: &mut ReadFile) -> Result<Assembled, Error> {
     let mut assembler = Assembler { text, ..Assembler::default() };
     for item in parse(text, read)? {
@@ -182,7 +187,10 @@ impl Assembler<'_> {
                 self.data_given = true;
                 self.tables.data = bytes;
             }
-            Item::Service { spot, location, parts } => self.service(spot, location, parts)?,
+            Item::Service { spot, location, key, parts } => {
+                let row = ServiceRow { location, starter: NONE, client: NONE, key };
+                self.service(spot, row, parts)?
+            }
         }
         Ok(())
     }
@@ -301,9 +309,9 @@ impl Assembler<'_> {
         }
     }
 
-    fn service(&mut self, spot: Spot, location: u16, parts: Vec<Part>) -> Result<(), Error> {
+    fn service(&mut self, spot: Spot, service: ServiceRow, parts: Vec<Part>) -> Result<(), Error> {
         let row = self.new_row(Section::Services, spot)?;
-        self.tables.services.push(ServiceRow { location, starter: NONE, client: NONE, unused: 0 });
+        self.tables.services.push(service);
         let mut pending = PendingService { starter: None, client: None };
         for part in parts {
             match part {

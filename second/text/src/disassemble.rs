@@ -303,7 +303,8 @@ impl Printer<'_> {
         if !self.text.is_empty() {
             self.text.push('\n');
         }
-        self.line(&format!("service {} {{", service.location));
+        let key = service.key.map_or(String::new(), |key| format!("keyed by {key} "));
+        self.line(&format!("service {} {key}{{", service.location));
         self.depth += 1;
         for (number, operation) in self.network.operations.iter().enumerate() {
             if operation.service != row {

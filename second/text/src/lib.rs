@@ -4,6 +4,7 @@
 pub mod assemble;
 pub mod declared;
 pub mod disassemble;
+pub mod keys;
 pub mod parse;
 mod quoted;
 pub mod rows;

@@ -9,7 +9,7 @@ use std::path::Path;
 use std::process::ExitCode;
 
 use files::Input;
-use net::{assemble_with, decode, disassemble, rows, Assembled, Error, NamedFile};
+use net::{assemble_with, decode, disassemble, keys, rows, Assembled, Error, NamedFile};
 use second::tables::LONGEST;
 use second::Refusal;
 
@@ -128,9 +128,11 @@ fn run_check(name: &OsStr) -> Result<u8, Failure> {
     let (report, refused) = match made {
         Ok(made) => {
             let verdict = second::check(&made.file);
-            let place = verdict.as_ref().err().and_then(|refusal| Some((refusal, made.origin(text, refusal)?)));
-            let told = place.map(|(refusal, (line, column))| told(&input.name, line, column, refusal.cause.sentence()));
-            (second::report(&verdict) + &told.unwrap_or_default(), verdict.is_err())
+            let told = match &verdict {
+                Ok(_) => noted(&input.name, text, &made),
+                Err(refusal) => refused_at(&input.name, text, &made, refusal),
+            };
+            (second::report(&verdict) + &told, verdict.is_err())
         }
         Err(Error { refusal: Some(refusal), file, line, column, .. }) => {
             let told = told(file.as_ref().unwrap_or(&input.name), line, column, refusal.sentence());
@@ -142,7 +144,18 @@ fn run_check(name: &OsStr) -> Result<u8, Failure> {
     Ok(if refused { REFUSED } else { ACCEPTED })
 }
 
-/// The line that leads to what is refused.
+/// The line that leads to the row at a refusal's place.
+fn refused_at(name: &str, text: &str, made: &Assembled, refusal: &Refusal) -> String {
+    let place = made.origin(text, refusal);
+    place.map_or(String::new(), |(line, column)| told(name, line, column, &keys::sentence(made, text, refusal)))
+}
+
+/// The lines that lead to what is accepted and will not do what it seems to.
+fn noted(name: &str, text: &str, made: &Assembled) -> String {
+    keys::notes(made, text).iter().map(|note| told(name, note.line, note.column, &note.message)).collect()
+}
+
+/// The line that leads to what is refused or noted.
 fn told(name: &str, line: usize, column: usize, sentence: &str) -> String {
     format!("{name}: line {line}, column {column}: {sentence}\n")
 }

@@ -149,17 +149,25 @@ impl Parser<'_> {
                 Item::Expression { spot, name, expression: self.expression()? }
             }
             "data" => Item::Data { spot, bytes: self.hex()? },
-            "service" => {
-                let location = self.location()?;
-                self.scanner.expect("{")?;
-                let mut parts = Vec::new();
-                while !self.scanner.takes("}") {
-                    parts.push(self.part()?);
-                }
-                Item::Service { spot, location, parts }
-            }
+            "service" => self.service(spot)?,
             _ => return self.error(spot, format!("{ITEMS} expected")),
         }))
+    }
+
+    /// `service`, after that word. `keyed` and `by` are words only here, and names elsewhere.
+    fn service(&mut self, spot: Spot) -> Result<Item, Error> {
+        let location = self.location()?;
+        let mut key = 0;
+        if self.scanner.takes_word("keyed") {
+            self.scanner.expect_word("by")?;
+            key = self.id()?;
+        }
+        self.scanner.expect("{")?;
+        let mut parts = Vec::new();
+        while !self.scanner.takes("}") {
+            parts.push(self.part()?);
+        }
+        Ok(Item::Service { spot, location, key, parts })
     }
 
     /// `types`, after that word: the types and ids of a file.

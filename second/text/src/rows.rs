@@ -27,7 +27,8 @@ fn row_or_none(row: Option<usize>) -> String {
 
 fn service_line(service: &Service) -> String {
     let (starter, client) = (row_or_none(service.starter), row_or_none(service.client));
-    format!("location {}, starter {starter}, client {client}", service.location)
+    let key = service.key.map_or(String::new(), |key| format!(", keyed by {key}"));
+    format!("location {}, starter {starter}, client {client}{key}", service.location)
 }
 
 fn operation_line(operation: &Operation) -> String {

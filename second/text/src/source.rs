@@ -87,7 +87,12 @@ pub struct Scanner<'a> {
 
 impl<'a> Scanner<'a> {
     pub fn new(text: &'a str) -> Scanner<'a> {
-        Scanner { text, at: 0 }
+        Scanner::at(text, 0)
+    }
+
+    /// From a place of the text on.
+    pub fn at(text: &'a str, at: Spot) -> Scanner<'a> {
+        Scanner { text, at }
     }
 
     pub fn error<T>(&self, spot: Spot, message: impl Into<String>) -> Result<T, Error> {
@@ -164,6 +169,12 @@ impl<'a> Scanner<'a> {
         } else {
             self.error(spot, format!("`{word}` expected"))
         }
+    }
+
+    /// Takes a word or number; empty if neither comes next.
+    pub fn take_name(&mut self) -> &'a str {
+        self.spot();
+        self.take_while(|sign| sign.is_ascii_alphanumeric() || sign == '_')
     }
 
     /// Takes the longest run of such signs.

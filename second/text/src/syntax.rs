@@ -42,6 +42,8 @@ pub enum Item {
     Service {
         spot: Spot,
         location: u16,
+        /// 0 for none.
+        key: u16,
         parts: Vec<Part>,
     },
 }

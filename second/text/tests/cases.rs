@@ -64,7 +64,7 @@ fn each_file_that_passes_2_to_5_survives_the_round_trip() {
     }
 }
 
-/// Every rule behind 6 to 13 refuses a file, at each kind of row that it can refuse. A nil (0), a
+/// Every rule behind 6 to 13 and 23 refuses a file, at each kind of row that it can refuse. A nil (0), a
 /// sequence (7) and a branch (11) have no premise of their own.
 #[test]
 fn each_rule_and_each_kind_that_it_can_refuse_has_a_file() {
@@ -219,9 +219,10 @@ fn damaged_sections() -> Vec<(&'static str, Vec<u8>)> {
 
 /// Those that break 4 or 5.
 fn damaged_rows() -> Vec<(&'static str, Vec<u8>)> {
-    let service: fn(&mut Tables) = |tables| tables.services[0].unused = 1;
+    let field: fn(&mut Tables) = |tables| tables.behaviours[0].fields[3] = 1;
+    let service: fn(&mut Tables) = |tables| tables.services[0].location = 0;
     let service_and_row: fn(&mut Tables) = |tables| {
-        tables.services[0].unused = 1;
+        tables.services[0].location = 0;
         tables.behaviours[0].unused = 7;
     };
     let seventeen_and_row: fn(&mut Tables) = |tables| {
@@ -238,7 +239,7 @@ fn damaged_rows() -> Vec<(&'static str, Vec<u8>)> {
         ninth_level(tables);
     };
     vec![
-        ("04_unused_field", changed("ok_steps", service)),
+        ("04_unused_field", changed("ok_steps", field)),
         ("04_before_05", changed("ok_type_nodes", seventeen_and_row)),
         ("04_before_07", unread(service)),
         ("04_lowest_place", unread(service_and_row)),

@@ -12,13 +12,14 @@ fn folder() -> PathBuf {
 /// Name, first line of the report, lines of the report, line and column of a refusal.
 type Verdict = (&'static str, &'static str, usize, Option<(usize, usize)>);
 
-const VERDICTS: [Verdict; 11] = [
+const VERDICTS: [Verdict; 12] = [
     ("assign", "accepted", 3, None),
     ("branches", "accepted", 5, None),
     ("counter", "accepted", 9, None),
     ("flag_refused", "refused 7 3", 1, Some((18, 13))),
     ("hall", "accepted", 18, None),
     ("hall_refused", "refused 9 5", 1, Some((21, 53))),
+    ("keyed", "accepted", 16, None),
     ("labels", "accepted", 9, None),
     ("lift", "accepted", 12, None),
     ("nested", "accepted", 15, None),
@@ -112,6 +113,17 @@ fn the_broken_label_of_the_page_is_refused_as_it_says() {
     let refusal = second::check(&made.file).expect_err("broken text");
     let (line, column) = made.origin(text, &refusal).expect("a row");
     assert_eq!(told, format!("{refusal}\na.net: line {line}, column {column}: {}", refusal.cause.sentence()));
+}
+
+#[test]
+fn the_unfit_key_of_the_page_is_refused_as_it_says() {
+    let [text, told] = ["service 3 keyed by 1 { input 11: void { 1?: int } }", "refused 23 0"].map(block);
+    let text = text.lines().next().expect("a line");
+    let made = assemble(text).unwrap_or_else(|error| panic!("{error}"));
+    let refusal = second::check(&made.file).expect_err("an unfit input");
+    let (line, column) = made.origin(text, &refusal).expect("a row");
+    let sentence = net::keys::sentence(&made, text, &refusal);
+    assert_eq!(told, format!("{refusal}\na.net: line {line}, column {column}: {sentence}"));
 }
 
 #[test]

@@ -117,6 +117,26 @@ fn refusals_go_to_standard_output_with_their_line() {
     assert!(status == 0 && out == b"accepted\n0 C 5 ! void\n0 C 5.7 ! int\n");
 }
 
+/// A file is made of a text that 23 refuses; a note comes after what is accepted, and the status tells of none.
+#[test]
+fn keys_are_told_after_the_verdict() {
+    let folder = folder("keys");
+    let text = "service 3 keyed by 7 {\n  input 5: void { 7: int }\n  client receive 5 into 6\n}\n";
+    fs::write(folder.join("a.net"), text).expect("a file");
+    let (status, out, said) = net(&folder, &["check", "a.net"]);
+    let told = "accepted\n0 C 6 ! void\n0 C 6.7 ! int\na.net: line 3, column 10: note: service 3 is keyed: \
+                nothing is ever queued at its client, so this input waits for good\n";
+    assert_eq!((status, String::from_utf8_lossy(&out).as_ref(), said.as_str()), (0, told, ""));
+    fs::write(folder.join("a.net"), text.replace("7: int", "7: long")).expect("a file");
+    let (status, out, said) = net(&folder, &["check", "a.net"]);
+    let told = "refused 23 0\na.net: line 2, column 3: service 3 is keyed by 7, but the request type of its input 5 \
+                has 7 as a long, not an int\n";
+    assert_eq!((status, String::from_utf8_lossy(&out).as_ref(), said.as_str()), (1, told, ""));
+    says(&folder, &["assemble", "a.net", "a.bin"], 0, "");
+    let (status, out, _) = net(&folder, &["rows", "a.bin"]);
+    assert!(status == 0 && out.starts_with(b"service 0: location 3, starter none, client 0, keyed by 7\n"));
+}
+
 #[test]
 fn what_is_refused_with_2_to_5_is_not_made() {
     let folder = folder("not_made");
@@ -128,7 +148,7 @@ fn what_is_refused_with_2_to_5_is_not_made() {
         says(&folder, &[command, "out"], 1, "out: refused 2 0: the file's length");
         assert_eq!(run(&folder, &[command, "-"], &[0; 28], Stdio::piped()).0, 1);
     }
-    // 6 to 13 are the checker's.
+    // 6 to 13 and 23 are the checker's.
     fs::write(folder.join("a.net"), NO_PATH).expect("a file");
     says(&folder, &["assemble", "a.net", "out"], 0, "");
 }

@@ -12,7 +12,7 @@ fn file(texts: &[&[u8]]) -> Vec<u8> {
         tables.expressions.push(ExpressionRow { kind: 0, basic: Basic::String.byte(), fields });
         tables.data.extend(*text);
     }
-    tables.services.push(ServiceRow { location: 1, starter: NONE, client: NONE, unused: 0 });
+    tables.services.push(ServiceRow { location: 1, starter: NONE, client: NONE, key: 0 });
     tables.write()
 }
 

@@ -13,7 +13,7 @@ fn tables(text: &str) -> Tables {
 }
 
 /// Texts with line, column and a part of their error.
-const ERRORS: [(&str, usize, usize, &str); 35] = [
+const ERRORS: [(&str, usize, usize, &str); 40] = [
     ("", 1, 1, "a network has a service"),
     ("servic 1 {}", 1, 1, "service expected"),
     ("service 0 {}", 1, 9, "not 0"),
@@ -31,6 +31,11 @@ const ERRORS: [(&str, usize, usize, &str); 35] = [
     ("service 1 { client nil client nil }", 1, 31, "one client"),
     ("service 1 { starter nil }", 1, 21, "a starter is a choice"),
     ("service 1 {\n  client set 5 = $x }", 2, 18, "no expression `$x`"),
+    ("service 1 keyed 7 {}", 1, 17, "`by` expected"),
+    ("service 1 keyed by {}", 1, 20, "an id expected"),
+    ("service 1 keyed by 0 {}", 1, 20, "not 0"),
+    ("location a = 1\nservice a keyed by hoist {}", 2, 20, "no id `hoist`"),
+    ("service 1 keyed by 7 keyed by 7 {}", 1, 22, "`{` expected"),
     ("id a = 1 id a = 2", 1, 10, "declared already"),
     ("id set = 1", 1, 4, "no name"),
     ("type A = void { 3: int, 3: bool }", 1, 25, "stands here already"),

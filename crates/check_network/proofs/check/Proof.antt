@@ -8,7 +8,7 @@ use Rattle.check_network.proofs.check.Lts as lts
 use Rattle.check_network.proofs.all_services.Reads as all-services-reads
 use Rattle.check_network.proofs.verdict_only.Reads as verdict-only-reads
 use Rattle.network_form.proofs.form_of.Reads as form-of-reads
-use Rattle.check_outputs.proofs.check_outputs.Reads as check-outputs-reads
+use Rattle.check_network.proofs.operations.Reads as operations-reads
 
 form-of-requires : tie.Need-form-of-requires
 form-of-requires c κs = search needs
@@ -40,8 +40,8 @@ verdict-only-requires-2 c κs = search needs
 returns-2 : tie.Need-returns-2
 returns-2 c = (search file-laws depth 12, search shape-laws depth 12)
 
-check-outputs-requires : tie.Need-check-outputs-requires
-check-outputs-requires c κs = search needs
+operations-requires : tie.Need-operations-requires
+operations-requires c κs = search needs
 
 enum-told-5 : tie.Need-enum-told-5
 enum-told-5 c = search needs
@@ -72,7 +72,7 @@ check-spec =
     enum-told-4
     verdict-only-requires-2
     returns-2
-    check-outputs-requires
+    operations-requires
     enum-told-5
     enum-told-6
     verdict-only-requires-3

@@ -4,6 +4,13 @@ use Rattle.move_delivery.proofs.admit.Statement.{statement}
 use Rattle.move_delivery.proofs.admit.Tie as tie
 use Rattle.move_delivery.proofs.admit.Reads as reads
 use Rattle.move_delivery.proofs.admit.Lts as lts
+use Rattle.move_delivery.proofs.lets_in.Reads as lets-in-reads
+use Rattle.move_delivery.proofs.place.Reads as place-reads
+use Rattle.move_keys.proofs.find.Reads as find-reads
+use Rattle.move_targets.proofs.target_of.Reads as target-of-reads
+use Rattle.network_rows.proofs.operation_service.Reads as operation-service-reads
+use Rattle.network_rows.proofs.request_type.Reads as request-type-reads
+use Rattle.wire.proofs.byte_to_u16.Reads as byte-to-u16-reads
 
 target-of-requires : tie.Need-target-of-requires
 target-of-requires c κs = search needs
@@ -26,17 +33,29 @@ enum-known-why c = search needs
 enum-told : tie.Need-enum-told
 enum-told c = search needs
 
+find-requires : tie.Need-find-requires
+find-requires c κs = search needs
+
+enum-told-2 : tie.Need-enum-told-2
+enum-told-2 c = search needs
+
+enum-known-x : tie.Need-enum-known-x
+enum-known-x c = search needs
+
 place-requires : tie.Need-place-requires
 place-requires c κs = search needs
 
 returns : tie.Need-returns
 returns c = search (admit-laws, needs) depth 12
 
+returns-2 : tie.Need-returns-2
+returns-2 c = search (admit-laws, needs) depth 12
+
 same-length : tie.Need-same-length
 same-length c = search needs
 
-returns-2 : tie.Need-returns-2
-returns-2 c = search (admit-laws, needs) depth 12
+returns-3 : tie.Need-returns-3
+returns-3 c = search (admit-laws, needs) depth 12
 
 pub admit-spec : {M : Type 1} → statement M
 admit-spec =
@@ -49,7 +68,11 @@ admit-spec =
     lets-in-requires
     enum-known-why
     enum-told
+    find-requires
+    enum-told-2
+    enum-known-x
     place-requires
     returns
+    returns-2
     same-length
-    returns-2)
+    returns-3)

@@ -6,20 +6,8 @@ use Rattle.network_rules.proofs.service_rule.Tie as tie
 service-at-requires : tie.Need-service-at-requires
 service-at-requires c κs = search needs
 
-add-u16-at : tie.Need-add-u16-at
-add-u16-at c = search needs
-
-u16-at-requires : tie.Need-u16-at-requires
-u16-at-requires c κs = search needs
-
-add-rule : tie.Need-add-rule
-add-rule c = search needs
-
 location-repeats-requires : tie.Need-location-repeats-requires
 location-repeats-requires c κs = search needs
-
-rule-requires : tie.Need-rule-requires
-rule-requires c κs = search needs
 
 client-row-requires : tie.Need-client-row-requires
 client-row-requires c κs = search needs
@@ -27,11 +15,11 @@ client-row-requires c κs = search needs
 client-fits-requires : tie.Need-client-fits-requires
 client-fits-requires c κs = search needs
 
-add-rule-2 : tie.Need-add-rule-2
-add-rule-2 c = search needs
+add-rule : tie.Need-add-rule
+add-rule c = search needs
 
-rule-requires-2 : tie.Need-rule-requires-2
-rule-requires-2 c κs = search needs
+rule-requires : tie.Need-rule-requires
+rule-requires c κs = search needs
 
 starter-row-requires : tie.Need-starter-row-requires
 starter-row-requires c κs = search needs
@@ -39,17 +27,17 @@ starter-row-requires c κs = search needs
 starter-fits-requires : tie.Need-starter-fits-requires
 starter-fits-requires c κs = search needs
 
-add-rule-3 : tie.Need-add-rule-3
-add-rule-3 c = search needs
+add-rule-2 : tie.Need-add-rule-2
+add-rule-2 c = search needs
 
-rule-requires-3 : tie.Need-rule-requires-3
-rule-requires-3 c κs = search needs
+rule-requires-2 : tie.Need-rule-requires-2
+rule-requires-2 c κs = search needs
 
 service-location-requires : tie.Need-service-location-requires
 service-location-requires c κs = search needs
 
-rule-requires-4 : tie.Need-rule-requires-4
-rule-requires-4 c κs = search needs
+rule-requires-3 : tie.Need-rule-requires-3
+rule-requires-3 c κs = search needs
 
 returns : tie.Need-returns
 unfolding serviceRow
@@ -60,19 +48,15 @@ service-rule-spec =
     tie.close
     (tie.spec
     service-at-requires
-    add-u16-at
-    u16-at-requires
-    add-rule
     location-repeats-requires
-    rule-requires
     client-row-requires
     client-fits-requires
-    add-rule-2
-    rule-requires-2
+    add-rule
+    rule-requires
     starter-row-requires
     starter-fits-requires
-    add-rule-3
-    rule-requires-3
+    add-rule-2
+    rule-requires-2
     service-location-requires
-    rule-requires-4
+    rule-requires-3
     returns)

@@ -92,6 +92,12 @@ enum-known-why-12 c = search needs
 enum-told-10 : tie.Need-enum-told-10
 enum-told-10 c = search needs
 
+enum-known-why-13 : tie.Need-enum-known-why-13
+enum-known-why-13 c = search needs
+
+row-place-requires-9 : tie.Need-row-place-requires-9
+row-place-requires-9 c κs = search needs
+
 returns : tie.Need-returns
 returns c = rw (c .before .why .given .1)
 
@@ -158,6 +164,9 @@ returns-21 c = rw (c .before .why12 .given .1)
 returns-22 : tie.Need-returns-22
 returns-22 c = rw (c .enum-told10 .given .1)
 
+returns-23 : tie.Need-returns-23
+returns-23 c = rw (c .before .before .why13 .given .1) (c .row-place9 .ensures)
+
 pub place-of-spec : {M : Type 1} → statement M
 place-of-spec =
     tie.close
@@ -192,6 +201,8 @@ place-of-spec =
     enum-known-why-11
     enum-known-why-12
     enum-told-10
+    enum-known-why-13
+    row-place-requires-9
     returns
     returns-2
     returns-3
@@ -213,4 +224,5 @@ place-of-spec =
     returns-19
     returns-20
     returns-21
-    returns-22)
+    returns-22
+    returns-23)

@@ -4,6 +4,7 @@ use Rattle.state_shape.proofs.stands.Statement.{statement}
 use Rattle.state_shape.proofs.stands.Tie as tie
 use Rattle.state_shape.proofs.stands.Reads as reads
 use Rattle.state_shape.proofs.stands.Lts as lts
+use Rattle.state_shape.proofs.all_keys_suit.Reads as all-keys-suit-reads
 use Rattle.state_shape.proofs.slot_stands.Reads as slot-stands-reads
 use Rattle.tree.proofs.octets.Reads as octets-reads
 
@@ -37,6 +38,9 @@ loop-less c = search needs
 loop-again : tie.Need-loop-again Inv-loop μ-loop
 loop-again c = search stand-again-laws depth 12
 
+all-keys-suit-requires : tie.Need-all-keys-suit-requires Inv-loop μ-loop
+all-keys-suit-requires c κs = search needs
+
 returns-3 : tie.Need-returns-3 Inv-loop μ-loop
 returns-3 c = search stand-laws depth 12
 
@@ -54,4 +58,5 @@ stands-spec =
     returns-2
     loop-less
     loop-again
+    all-keys-suit-requires
     returns-3)

@@ -54,7 +54,7 @@ pub fn output(service: u8, id: u16, location: u16, request: u16, reply: Option<u
 }
 
 pub fn service(location: u16, starter: Option<u16>, client: Option<u16>) -> ServiceRow {
-    ServiceRow { location, starter: starter.unwrap_or(NONE), client: client.unwrap_or(NONE), unused: 0 }
+    ServiceRow { location, starter: starter.unwrap_or(NONE), client: client.unwrap_or(NONE), key: 0 }
 }
 
 /// Adds a constant's bytes and row.

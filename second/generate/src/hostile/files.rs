@@ -36,7 +36,7 @@ fn input(service: u8, id: u16, request: u16) -> OperationRow {
 }
 
 fn client(location: u16, client: u16) -> ServiceRow {
-    ServiceRow { location, starter: NONE, client, unused: 0 }
+    ServiceRow { location, starter: NONE, client, key: 0 }
 }
 
 /// The constants 1 and 2, and ladders over them: the last two rows are a less and a sum.
@@ -88,7 +88,7 @@ fn nested() -> Tables {
 fn starter_whiles() -> Tables {
     let mut tables = nested();
     let less = tables.expressions.len() as u16 - 2;
-    tables.services = vec![ServiceRow { location: 1, starter: 0, client: NONE, unused: 0 }];
+    tables.services = vec![ServiceRow { location: 1, starter: 0, client: NONE, key: 0 }];
     tables.behaviours = vec![row(10, [1, 8, 0, 0])];
     let first = |branch: u16| 9 + 30 * branch;
     tables.behaviours.extend((0..8).map(|branch| row(11, [first(branch), first(branch) + 1, 0, 0])));
@@ -199,17 +199,19 @@ pub fn expression() -> Tables {
 }
 
 /// Four services with client and starter that send each other and outside the largest messages, every node of
-/// this basic type, of which `constant` is one.
-pub fn talkers(basic: &str, constant: &str) -> Vec<u8> {
+/// this basic type, of which `constant` is one; of keyed services the last child is the key.
+pub fn talkers(basic: &str, constant: &str, keyed: bool) -> Vec<u8> {
+    let (last, keyed) = if keyed { ("int", "keyed by 3") } else { (basic, "") };
+    let below = format!("{{ 1: {basic} {{ 7: {basic} }}, 2: {basic} {{ 7: {basic} }} }}");
     let mut text = format!(
-        "type Third = {basic} {{ 1: {basic} {{ 7: {basic} }}, 2: {basic} {{ 7: {basic} }} }}
-        type Big = {basic} {{ 1: Third, 2: Third, 3: Third }}\n"
+        "type Third = {basic} {below}
+        type Big = {basic} {{ 1: Third, 2: Third, 3: {last} {below} }}\n"
     );
     for service in 1..=4 {
         let next = service % 4 + 1;
         text += &format!(
             "location s{service} = {service}
-            service s{service} {{
+            service s{service} {keyed} {{
                 input 1: Big input 2: Big -> Big
                 output 1 to {next}: Big output 1 to {service}: Big output 1 to 100: Big
                 output 2 to {next}: Big -> Big output 2 to 100: Big -> Big
@@ -257,8 +259,12 @@ mod tests {
                 ("operations_equal_at_end", 4),
             ]
         );
-        let talkers = [talkers("raw", "raw { 01 }"), talkers("string", "\"a\"")];
-        assert_eq!(talkers.map(|file| number(&file)), [0, 0]);
+        let talkers = [
+            talkers("raw", "raw { 01 }", false),
+            talkers("string", "\"a\"", false),
+            talkers("raw", "raw { 01 }", true),
+        ];
+        assert_eq!(talkers.map(|file| number(&file)), [0, 0, 0]);
         assert_eq!(number(&expression().write()), 0);
     }
 }

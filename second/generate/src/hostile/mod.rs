@@ -6,7 +6,7 @@ pub mod place;
 
 use second::{Basic, Network, Value};
 use stepper::encode::STATE;
-use stepper::state::{State, QUEUE, SESSIONS};
+use stepper::state::{holds_key, State, QUEUE, SESSIONS};
 use stepper::{Move, Tree};
 
 use crate::maximal;
@@ -101,9 +101,10 @@ pub fn all() -> Vec<Case> {
     cases.extend(files::all().into_iter().map(|(name, tables)| Case::file(name, tables.write())));
     cases.push(expression("expression", |_| ()));
     cases.push(expression("expression_outside", to_the_end));
-    cases.push(full_slots("full_slots", files::talkers("raw", "raw { 01 }"), ""));
-    cases.push(full_slots("full_strings", files::talkers("string", "\"a\""), "sixteen letters."));
-    cases.push(full_slots("full_labels", files::talkers("string", "\"a\""), "ტვირთ5"));
+    cases.push(full_slots("full_slots", files::talkers("raw", "raw { 01 }", false), ""));
+    cases.push(full_slots("full_strings", files::talkers("string", "\"a\"", false), "sixteen letters."));
+    cases.push(full_slots("full_labels", files::talkers("string", "\"a\"", false), "ტვირთ5"));
+    cases.push(full_slots("full_keys", files::talkers("raw", "raw { 01 }", true), ""));
     cases.push(Case::file("largest", maximal::tables().write()));
     cases
 }
@@ -138,6 +139,15 @@ fn spell(tree: &mut Tree, text: &str) {
     tree.children.iter_mut().for_each(|child| spell(child, text));
 }
 
+/// The key of a session: that of the largest messages in session 1 of the last two services, else another in one byte.
+fn key(service: usize, number: usize) -> i32 {
+    let largest = i32::from_le_bytes([7; 4]);
+    match (service, number) {
+        (2 | 3, 1) => largest,
+        _ => largest ^ 1 << (8 * number),
+    }
+}
+
 /// Sixteen live slots, each with 48 nodes, four messages and every row done but in the one that moves;
 /// and bytes that stand for no state. Strings are `text`.
 fn full_slots(name: &str, file: Vec<u8>, text: &str) -> Case {
@@ -152,6 +162,7 @@ fn full_slots(name: &str, file: Vec<u8>, text: &str) -> Case {
         for number in 0..SESSIONS {
             let mut session = full_session(&network, service, &tree, QUEUE);
             session.queue.iter_mut().for_each(|queued| spell(&mut queued.message, text));
+            session.key = holds_key(&network, service, number).then(|| key(service, number));
             let root = &network.services[service];
             let root = if number == 0 { root.client } else { root.starter };
             finish(&network, &mut session.progress, root.expect("a client and a starter"));
@@ -163,7 +174,8 @@ fn full_slots(name: &str, file: Vec<u8>, text: &str) -> Case {
         let (file, tree, base) = (file.clone(), tree.clone(), base.clone());
         (Place { file, network, service, session, tree, base }, At::EveryRow)
     };
-    let places = vec![place(0, 0), place(3, 3)];
+    let mut places = vec![place(0, 0), place(3, 3)];
+    places.extend(holds_key(&network, 2, 1).then(|| place(2, 1)));
     Case { name: name.into(), file: file.clone(), places, calls: no_states(&file) }
 }
 

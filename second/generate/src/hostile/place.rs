@@ -94,9 +94,10 @@ impl Place {
         full_session(&self.network, self.service, &self.tree, queued)
     }
 
-    /// The session in its slot, and perhaps another one of each service free.
-    fn call(&self, session: Session, free: Option<u16>, named: Move, outside: Vec<u8>) -> Call {
+    /// The session in its slot, with the key that it has there, and perhaps another one of each service free.
+    fn call(&self, mut session: Session, free: Option<u16>, named: Move, outside: Vec<u8>) -> Call {
         let mut state = self.base.clone();
+        session.key = state.live(self.service, self.session).and_then(|base| base.key);
         if let Some(number) = free {
             state.services.iter_mut().for_each(|sessions| sessions[usize::from(number)] = None);
         }

@@ -6,7 +6,6 @@ pub mod reach;
 
 use second::network::{Behaviour, Expression, Network};
 use second::tables::{BehaviourRow, ServiceRow, Tables, NONE};
-use stepper::rows::parts;
 
 use crate::random::Random;
 
@@ -218,7 +217,7 @@ impl Nest {
         let at = tables.behaviours.len() as u16;
         tables.behaviours.extend(self.leaf.rows(self, at));
         let (starter, client) = if self.starter { (0, NONE) } else { (NONE, 0) };
-        tables.services.push(ServiceRow { location: kit::LOCATION, starter, client, unused: 0 });
+        tables.services.push(ServiceRow { location: kit::LOCATION, starter, client, key: 0 });
         tables
     }
 
@@ -300,7 +299,7 @@ pub fn mixed(random: &mut Random, leaf: Leaf) -> Nest {
 pub fn depths(network: &Network) -> Vec<[usize; 10]> {
     let mut depths = vec![[0; 10]; network.behaviours.len()];
     for row in 0..depths.len() {
-        for (number, part) in parts(&network.behaviours[row]).into_iter().enumerate() {
+        for (number, part) in network.behaviours[row].parts().into_iter().enumerate() {
             depths[part] = depths[row];
             if let Some(level) = level_of(&network.behaviours[row], number) {
                 depths[part][level as usize] += 1;

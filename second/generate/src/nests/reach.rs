@@ -1,7 +1,6 @@
 //! Progress in which a row is reached, however deep it is nested, or done.
 
 use second::network::{Behaviour, Network};
-use stepper::rows::parts;
 use stepper::state::{Destination, Progress};
 
 /// Marks the rows above a row as taken or received and those before it as done. Gives the rows above,
@@ -29,7 +28,7 @@ pub fn reach(network: &Network, progress: &mut [Progress], row: usize, to: Desti
 /// The row that has a row as its part, and the part's number.
 fn parent_of(network: &Network, row: usize) -> Option<(usize, usize)> {
     (0..row).find_map(|parent| {
-        let number = parts(&network.behaviours[parent]).iter().position(|&part| part == row)?;
+        let number = network.behaviours[parent].parts().iter().position(|&part| part == row)?;
         Some((parent, number))
     })
 }
@@ -42,7 +41,7 @@ pub fn finish(network: &Network, progress: &mut [Progress], row: usize) {
         Behaviour::If { .. } | Behaviour::Choice { .. } => progress[row] = Progress::Taken(0),
         _ => progress[row] = Progress::Done,
     }
-    let all = parts(behaviour);
+    let all = behaviour.parts();
     let taken = if matches!(progress[row], Progress::Taken(_)) { 1 } else { all.len() };
     for &part in all.iter().take(taken) {
         finish(network, progress, part);

@@ -2,6 +2,7 @@
 
 mod behaviours;
 mod expressions;
+mod keys;
 mod operations;
 mod types;
 
@@ -10,6 +11,7 @@ pub use expressions::value;
 use second::environment::Node;
 use second::{Basic, Tables};
 
+use crate::keys::decide::Unfit;
 use crate::random::Random;
 
 /// A single mistake, made where it can be made.
@@ -32,10 +34,12 @@ pub enum Blunder {
     InputKind,
     InputRequest,
     InputReply,
+    /// An input of a keyed service without the key, with an optional one, or one of another basic type.
+    Key(Unfit),
 }
 
 impl Blunder {
-    pub const ALL: [Blunder; 16] = {
+    pub const ALL: [Blunder; 19] = {
         use Blunder::*;
         [
             ReadOptional,
@@ -54,6 +58,9 @@ impl Blunder {
             InputKind,
             InputRequest,
             InputReply,
+            Key(Unfit::Missing),
+            Key(Unfit::Optional),
+            Key(Unfit::OtherBasic),
         ]
     };
 }
@@ -147,6 +154,10 @@ struct Maker<'a> {
     rows_left: usize,
     /// Ids of children and steps.
     ids: Vec<u16>,
+    /// Those that are keys of services; none in a network without keys.
+    keys: Vec<u16>,
+    /// How inputs of keyed services are unfit.
+    unfit: Option<Unfit>,
 }
 
 impl<'a> Maker<'a> {
@@ -160,6 +171,7 @@ impl<'a> Maker<'a> {
             (1..=8).collect()
         };
         let order = random.below(3);
+        let (keys, unfit) = keys::chosen(random, &ids, blunder);
         Maker {
             random,
             careless,
@@ -171,6 +183,8 @@ impl<'a> Maker<'a> {
             order,
             rows_left: 256,
             ids,
+            keys,
+            unfit,
         }
     }
 

@@ -10,12 +10,9 @@ impl Maker<'_> {
         let count = if self.talkative { self.random.between(2, 4) } else { self.random.between(1, 4) };
         let first = if self.random.one_in(4) { self.random.between(1, 60_000) as u16 } else { 1 };
         for service in 0..count as u16 {
-            self.tables.services.push(ServiceRow {
-                location: first + 3 * service,
-                starter: NONE,
-                client: NONE,
-                unused: 0,
-            });
+            let key = self.some_key();
+            let location = first + 3 * service;
+            self.tables.services.push(ServiceRow { location, starter: NONE, client: NONE, key });
         }
     }
 
@@ -45,7 +42,7 @@ impl Maker<'_> {
             let count = if self.talkative { self.random.between(2, 4) } else { self.random.below(5) };
             for id in 1..=count as u16 {
                 let two_way = if self.talkative { (id % 2) as u8 } else { self.random.below(2) as u8 };
-                let request = self.some_root();
+                let request = self.input_root(service);
                 let reply = if two_way == 1 { self.some_root() } else { 0 };
                 let id = id * self.random.between(1, 2) as u16;
                 self.operation(OperationRow {
@@ -60,6 +57,9 @@ impl Maker<'_> {
         }
         if let Some((first, second)) = self.twins {
             for service in 0..services as u8 {
+                if self.tables.services[usize::from(service)].key != 0 {
+                    continue; // twins have no key
+                }
                 for (id, request) in [(31, first), (32, second)] {
                     self.operation(OperationRow { service, id, request, ..OperationRow::default() });
                 }

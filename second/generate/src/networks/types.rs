@@ -22,6 +22,7 @@ impl Maker<'_> {
         if self.random.one_in(8) || self.blunder == Some(Blunder::Cardinality) {
             self.twins();
         }
+        self.key_types();
         if self.random.one_in(5) {
             // A row that nobody names.
             let row =
@@ -32,7 +33,7 @@ impl Maker<'_> {
         self.tables.types.push(TypeRow { cardinality: 1, basic: Basic::Void.byte(), ..TypeRow::default() });
         let known = Tables {
             types: self.tables.types.clone(),
-            services: vec![ServiceRow { location: 1, starter: NONE, client: NONE, unused: 0 }],
+            services: vec![ServiceRow { location: 1, starter: NONE, client: NONE, key: 0 }],
             ..Tables::default()
         };
         let network = Network::read(&known.write()).expect("types that the rules let pass");

@@ -134,7 +134,7 @@ mod tests {
             types: networks::tables(&mut Random::new(1), 0, None).types,
             operations: vec![second::tables::OperationRow { id: 3, ..Default::default() }],
             behaviours: vec![Default::default()],
-            services: vec![ServiceRow { location: 1, starter: NONE, client: 0, unused: 0 }],
+            services: vec![ServiceRow { location: 1, starter: NONE, client: 0, key: 0 }],
             ..Tables::default()
         };
         let network = Network::read(&tables.write()).expect("right rows");
@@ -166,7 +166,7 @@ mod tests {
                 constant(Basic::String, [1, 3, 0]),
                 constant(Basic::String, [3, 2, 0]),
             ],
-            services: vec![ServiceRow { location: 1, starter: NONE, client: NONE, unused: 0 }],
+            services: vec![ServiceRow { location: 1, starter: NONE, client: NONE, key: 0 }],
             data: b"abcd".to_vec(),
             ..Tables::default()
         };

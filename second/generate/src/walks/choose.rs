@@ -1,9 +1,11 @@
 //! The next move: what a state lets one do, or nearly so, or anything.
 
 use second::network::{Behaviour, Network};
+use second::Value;
+use stepper::evaluate;
 use stepper::rows::Rows;
 use stepper::state::{Destination, Progress, Session, State, SESSIONS};
-use stepper::Move;
+use stepper::{Move, Tree};
 
 use crate::random::Random;
 
@@ -110,8 +112,9 @@ impl<'a> Candidates<'a> {
                     self.inner.extend([candidate; 4]);
                 }
             }
-            Behaviour::Notification { operation, .. } | Behaviour::SolicitResponse { operation, .. } => {
-                for target in self.targets(operation) {
+            Behaviour::Notification { operation, expression }
+            | Behaviour::SolicitResponse { operation, expression, .. } => {
+                for target in self.targets(operation, &running.session.tree, expression) {
                     self.push(Move::Send { service, session, row: number, target });
                 }
             }
@@ -123,14 +126,18 @@ impl<'a> Candidates<'a> {
         self.network.services.iter().position(|service| service.location == location)
     }
 
-    /// Sessions that a message of an output may go to; those that will take it soon more often.
-    fn targets(&self, operation: usize) -> Vec<u16> {
+    /// Sessions that a message of an output may go to; those that have its key or will take it soon more often.
+    fn targets(&self, operation: usize, tree: &Tree, expression: usize) -> Vec<u16> {
         let output = &self.network.operations[operation];
         let Some(service) = self.service_at(output.location) else { return vec![0] };
         let startable = self.network.services[service].starter.is_some();
+        let key = self.sent_key(service, tree, expression);
+        let held = key.is_some_and(|key| self.state.key_held(service, key));
         let mut targets = Vec::new();
         for number in 0..SESSIONS {
             let copies = match self.state.live(service, number) {
+                Some(session) if key.is_some() && session.key == key => 12,
+                None if held && number > 0 && startable => 1,
                 Some(session) if self.expects(session, self.rows.root(service, number), output.id) => 6,
                 Some(_) => 1,
                 None if number > 0 && startable => 2,
@@ -139,6 +146,16 @@ impl<'a> Candidates<'a> {
             targets.extend((0..copies).map(|_| number as u16));
         }
         targets
+    }
+
+    /// The key of the message that an expression gives, for a keyed service.
+    fn sent_key(&self, service: usize, tree: &Tree, expression: usize) -> Option<i32> {
+        let id = self.network.services[service].key?;
+        let message = evaluate::message(self.network, tree, expression).ok()?;
+        match message.find(&[id])?.root_value()? {
+            Value::Int(key) => Some(key),
+            _ => None,
+        }
     }
 
     /// A session with a ready input of an id.

@@ -1,13 +1,14 @@
 //! States that no move would leave: of the shape but ill typed, or bytes that stand for no state.
 
 use second::network::{Behaviour, Direction, Expression, Network, Path};
-use stepper::encode::{encode, slot, ENTRIES, ENTRY, MESSAGE, ROW, ROWS, ROWS_END, SLOT, STATE, TREE};
-use stepper::rows::{parts, Rows};
-use stepper::state::{Destination, Progress, Queued, Session, State, QUEUE, SESSIONS};
+use stepper::encode::{encode, slot, ENTRIES, ENTRY, KEY_END, MESSAGE, ROW, ROWS, ROWS_END, SLOT, STATE, TREE};
+use stepper::rows::Rows;
+use stepper::state::{holds_key, Destination, Progress, Queued, Session, State, QUEUE, SESSIONS};
 use stepper::Tree;
 
 use super::ends::ends;
 use super::outside::{fitting, set_basic, some_node};
+use crate::keys::{self, held};
 use crate::messages;
 use crate::nests::reach::{finish, reach};
 use crate::networks::value;
@@ -27,6 +28,11 @@ pub fn state(random: &mut Random, network: &Network, state: &mut State) {
     let Some(&(service, number)) = random.pick(&live) else { return };
     if random.one_in(25) {
         state.services[service][number] = None;
+        return;
+    }
+    if random.one_in(6) && holds_key(network, service, number) {
+        let key = free_key(random, state, service);
+        state.services[service][number].iter_mut().for_each(|session| session.key = Some(key));
         return;
     }
     let rows = Rows::of(network);
@@ -101,8 +107,15 @@ fn wake(random: &mut Random, network: &Network, state: &mut State) {
     let (service, number) = (random.below(network.services.len()), random.below(SESSIONS));
     let rows = Rows::of(network);
     if rows.root(service, number).is_some() && state.live(service, number).is_none() {
-        state.services[service][number] = Some(Session::new(network));
+        let key = holds_key(network, service, number).then(|| free_key(random, state, service));
+        state.services[service][number] = Some(Session { key, ..Session::new(network) });
     }
+}
+
+/// A key that no session of a service holds.
+fn free_key(random: &mut Random, state: &State, service: usize) -> i32 {
+    let held: Vec<i32> = state.services[service].iter().flatten().filter_map(|session| session.key).collect();
+    keys::other_than(random, &held)
 }
 
 /// Roots that nobody reads, up to 48 nodes or a few less.
@@ -289,7 +302,7 @@ fn complete(rows: &Rows, row: usize, session: &mut Session) {
         Behaviour::If { .. } | Behaviour::Choice { .. } => Progress::Taken(0),
         _ => Progress::Done,
     };
-    for part in parts(behaviour) {
+    for part in behaviour.parts() {
         complete(rows, part, session);
     }
 }
@@ -313,6 +326,9 @@ pub fn bytes(random: &mut Random, network: &Network, state: &State, bytes: &mut 
     if bytes.len() != STATE {
         return;
     }
+    if random.one_in(if network.services.iter().any(|service| service.key.is_some()) { 2 } else { 10 }) {
+        return key(random, network, bytes);
+    }
     let live = live_sessions(state);
     let Some(&(service, number)) = random.pick(&live) else { return any_byte(random, bytes) };
     let start = slot(service, number);
@@ -322,7 +338,7 @@ pub fn bytes(random: &mut Random, network: &Network, state: &State, bytes: &mut 
         0 => any_byte(random, bytes),
         1 => bytes[start] = *random.pick(&[0, 2, 255]).expect("three"),
         2 => {
-            let kept = [1, random.between(4, TREE - 1), random.between(ROWS_END, SLOT - 1)];
+            let kept = [1, random.between(KEY_END, TREE - 1), random.between(ROWS_END, SLOT - 1)];
             bytes[start + random.pick(&kept).expect("three")] = random.between(1, 255) as u8;
         }
         3 => sleeper(random, bytes),
@@ -344,10 +360,32 @@ fn any_byte(random: &mut Random, bytes: &mut [u8]) {
 
 /// A live session in some slot, also where nobody runs.
 fn sleeper(random: &mut Random, bytes: &mut [u8]) {
-    let start = SLOT * random.below(16);
-    let slot = &mut bytes[start..start + SLOT];
+    lie_down(&mut bytes[SLOT * random.below(16)..]);
+}
+
+/// A live session with nothing in it in the first slot.
+fn lie_down(bytes: &mut [u8]) {
+    let slot = &mut bytes[..SLOT];
     slot.fill(0);
     (slot[0], slot[2], slot[18]) = (1, 5, 6);
+}
+
+/// A key in some slot, whether it may hold one or not, or one that another session has.
+fn key(random: &mut Random, network: &Network, bytes: &mut [u8]) {
+    let service = random.below(network.services.len());
+    if network.services[service].starter.is_some() && random.one_in(2) {
+        let free = (1..SESSIONS).find(|&session| !held::is_live(bytes, service, session));
+        if let Some(session) = free.filter(|_| held::live_keys(bytes, service).len() < 2) {
+            lie_down(&mut bytes[slot(service, session)..]);
+        }
+        if let [(_, key), .., (last, _)] = held::live_keys(bytes, service)[..] {
+            return held::put(bytes, service, last, key);
+        }
+    }
+    let service = if random.one_in(4) { random.below(4) } else { service };
+    let session = if random.one_in(2) { 0 } else { random.below(SESSIONS) };
+    let key = if random.one_in(2) { 1 << (8 * random.below(4)) } else { keys::some(random) };
+    held::put(bytes, service, session, key);
 }
 
 fn tree(random: &mut Random, slot: &mut [u8]) {

@@ -6,11 +6,11 @@ use std::fmt;
 use second::network::{Behaviour, Direction, Operation};
 use second::Network;
 use stepper::decode::decode;
-use stepper::rows::{parts, Rows};
+use stepper::rows::Rows;
 use stepper::state::{Destination, Progress, Session};
 use stepper::{Bound, Event, Made, Misshape, Move, NotAllowed, Reason, Refused, State};
 
-use super::{property, strings, sums, Call};
+use super::{key_hits, property, strings, sums, Call, Walk};
 use crate::nests;
 use crate::strings::{Seen, StringHits};
 
@@ -57,9 +57,9 @@ const NOT_ALLOWED: [(&str, &[NotAllowed]); 7] = {
     [
         ("local", &[NoSession, OtherRow, NotReady]),
         ("receive", &[NoSession, OtherRow, NotReady, Operation, NothingQueued]),
-        ("send", &[NoSession, OtherRow, NotReady, Operation, NoInput, Target]),
+        ("send", &[NoSession, OtherRow, NotReady, Operation, NoInput, Target, NoKey, KeylessTarget, OtherKey, KeyHeld]),
         ("reply", &[NoSession, OtherRow, NothingToAnswer, Operation, NobodyWaits]),
-        ("outer message", &[NoInput, Target, Operation]),
+        ("outer message", &[NoInput, Target, Operation, NoKey, KeylessTarget, OtherKey, KeyHeld]),
         ("outer reply", &[NoSession, OtherRow, NotWaiting, Operation]),
         ("close", &[NoSession, NotDone]),
     ]
@@ -89,10 +89,13 @@ const FITS: [(&str, &[Reason]); 4] = {
     ]
 };
 
-const FEATURES: [&str; 18] = [
+const FEATURES: [&str; 21] = [
     "a walk from fresh",
     "a move from fresh",
-    "a move on a file that 6 to 13 refuse",
+    "a walk over a network with a keyed service",
+    "a walk from fresh over a network with a keyed service",
+    "a session started with the key of one that was closed",
+    "a move on a file that 6 to 23 refuse",
     "a session closed with messages in its queue",
     "a message that is not the oldest taken",
     "a session that sends to itself",
@@ -112,7 +115,7 @@ const FEATURES: [&str; 18] = [
 
 impl Default for WalkHits {
     fn default() -> WalkHits {
-        let mut names: Vec<String> = (0..=13).map(|number| format!("fresh {number:2}")).collect();
+        let mut names: Vec<String> = (0..=13).chain([23]).map(|number| format!("fresh {number:2}")).collect();
         for (kind, numbers) in NUMBERS {
             names.extend(numbers.iter().map(|number| format!("{kind} {number:2}")));
         }
@@ -130,6 +133,7 @@ impl Default for WalkHits {
             names.extend(reasons.iter().map(|reason| format!("{kind} 19 {reason:?}")));
         }
         names.extend(sums::names());
+        names.extend(key_hits::names());
         names.extend(FEATURES.map(String::from));
         names.extend(property::HOLDERS.map(held_name));
         for result in ["made", "refused by 15 to 22"] {
@@ -166,14 +170,22 @@ impl WalkHits {
         few.chain(self.strings.below(least)).collect()
     }
 
-    /// A call on a state from fresh, its result, and what the strings hold after it.
-    pub fn from_fresh(&mut self, network: &Network, named: &Move, result: &Result<Made, Refused>, after: &[Seen; 4]) {
+    /// A call on a state from fresh, its result, the state after it and what the strings hold then.
+    pub fn from_fresh(
+        &mut self,
+        walk: &Walk,
+        named: &Move,
+        result: &Result<Made, Refused>,
+        state: &[u8],
+        after: &[Seen; 4],
+    ) {
         self.hit("a move from fresh".into());
+        key_hits::from_fresh(&walk.file, state, result).into_iter().for_each(|name| self.hit(name));
         for (holder, _) in property::HOLDERS.iter().zip(after).filter(|(_, seen)| **seen != Seen::default()) {
             self.hit(held_name(holder));
         }
         if result.is_err_and(|refused| refused.reason == Reason::Beyond) {
-            self.hit(sums::row_name(network, named) + ", from fresh");
+            self.hit(sums::row_name(&walk.network, named) + ", from fresh");
         }
     }
 
@@ -184,6 +196,7 @@ impl WalkHits {
     /// A call by the second implementation and its result.
     pub fn call(&mut self, call: &Call, result: &Result<Made, Refused>) {
         strings::deciding(call, result).iter().for_each(|(place, seen)| self.strings.hit(*place, seen));
+        key_hits::of_call(call, result).into_iter().for_each(|name| self.hit(name));
         let kind = call.named.name();
         let read = || {
             let network = Network::read(&call.file).expect("a file that passes 2 to 5");
@@ -348,7 +361,7 @@ fn session_and_row<'a>(state: &'a State, named: &Move) -> Option<(&'a Session, u
 
 /// The input rows of a choice.
 fn inputs(network: &Network, choice: &Behaviour) -> Vec<usize> {
-    parts(choice).into_iter().filter_map(|branch| parts(&network.behaviours[branch]).first().copied()).collect()
+    choice.parts().into_iter().filter_map(|branch| network.behaviours[branch].parts().first().copied()).collect()
 }
 
 /// Whether a row would be ready in the body of an input that is marked as received.

@@ -3,9 +3,13 @@
 pub mod choose;
 pub mod counters;
 pub mod damage;
+pub mod encounters;
 mod ends;
 pub mod exact;
 pub mod hits;
+pub mod hoists;
+mod key_hits;
+pub mod keys;
 pub mod meetings;
 pub mod networks;
 pub mod outside;
@@ -19,6 +23,7 @@ use stepper::decode::decode;
 use stepper::encode::{encode, STATE};
 use stepper::{Move, State};
 
+use crate::keys::held;
 use crate::nests;
 use crate::random::Random;
 use choose::Candidates;
@@ -46,11 +51,13 @@ pub struct Walk {
     pub from_fresh: bool,
     /// The chance in a thousand that the state is damaged before a move.
     damage: usize,
+    /// Services with the keys of sessions that were closed.
+    closed: Vec<(usize, i32)>,
     pub moves: usize,
 }
 
 impl Walk {
-    /// The fresh state of some file; of one that is refused by 6 to 13 too, as the moves take it.
+    /// The fresh state of some file; of one that is refused by 6 to 23 too, as the moves take it.
     pub fn begin(random: &mut Random) -> Walk {
         let file = networks::file(random);
         let network = Network::read(&file).expect("a file that passes 2 to 5");
@@ -59,7 +66,8 @@ impl Walk {
         let from_fresh = second::check(&file).is_ok();
         let nested = nests::depths(&network).iter().any(|depths| !nests::nests_of(depths).is_empty());
         let damage = if random.one_in(if nested { 8 } else { 2 }) { 0 } else { random.between(50, 300) };
-        Walk { file, network, state, from_fresh, damage, moves: random.between(30, 100) }
+        let moves = random.between(30, 100);
+        Walk { file, network, state, from_fresh, damage, closed: Vec::new(), moves }
     }
 
     /// The next call. May damage the state before.
@@ -85,7 +93,7 @@ impl Walk {
             state: self.state.clone(),
             out_size: random.between(512, 700),
             named,
-            outside: outside::bytes(random, &self.network, &named, type_row),
+            outside: outside::bytes(random, &self.network, &state, &named, type_row),
             keeps: true,
         };
         if random.one_in(6) {
@@ -113,12 +121,29 @@ impl Walk {
         }
     }
 
+    pub fn is_keyed(&self) -> bool {
+        self.network.services.iter().any(|service| service.key.is_some())
+    }
+
+    /// Whether a session is live after a call with the key of one that was closed.
+    pub fn starts_anew(&self, call: &Call, state: &[u8]) -> bool {
+        call.keeps && newcomers(&self.state, state).any(|keyed| self.closed.contains(&keyed))
+    }
+
     /// The state after a call.
     pub fn made(&mut self, call: &Call, state: Vec<u8>) {
         if call.keeps {
+            self.closed.extend(newcomers(&state, &self.state));
             self.state = state;
         }
     }
+}
+
+/// Services and keys of sessions that are live in the second state and not in the first.
+fn newcomers<'a>(first: &'a [u8], second: &'a [u8]) -> impl Iterator<Item = (usize, i32)> + 'a {
+    let live = (0..4).flat_map(|service| held::live_keys(second, service).into_iter().map(move |at| (service, at)));
+    live.filter(|&(service, (session, _))| !held::is_live(first, service, session))
+        .map(|(service, (_, key))| (service, key))
 }
 
 /// A file that one of 2 to 5 refuses, most of the time.

@@ -5,20 +5,23 @@ use second::tables::OperationRow;
 use second::{Network, Tables};
 use stepper::rows::Rows;
 
-use super::{counters, texts};
+use super::{counters, hoists, texts};
 use crate::nests;
 use crate::networks::{tables, talkative, Blunder};
 use crate::random::Random;
 
 /// A file that passes 2 to 5; most are accepted.
 pub fn file(random: &mut Random) -> Vec<u8> {
+    if random.one_in(4) {
+        return hoists::file(random);
+    }
     if random.one_in(7) {
         return texts::file(random.pick(&texts::ALL).expect("a text"));
     }
     if random.one_in(5) {
         return nests::busy(random).tables().write();
     }
-    if random.one_in(10) {
+    if random.one_in(6) {
         return counters::file(random);
     }
     loop {
@@ -41,7 +44,7 @@ fn some_tables(random: &mut Random) -> (Tables, bool) {
             rows = tables(random, 30, blunder);
         }
         2 => deepen(random, &mut rows.paths),
-        3 | 4 => misname(random, &mut rows),
+        3..=5 => misname(random, &mut rows),
         _ => return (rows, true),
     }
     (rows, false)

@@ -1,8 +1,9 @@
 //! Messages from outside: built from a type, nearly so, or broken.
 
 use second::{Basic, Network};
-use stepper::{Move, Tree};
+use stepper::{Move, State, Tree};
 
+use crate::keys;
 use crate::messages;
 use crate::networks::value;
 use crate::random::Random;
@@ -20,21 +21,44 @@ pub fn fitting(random: &mut Random, network: &Network, type_row: usize) -> Tree 
     Tree { id: node.id, basic: node.basic, value: value(random, node.basic), children }
 }
 
+/// Gives a message to a keyed service the key that its target asks for, most of the time.
+pub fn aim(random: &mut Random, network: &Network, state: &State, named: &Move, message: &mut Tree) {
+    let Move::OuterMessage { service, target, .. } = *named else { return };
+    let (service, target) = (usize::from(service), usize::from(target));
+    let Some(id) = network.services.get(service).and_then(|service| service.key) else { return };
+    let Some(key) = message.children.iter_mut().find(|child| (child.id, child.basic) == (id, Basic::Int)) else {
+        return;
+    };
+    let held: Vec<i32> = state.services[service].iter().flatten().filter_map(|session| session.key).collect();
+    let wanted = state.live(service, target).and_then(|live| live.key);
+    let int = match random.below(8) {
+        0 => random.pick(&held).copied().unwrap_or(0),
+        1 => keys::some(random),
+        _ => wanted.unwrap_or_else(|| keys::other_than(random, &held)),
+    };
+    key.value = int.to_le_bytes().to_vec();
+}
+
 /// Bytes for a move, which may take a message of a type. Few rows wait for an outsider: of replies every other one has a
 /// string broken.
-pub fn bytes(random: &mut Random, network: &Network, named: &Move, type_row: Option<usize>) -> Vec<u8> {
-    let bytes = message(random, network, type_row);
+pub fn bytes(random: &mut Random, network: &Network, state: &State, named: &Move, type_row: Option<usize>) -> Vec<u8> {
+    let tree = type_row.map(|row| {
+        let mut tree = fitting(random, network, row);
+        aim(random, network, state, named, &mut tree);
+        tree
+    });
+    let bytes = message(random, tree);
     match named {
         Move::OuterReply { .. } if random.one_in(2) => with_broken_string(random, bytes),
         _ => bytes,
     }
 }
 
-fn message(random: &mut Random, network: &Network, type_row: Option<usize>) -> Vec<u8> {
-    let Some(type_row) = type_row else {
+/// A fitting message, or nearly so; anything where none is asked for.
+fn message(random: &mut Random, fitting: Option<Tree>) -> Vec<u8> {
+    let Some(mut tree) = fitting else {
         return if random.one_in(2) { Vec::new() } else { messages::message(random).0 };
     };
-    let mut tree = fitting(random, network, type_row);
     match random.below(16) {
         0 => retype(random, &mut tree),
         1 => drop_child(random, &mut tree),

@@ -1,5 +1,5 @@
 //! Property 3 by running: what no move gives in a state from fresh of an accepted file. And that strings stay well
-//! formed.
+//! formed, and that keys are kept apart.
 
 use second::network::Behaviour;
 use second::Network;
@@ -9,7 +9,8 @@ use stepper::{Move, State};
 
 use super::choose::Candidates;
 use super::exact::{expression_of, leaves_range};
-use super::outside::fitting;
+use super::keys;
+use super::outside::{aim, fitting};
 use crate::random::Random;
 use crate::strings::held::{in_nodes, in_queues, in_trees, seen};
 use crate::strings::Seen;
@@ -78,13 +79,19 @@ pub fn sweep(random: &mut Random, file: &[u8], network: &Network, state: &[u8]) 
             continue;
         }
         tried.push(candidate.named);
-        let outside = candidate.type_row.map_or(Vec::new(), |row| fitting(random, network, row).bytes());
+        let outside = candidate.type_row.map_or(Vec::new(), |row| {
+            let mut message = fitting(random, network, row);
+            aim(random, network, &decoded, &candidate.named, &mut message);
+            message.bytes()
+        });
         let (mut after, mut out) = (state.to_vec(), [0; stepper::OUT]);
         let result = stepper::step(file, &mut after, &mut out, &candidate.named, &outside);
         let number = result.map_or_else(|refused| refused.number.into(), |_| 0);
         let written = &out[..result.map_or(0, |made| made.bytes)];
         let what = broken(network, &decoded, &candidate.named, stepper::OUT, number).map(String::from);
-        if let Some(what) = what.or_else(|| broken_string(&candidate.named, &after, written)) {
+        let what =
+            what.or_else(|| broken_string(&candidate.named, &after, written)).or_else(|| keys::broken(file, &after));
+        if let Some(what) = what {
             return Some((candidate.named, outside, what));
         }
     }
