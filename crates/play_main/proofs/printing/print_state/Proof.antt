@@ -10,10 +10,10 @@ use Rattle.play_main.proofs.printing.print_state.Lts as lts
 use Rattle.play_main.proofs.printing.print_slot.Reads as print-slot-reads
 
 abbrev Inv-loop : tie.InvT-loop
-Inv-loop ok₀ state slot₀ ok slot = slot ≤ 16
+Inv-loop ok₀ file state slot₀ ok slot = slot ≤ 16
 
 abbrev μ-loop : tie.MeasureT-loop
-μ-loop ok₀ state slot₀ ok slot = 16 - slot
+μ-loop ok₀ file state slot₀ ok slot = 16 - slot
 
 loop-holds : tie.Need-loop-holds Inv-loop μ-loop
 loop-holds c = search needs
