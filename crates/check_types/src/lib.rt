@@ -37,7 +37,7 @@ pub fn type_head(s: &[u8], at: usize, own: bool) -> TypeHead
 }
 
 // The T row r.
-fn line_at(file: &[u8], r: u16) -> Line
+pub fn line_at(file: &[u8], r: u16) -> Line
     ensures { λ x. ⌜ x ≡ lineOf (now (file .entry)) r ⌝ }
 {
     if network_layout::type_count(file) <= r {

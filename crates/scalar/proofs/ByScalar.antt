@@ -15,7 +15,7 @@ use Rattle.scalar.specs.declared.Scalar.{Scalar}
 use Rattle.scalar.specs.declared.Truth.{Truth}
 use Rattle.scalar.specs.declared.Operand.{Operand}
 use Rattle.scalar.specs.Basic.{bool, int, double, long, string, raw, void, lastBasic}
-use Rattle.scalar.specs.Value.{basicOf, SoundValue, SoundText, BasicType, basicTypes, noType, basicType, wordOf}
+use Rattle.scalar.specs.Value.{basicOf, SoundValue, SoundText, BasicType, basicTypes, noType, basicType, wordOf, leastBytes}
 use Rattle.wire.specs.Wire.{unsignedOf}
 use Rattle.scalar.specs.ValueLaws.{raw-short, empty-void}
 use Rattle.scalar.specs.NumberLaws.{sound-bool, sound-integer, sound-floating}
@@ -88,6 +88,10 @@ pub ruleset kind-laws = (kind-bool, kind-int, kind-long, kind-string, kind-void)
 pub word-is : {b k : ℕ} → b ≡ k → basicType k .word ≡ wordOf b
 unfolding wordOf
 word-is e = rw e refl
+
+pub least-is : {b k : ℕ} → b ≡ k → leastBytes b ≡ basicType k .least
+unfolding leastBytes
+least-is e = rw e refl
 
 pub word-past : (b : ℕ) → lastBasic < b → [] ≡ wordOf b
 unfolding wordOf

@@ -118,6 +118,10 @@ isValue b v = basicType b .rule v
 unfoldable pub wordOf : ℕ → List ℕ
 wordOf b = basicType b .word
 
+-- The bytes of its least value.
+unfoldable pub leastBytes : ℕ → List ℕ
+leastBytes b = basicType b .least
+
 -- A value of a basic type, by the value rule.
 pub record SoundValue (b : ℕ) (x : Value) : Type 0 where
   pub basic : basicOf x ≡ b

@@ -5,7 +5,7 @@ use mathlib.Core.Bool.{Bool, true, false, _&&_}
 use Prim.Native.Nat.{ℕ, zero, suc, _+_, _-_, _*_, _/_, _%_, _≤_, _<_}
 use native.Mathlib.Nat.{add-zero, add-suc}
 use native.Mathlib.Omega.{arith}
-use lib.ListN.{length, take, drop, getD, List·getD-eq-default}
+use lib.ListN.{length, take, drop, getD, replicate, List·getD-eq-default}
 use lib.Seq.{drop-cons}
 use lib.Dec.{eqb, leb}
 use borrow.Author.Tests.{ne-eqb, le-leb, lt-leb, eqb-true, leb-true, leb-false}
@@ -16,7 +16,7 @@ use Rattle.wire.specs.Wire.{byteAt, u16At, u32At, u64At, part}
 use Rattle.wire.specs.WireLaws.{length-part}
 use Rattle.scalar.specs.Basic.{bool, int, double, long, string, raw, void, lastBasic}
 use Rattle.scalar.specs.Value.{value, isValue, isDouble, SoundText, BasicType, boolType, intType, doubleType, longType, stringType}
-use Rattle.scalar.specs.Value.{rawType, voidType, noType, basicTypes, basicType, integral, noArithmetic}
+use Rattle.scalar.specs.Value.{rawType, voidType, noType, basicTypes, basicType, leastBytes, integral, noArithmetic}
 use Rattle.wire.specs.Wire.{unsignedOf}
 use Rattle.utf8.specs.Utf8.{isUtf8, goesOn}
 
@@ -92,8 +92,8 @@ pub integer-bytes : (b : ℕ) (u : Width) (v : List ℕ) → basicType b .arithm
 integer-bytes b u v e h = eqb-true (length v) (bits u / 8) (sym (integer-rule b u v e) ∙ h)
 
 -- The least value of a basic type is a value of it.
-pub least-value : (b : ℕ) → b ≤ lastBasic → isValue b (basicType b .least) ≡ true
-unfolding isValue unsignedOf goesOn
+pub least-value : (b : ℕ) → b ≤ lastBasic → isValue b (leastBytes b) ≡ true
+unfolding isValue leastBytes unsignedOf goesOn
 least-value zero h = refl
 least-value (suc zero) h = refl
 least-value (suc (suc zero)) h = refl
@@ -102,6 +102,34 @@ least-value (suc (suc (suc (suc zero)))) h = refl
 least-value (suc (suc (suc (suc (suc zero))))) h = refl
 least-value (suc (suc (suc (suc (suc (suc zero)))))) h = refl
 least-value (suc (suc (suc (suc (suc (suc (suc b))))))) h = absurd (omega arith)
+
+-- Its bytes are zeros.
+pub least-zeros : (b : ℕ) → leastBytes b ≡ replicate (length (leastBytes b)) 0
+unfolding leastBytes
+least-zeros = every (λ t. t .least ≡ replicate (length (t .least)) 0) refl refl refl refl refl refl refl refl
+
+-- No value of the basic type has fewer bytes.
+pub least-short : (b : ℕ) (v : List ℕ) → isValue b v ≡ true → length (leastBytes b) ≤ length v
+unfolding isValue leastBytes
+least-short b v =
+    every (λ t. t .rule v ≡ true → length (t .least) ≤ length v)
+    (λ e. omega (arith, eqb-true (length v) 1 (and-of (eqb (length v) 1) (leb (unsignedOf v) 1) e .0)))
+    (λ e. omega (arith, eqb-true (length v) 4 e))
+    (λ e. omega (arith, eqb-true (length v) 8 (and-of (eqb (length v) 8) (isDouble (unsignedOf v)) e .0)))
+    (λ e. omega (arith, eqb-true (length v) 8 e))
+    (λ e. omega arith) (λ e. omega arith) (λ e. omega arith) (λ e. omega arith) b
+
+-- Of a basic type that is none of these the least value has no byte.
+pub least-none : (b : ℕ) → (b ≡ bool → ⊥) → (b ≡ int → ⊥) → (b ≡ double → ⊥) → (b ≡ long → ⊥) → leastBytes b ≡ []
+unfolding leastBytes
+least-none zero o i d l = absurd (o refl)
+least-none (suc zero) o i d l = absurd (i refl)
+least-none (suc (suc zero)) o i d l = absurd (d refl)
+least-none (suc (suc (suc zero))) o i d l = absurd (l refl)
+least-none (suc (suc (suc (suc zero)))) o i d l = refl
+least-none (suc (suc (suc (suc (suc zero))))) o i d l = refl
+least-none (suc (suc (suc (suc (suc (suc zero)))))) o i d l = refl
+least-none (suc (suc (suc (suc (suc (suc (suc b))))))) o i d l = refl
 
 -- ---- the number of some bytes of a slice
 

@@ -3,10 +3,10 @@ ghost use mathlib.Core.Path.{_≡_};
 ghost use mathlib.Core.Bool.{true, _&&_};
 ghost use mathlib.Core.List.{[]};
 ghost use Prim.Native.Nat.{_+_, _≤_, min};
-ghost use lib.ListN.{length, take, drop};
+ghost use lib.ListN.{length, take, drop, replicate};
 ghost use lib.Ieee.{binary64, ofBits, toBits, nanBits, lt, eq};
 ghost use Rattle.scalar.specs.Basic.{string};
-ghost use Rattle.scalar.specs.Value.{value, bytesOf, isValue, wordOf, SoundValue, SoundText};
+ghost use Rattle.scalar.specs.Value.{value, bytesOf, isValue, wordOf, leastBytes, SoundValue, SoundText};
 ghost use Rattle.wire.specs.Wire.{part, withPart};
 ghost use Rattle.scalar.specs.Operator.{notOf, negateOf, andOf, addOf, subtractOf, lessOf, equalOf, equalBytes, bit};
 ghost use Rattle.scalar.specs.Scalar.{valueOf, valueBeside, answerOf, intAnswer, longAnswer, beside, AsPair, truthOf};
@@ -479,6 +479,19 @@ pub fn basic_of(v: Operand) -> u8
         Scalar::String => STRING,
         Scalar::Raw => RAW,
         Scalar::Void => VOID,
+    }
+}
+
+// How many bytes, all of them 0, the least value of a basic type has.
+pub fn least_size(basic: u8) -> usize
+    ensures { λ n. ⌜ (leastBytes basic ≡ replicate n 0) × (n ≤ 8) ⌝ }
+{
+    match basic {
+        BOOL => 1,
+        INT => 4,
+        DOUBLE => 8,
+        LONG => 8,
+        _ => 0,
     }
 }
 
