@@ -1,0 +1,11 @@
+pub mod Order
+pub mod Smallest
+pub mod Breaking
+pub mod OrderLaws
+pub mod Contained
+pub mod ContainedLaws
+pub mod LeastLaws
+pub mod ChildLaws
+pub mod WithinLaws
+pub mod OrderedLaws
+pub mod BreakingLaws

@@ -1,0 +1,1 @@
+// A message that breaks it: definitions and laws only (specs/).
