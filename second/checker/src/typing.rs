@@ -333,18 +333,26 @@ pub fn result(operator: &Expression, operands: &[Basic]) -> Option<Basic> {
 
 /// Refusal 13: an output to a location in the file meets an input there.
 fn outputs(network: &Network, types: &OperationTypes) -> Result<(), Refusal> {
-    let outputs = network.operations.iter().enumerate().filter(|(_, operation)| operation.direction == Direction::Out);
-    for (row, output) in outputs {
-        let Some(target) = network.services.iter().position(|service| service.location == output.location) else {
-            continue;
-        };
-        let met = network
-            .operations
-            .iter()
-            .position(|input| input.direction == Direction::In && input.service == target && input.id == output.id);
-        meets(network, types, row, met).map_err(|cause| Refusal::new(cause, row))?;
+    for (row, output) in network.operations.iter().enumerate() {
+        if output.direction == Direction::Out && target(network, output).is_some() {
+            let met = met_input(network, output);
+            meets(network, types, row, met).map_err(|cause| Refusal::new(cause, row))?;
+        }
     }
     Ok(())
+}
+
+/// The service of the file to which an output goes.
+fn target(network: &Network, output: &Operation) -> Option<usize> {
+    network.services.iter().position(|service| service.location == output.location)
+}
+
+/// The input of the file that an output meets, whatever its kind and types.
+pub fn met_input(network: &Network, output: &Operation) -> Option<usize> {
+    let target = target(network, output)?;
+    let meets =
+        |input: &Operation| input.direction == Direction::In && input.service == target && input.id == output.id;
+    network.operations.iter().position(meets)
 }
 
 fn meets(network: &Network, types: &OperationTypes, output: usize, input: Option<usize>) -> Result<(), Cause> {

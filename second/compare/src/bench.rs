@@ -9,7 +9,7 @@ use std::time::{Duration, Instant};
 use compare::{cases, with_large_stack, Second, Side};
 use generate::declarations::limits;
 use generate::walks::Call;
-use generate::{hostile, maximal};
+use generate::{hostile, maximal, pairs};
 
 /// Least time of a round.
 const ROUND: Duration = Duration::from_millis(20);
@@ -90,6 +90,25 @@ fn texts(sides: &[Box<dyn Side>]) {
     }
 }
 
+/// Messages that break a type: two types of 16 nodes alone, and the largest file, whose rows are tried before.
+fn counterexamples(sides: &[Box<dyn Side>], largest: &[u8]) {
+    let out = RefCell::new([0; 512]);
+    let call = |name: &str, file: &[u8], second: u16, found: bool| {
+        line(&format!("counterexample, {name}"), sides, |side| {
+            let answer =
+                side.counterexample(black_box(file), black_box(0), black_box(second), &mut out.borrow_mut()[..]);
+            assert_eq!((answer.number, answer.bytes > 0), (0, found), "{name}");
+        });
+    };
+    let pairs = pairs::largest::all();
+    let file = pairs[0].file();
+    line("check, two types of 16 nodes", sides, |side| {
+        black_box(side.verdict(black_box(&file)));
+    });
+    pairs.iter().for_each(|pair| call(pair.name, &pair.file(), 16, pair.nodes > 0));
+    call("largest file, none", largest, 240, false);
+}
+
 /// A time holds a copy of the state before each call, which the first line tells.
 fn moves(sides: &[Box<dyn Side>], name: &str, file: &[u8]) {
     let before = vec![0; 65_536];
@@ -155,6 +174,7 @@ fn run(hostile: bool) -> Result<(), String> {
     }
     checks(&sides, hall, &largest);
     texts(&sides);
+    counterexamples(&sides, &largest);
     moves(&sides, "hall", hall);
     moves(&sides, "largest", &largest);
     Ok(())

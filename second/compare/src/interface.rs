@@ -27,6 +27,8 @@ pub struct Interface {
     pub moves: Moves,
     /// Text, out buffer; bytes, place.
     pub types: unsafe extern "C" fn(*const u8, usize, *mut u8, usize, *mut usize, *mut usize) -> u32,
+    /// File, out buffer; first, second row; bytes, place.
+    pub counterexample: unsafe extern "C" fn(*const u8, usize, *mut u8, usize, u16, u16, *mut usize, *mut usize) -> u32,
     pub stacks: Stacks,
 }
 
@@ -92,7 +94,7 @@ impl Side for Interface {
     }
 
     fn step(&self, file: &[u8], state: &mut [u8], out: &mut [u8], named: &Move, outside: &[u8]) -> StepAnswer {
-        let given = Given { read: file, state: &raw const *state, named: Some(named) };
+        let given = Given { state: &raw const *state, named: Some(named), ..file.into() };
         run(&self.stacks.moves, given, || self.moves.step(file, state, out, named, outside))
     }
 
@@ -101,6 +103,17 @@ impl Side for Interface {
         // SAFETY: the text is readable and the buffer writable for their lengths, bytes and place are writable.
         let number = run(&self.stacks.types, text, || unsafe {
             (self.types)(text.as_ptr(), text.len(), out.as_mut_ptr(), out.len(), &mut bytes, &mut place)
+        });
+        StepAnswer { number, place, bytes }
+    }
+
+    fn counterexample(&self, file: &[u8], first: u16, second: u16, out: &mut [u8]) -> StepAnswer {
+        let (mut bytes, mut place) = (usize::MAX, usize::MAX);
+        let given = Given { rows: Some((first, second)), ..file.into() };
+        let (f, fl, o, ol) = (file.as_ptr(), file.len(), out.as_mut_ptr(), out.len());
+        // SAFETY: the file is readable and the buffer writable for their lengths, bytes and place are writable.
+        let number = run(&self.stacks.counterexample, given, || unsafe {
+            (self.counterexample)(f, fl, o, ol, first, second, &mut bytes, &mut place)
         });
         StepAnswer { number, place, bytes }
     }

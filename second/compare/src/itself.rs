@@ -230,9 +230,38 @@ unsafe extern "C" fn types(
     answer.number
 }
 
+unsafe extern "C" fn counterexample(
+    file: *const u8,
+    length: usize,
+    out: *mut u8,
+    out_size: usize,
+    first: u16,
+    second: u16,
+    bytes: *mut usize,
+    place: *mut usize,
+) -> u32 {
+    let file = unsafe { slice::from_raw_parts(file, length) };
+    let out = unsafe { slice::from_raw_parts_mut(out, out_size) };
+    let answer = Second.counterexample(file, first, second, out);
+    unsafe {
+        *bytes = answer.bytes;
+        *place = answer.place;
+    }
+    answer.number
+}
+
 const MOVES: Moves = Moves { fresh, local, receive, send, reply, outer_message, outer_reply, close };
 
 /// On the caller's stack: the library is no part of what is stated.
 pub fn itself() -> Interface {
-    Interface { name: "itself", check, environments, part, moves: MOVES, types, stacks: Stacks::default() }
+    Interface {
+        name: "itself",
+        check,
+        environments,
+        part,
+        moves: MOVES,
+        types,
+        counterexample,
+        stacks: Stacks::default(),
+    }
 }

@@ -4,12 +4,14 @@ pub mod cases;
 pub mod interface;
 pub mod itself;
 pub mod moves;
+pub mod pairs;
 #[cfg(feature = "proved")]
 pub mod proved;
 pub mod script;
 pub mod stack;
 pub mod texts;
 pub mod walks;
+pub mod written;
 
 use std::fmt;
 use std::ops::Range;
@@ -107,6 +109,7 @@ pub trait Side {
     fn fresh(&self, file: &[u8], state: &mut [u8]) -> StepAnswer;
     fn step(&self, file: &[u8], state: &mut [u8], out: &mut [u8], named: &Move, outside: &[u8]) -> StepAnswer;
     fn types(&self, text: &[u8], out: &mut [u8]) -> StepAnswer;
+    fn counterexample(&self, file: &[u8], first: u16, second: u16, out: &mut [u8]) -> StepAnswer;
 }
 
 /// The library, called directly.
@@ -145,6 +148,13 @@ impl Side for Second {
 
     fn types(&self, text: &[u8], out: &mut [u8]) -> StepAnswer {
         match types::write_types(text, out) {
+            Ok(bytes) => StepAnswer { number: 0, place: 0, bytes },
+            Err(refusal) => StepAnswer { number: refusal.number.into(), place: refusal.place, bytes: 0 },
+        }
+    }
+
+    fn counterexample(&self, file: &[u8], first: u16, second: u16, out: &mut [u8]) -> StepAnswer {
+        match counterexample::counterexample(file, first, second, out) {
             Ok(bytes) => StepAnswer { number: 0, place: 0, bytes },
             Err(refusal) => StepAnswer { number: refusal.number.into(), place: refusal.place, bytes: 0 },
         }
@@ -252,6 +262,10 @@ mod tests {
 
         fn types(&self, text: &[u8], out: &mut [u8]) -> StepAnswer {
             Second.types(text, out)
+        }
+
+        fn counterexample(&self, file: &[u8], first: u16, second: u16, out: &mut [u8]) -> StepAnswer {
+            Second.counterexample(file, first, second, out)
         }
     }
 

@@ -1,20 +1,23 @@
-//! `compare [--seed N] [--files N] [--messages N] [--walks N] [--texts N] [--file FILE]...`
+//! `compare [--seed N] [--files N] [--messages N] [--walks N] [--texts N] [--pairs N] [--file FILE]...`
 //!
-//! Generates files, messages, walks and texts of type declarations and compares the library's answers with
-//! those of the proved code (feature `proved`), or with the library's own behind the same interface. Exits
-//! with 1 at the first difference, with 2 if the run missed something that it should have hit.
+//! Generates files, messages, walks, texts of type declarations and pairs of type rows, and compares the library's
+//! answers with those of the proved code (feature `proved`), or with the library's own behind the same interface.
+//! Exits with 1 at the first difference, with 2 if the run missed something that it should have hit.
 
 use std::process::ExitCode;
 use std::time::Instant;
 
-use compare::{differing_check, differing_part, other, texts, walks, with_large_stack, Second, Side};
+use compare::{differing_check, differing_part, other, pairs, texts, walks, with_large_stack, Second, Side};
 use compare::{wrong_by_constants, wrong_by_keys, wrong_by_strings};
 use generate::declarations::DeclarationHits;
+use generate::pairs::PairHits;
 use generate::walks::WalkHits;
 use generate::{file, messages, Hits, Random};
 
 /// Each refusal, place and kind of row is to be hit this often.
 const LEAST: usize = 20;
+
+const KNOWN: &str = "--seed, --files, --messages, --walks, --texts, --pairs or --file";
 
 struct Options {
     seed: u64,
@@ -22,12 +25,20 @@ struct Options {
     messages: usize,
     walks: usize,
     texts: usize,
+    pairs: usize,
     named: Vec<String>,
 }
 
 fn options() -> Result<Options, String> {
-    let mut options =
-        Options { seed: 1, files: 50_000, messages: 200_000, walks: 4_000, texts: 50_000, named: Vec::new() };
+    let mut options = Options {
+        seed: 1,
+        files: 50_000,
+        messages: 200_000,
+        walks: 4_000,
+        texts: 50_000,
+        pairs: 50_000,
+        named: Vec::new(),
+    };
     let mut arguments = std::env::args().skip(1);
     while let Some(name) = arguments.next() {
         let value = arguments.next().ok_or(format!("{name} needs a value"))?;
@@ -38,8 +49,9 @@ fn options() -> Result<Options, String> {
             "--messages" => options.messages = number()? as usize,
             "--walks" => options.walks = number()? as usize,
             "--texts" => options.texts = number()? as usize,
+            "--pairs" => options.pairs = number()? as usize,
             "--file" => options.named.push(value),
-            _ => return Err(format!("{name} is not known; --seed, --files, --messages, --walks, --texts or --file")),
+            _ => return Err(format!("{name} is not known; {KNOWN}")),
         }
     }
     Ok(options)
@@ -71,7 +83,7 @@ fn run(options: &Options) -> Result<ExitCode, String> {
     }
     let start = Instant::now();
     let mut missed = Vec::new();
-    for part in [files_and_messages, all_walks, all_texts] {
+    for part in [files_and_messages, all_walks, all_texts, all_pairs] {
         match part(options, &other) {
             Ok(names) => missed.extend(names),
             Err(difference) => {
@@ -149,5 +161,17 @@ fn all_texts(options: &Options, other: &dyn Side) -> Result<Vec<String>, String>
     let tried = texts::texts(options.seed, options.texts, &mut hits, other)?;
     print!("{hits}");
     println!("{tried} texts agree");
+    Ok(hits.below(LEAST).into_iter().map(String::from).collect())
+}
+
+/// The same for pairs of type rows.
+fn all_pairs(options: &Options, other: &dyn Side) -> Result<Vec<String>, String> {
+    if options.pairs == 0 {
+        return Ok(Vec::new());
+    }
+    let mut hits = PairHits::default();
+    pairs::pairs(options.seed, options.pairs, &mut hits, other)?;
+    print!("{hits}");
+    println!("{} pairs of type rows agree, and their messages break what they should", options.pairs);
     Ok(hits.below(LEAST).into_iter().map(String::from).collect())
 }

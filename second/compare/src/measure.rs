@@ -8,12 +8,13 @@ use std::process::ExitCode;
 
 use compare::interface::{Interface, ROOM};
 use compare::proved::proved;
-use compare::stack::{Stack, Stacks, CHECK, MOVE, PART, TYPES};
+use compare::stack::{Stack, Stacks, CHECK, COUNTEREXAMPLE, MOVE, PART, TYPES};
 use compare::Side;
 use generate::declarations::{fixed, limits, Limit};
 use generate::hostile::place::At;
 use generate::hostile::{self, nest_place};
 use generate::nests::{self, Leaf, Level, Nest};
+use generate::pairs::{self, largest};
 use generate::walks::Call;
 use generate::Random;
 
@@ -25,9 +26,11 @@ const MOVE_ROOM: usize = 1 << 20;
 const MIXED: u64 = 200;
 /// Texts at each limit, by seed.
 const TEXTS: u64 = 20;
+/// Pairs of type rows, by seed.
+const PAIRS: u64 = 2_000;
 
 /// The functions and the most bytes that each may use.
-const FUNCTIONS: [(&str, usize); 12] = [
+const FUNCTIONS: [(&str, usize); 13] = [
     ("check", CHECK),
     ("environments", CHECK),
     ("fresh", CHECK),
@@ -40,6 +43,7 @@ const FUNCTIONS: [(&str, usize); 12] = [
     ("outer reply", MOVE),
     ("close", MOVE),
     ("types", TYPES),
+    ("counterexample", COUNTEREXAMPLE),
 ];
 
 /// The proved code on painted stacks, and the most that was touched.
@@ -56,8 +60,9 @@ impl Measure {
             stack.paint();
             Some(stack)
         };
-        let [check, moves, part, types] = [CHECK_ROOM, MOVE_ROOM, MOVE_ROOM, CHECK_ROOM].map(painted);
-        let stacks = Stacks { check, moves, part, types };
+        let rooms = [CHECK_ROOM, MOVE_ROOM, MOVE_ROOM, CHECK_ROOM, MOVE_ROOM];
+        let [check, moves, part, types, counterexample] = rooms.map(painted);
+        let stacks = Stacks { check, moves, part, types, counterexample };
         Measure { interface: proved(stacks), most: BTreeMap::new() }
     }
 
@@ -69,6 +74,7 @@ impl Measure {
             "check" | "environments" | "fresh" => &mut stacks.check,
             "part" => &mut stacks.part,
             "types" => &mut stacks.types,
+            "counterexample" => &mut stacks.counterexample,
             _ => &mut stacks.moves,
         };
         let touched = stack.as_mut().map_or(0, Stack::touched);
@@ -89,6 +95,14 @@ impl Measure {
         let mut state = vec![0; 65_536];
         self.note("fresh", kind, name, |interface| {
             interface.fresh(file, &mut state);
+        });
+        self.pair(kind, name, file, 0, 0);
+    }
+
+    fn pair(&mut self, kind: &'static str, name: &str, file: &[u8], first: u16, second: u16) {
+        let mut out = [0; 512];
+        self.note("counterexample", kind, name, |interface| {
+            interface.counterexample(file, first, second, &mut out);
         });
     }
 
@@ -167,6 +181,16 @@ impl Measure {
         }
     }
 
+    fn pairs(&mut self) {
+        for pair in largest::all() {
+            self.pair("largest types", pair.name, &pair.file(), 0, 16);
+        }
+        for seed in 0..PAIRS {
+            let pair = pairs::pair(&mut Random::new(seed));
+            self.pair("pairs", &format!("seed {seed}"), &pair.file, pair.first, pair.second);
+        }
+    }
+
     /// The worst of a function over all kinds of input.
     fn worst(&self, function: &str) -> Option<&(usize, String)> {
         let of_function = self.most.iter().filter(|((of, _), _)| *of == function);
@@ -181,6 +205,7 @@ fn main() -> ExitCode {
     measure.hostile();
     measure.parts();
     measure.texts();
+    measure.pairs();
     if std::env::args().any(|argument| argument == "--kinds") {
         for ((function, kind), (bytes, name)) in &measure.most {
             println!("{function:14}{bytes:10}  {kind}: {name}");

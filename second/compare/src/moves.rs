@@ -2,7 +2,7 @@
 
 use stepper::Move;
 
-/// What a call that writes gives back: fresh, a move, or types.
+/// What a call that writes gives back: fresh, a move, types or counterexample.
 #[derive(Clone, Copy, PartialEq, Eq, Debug)]
 pub struct StepAnswer {
     /// 0 for done.

@@ -121,6 +121,16 @@ extern "C" {
         bytes: *mut usize,
         place: *mut usize,
     ) -> u32;
+    fn pokhveti_counterexample(
+        file: *const u8,
+        length: usize,
+        out: *mut u8,
+        out_size: usize,
+        first: u16,
+        second: u16,
+        bytes: *mut usize,
+        place: *mut usize,
+    ) -> u32;
 }
 
 const MOVES: Moves = Moves {
@@ -142,6 +152,7 @@ pub fn proved(stacks: Stacks) -> Interface {
         part: pokhveti_part,
         moves: MOVES,
         types: pokhveti_types,
+        counterexample: pokhveti_counterexample,
         stacks,
     }
 }

@@ -3,27 +3,11 @@
 use generate::declarations::{fixed, sample, DeclarationHits, Sample};
 use generate::Random;
 
-use crate::moves::StepAnswer;
+use crate::written::Written;
 use crate::{hex, Second, Side, UNTOUCHED};
 
-/// An answer with the out buffer that the call has left.
-#[derive(PartialEq, Eq)]
-struct Written {
-    answer: StepAnswer,
-    out: Vec<u8>,
-}
-
 fn written(side: &dyn Side, sample: &Sample) -> Written {
-    let mut out = vec![UNTOUCHED; sample.out_size];
-    let answer = side.types(&sample.text, &mut out);
-    Written { answer, out }
-}
-
-/// The answer, and the buffer up to the last byte that was changed.
-fn report(side: &dyn Side, written: &Written) -> String {
-    let StepAnswer { number, place, bytes } = written.answer;
-    let end = written.out.iter().rposition(|&byte| byte != UNTOUCHED).map_or(0, |last| last + 1);
-    format!("{}: number {number} place {place} bytes {bytes}\n  out {}\n", side.name(), hex(&written.out[..end]))
+    Written::by(sample.out_size, |out| side.types(&sample.text, out))
 }
 
 fn given(sample: &Sample) -> String {
@@ -34,7 +18,7 @@ fn given(sample: &Sample) -> String {
 /// A text by both sides; the report of a difference.
 pub fn differing_types(sample: &Sample, left: &dyn Side, right: &dyn Side) -> Option<String> {
     let (a, b) = (written(left, sample), written(right, sample));
-    (a != b).then(|| given(sample) + &report(left, &a) + &report(right, &b))
+    (a != b).then(|| given(sample) + &a.report(left) + &b.report(right))
 }
 
 /// One text. An error is the report of a difference, or of bytes that the library should leave.
@@ -70,6 +54,7 @@ pub fn texts(seed: u64, count: usize, hits: &mut DeclarationHits, other: &dyn Si
 mod tests {
     use super::*;
     use crate::itself::itself;
+    use crate::moves::StepAnswer;
     use crate::Answer;
     use generate::declarations::Kind;
     use std::ops::Range;
@@ -109,6 +94,10 @@ mod tests {
             (self.0)(&mut written);
             out.copy_from_slice(&written.out);
             written.answer
+        }
+
+        fn counterexample(&self, file: &[u8], first: u16, second: u16, out: &mut [u8]) -> StepAnswer {
+            Second.counterexample(file, first, second, out)
         }
     }
 

@@ -1,5 +1,5 @@
-//! Seeded networks, messages, walks and texts of type declarations: right ones that use every kind of row,
-//! move and mark, and damaged ones that reach every refusal.
+//! Seeded networks, messages, walks, texts of type declarations and pairs of type rows: right ones that use every
+//! kind of row, move and mark, and damaged ones that reach every refusal.
 
 pub mod damage;
 pub mod declarations;
@@ -11,6 +11,7 @@ pub mod messages;
 pub mod nests;
 pub mod networks;
 pub mod operators;
+pub mod pairs;
 pub mod random;
 pub mod strings;
 pub mod walks;

@@ -3,7 +3,7 @@
 
 use second::network::Behaviour;
 use second::tables::Section;
-use second::{Basic, Network, Refusal};
+use second::{Basic, Network};
 
 use crate::assemble::Assembled;
 use crate::source::{line_and_column, Scanner, Spot};
@@ -16,14 +16,8 @@ pub struct Note {
     pub message: String,
 }
 
-/// One line for a fitter.
-pub fn sentence(made: &Assembled, text: &str, refusal: &Refusal) -> String {
-    let unfit = (refusal.number == 23).then(|| unfit_input(made, text, refusal.place)).flatten();
-    unfit.unwrap_or(refusal.cause.sentence().into())
-}
-
 /// What keeps an input from having its service's key.
-fn unfit_input(made: &Assembled, text: &str, row: usize) -> Option<String> {
+pub(crate) fn unfit_input(made: &Assembled, text: &str, row: usize) -> Option<String> {
     let network = Network::read(&made.file).ok()?;
     let input = network.operations.get(row)?;
     let (service, key) = service_words(text, made.spot(Section::Services, input.service)?);

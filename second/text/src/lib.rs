@@ -8,6 +8,7 @@ pub mod keys;
 pub mod parse;
 mod quoted;
 pub mod rows;
+pub mod sentences;
 pub mod source;
 pub mod syntax;
 

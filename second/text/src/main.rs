@@ -9,6 +9,7 @@ use std::path::Path;
 use std::process::ExitCode;
 
 use files::Input;
+use net::sentences::sentence;
 use net::{assemble_with, decode, disassemble, keys, rows, Assembled, Error, NamedFile};
 use second::tables::LONGEST;
 use second::Refusal;
@@ -147,7 +148,7 @@ fn run_check(name: &OsStr) -> Result<u8, Failure> {
 /// The line that leads to the row at a refusal's place.
 fn refused_at(name: &str, text: &str, made: &Assembled, refusal: &Refusal) -> String {
     let place = made.origin(text, refusal);
-    place.map_or(String::new(), |(line, column)| told(name, line, column, &keys::sentence(made, text, refusal)))
+    place.map_or(String::new(), |(line, column)| told(name, line, column, &sentence(made, text, refusal)))
 }
 
 /// The lines that lead to what is accepted and will not do what it seems to.

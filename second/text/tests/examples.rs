@@ -122,7 +122,7 @@ fn the_unfit_key_of_the_page_is_refused_as_it_says() {
     let made = assemble(text).unwrap_or_else(|error| panic!("{error}"));
     let refusal = second::check(&made.file).expect_err("an unfit input");
     let (line, column) = made.origin(text, &refusal).expect("a row");
-    let sentence = net::keys::sentence(&made, text, &refusal);
+    let sentence = net::sentences::sentence(&made, text, &refusal);
     assert_eq!(told, format!("{refusal}\na.net: line {line}, column {column}: {sentence}"));
 }
 

@@ -1,6 +1,7 @@
 //! Keyed services: their text, what `net check` says of an unfit input, and its note for a client that waits.
 
-use net::keys::{notes, sentence};
+use net::keys::notes;
+use net::sentences::sentence;
 use net::{assemble, disassemble, rows, Assembled};
 use second::tables::Tables;
 
@@ -94,10 +95,10 @@ fn an_unfit_input_is_told_however_it_is_written() {
 /// Another refusal keeps its sentence.
 #[test]
 fn other_refusals_are_told_as_before() {
-    let text = "service 1 keyed by 7 { input 3: void output 3 to 1: int }";
+    let text = "service 1 keyed by 7 { input 3: void client set 5 = 6 }";
     let made = made(text);
     let refusal = second::check(&made.file).expect_err("a refusal");
-    assert_eq!((refusal.number, sentence(&made, text, &refusal)), (13, refusal.cause.sentence().into()));
+    assert_eq!((refusal.number, sentence(&made, text, &refusal)), (7, refusal.cause.sentence().into()));
 }
 
 fn noted(text: &str) -> Vec<(usize, usize, String)> {
