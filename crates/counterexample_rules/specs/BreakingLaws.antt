@@ -5,13 +5,17 @@ use mathlib.Core.List.{List, [], _∷_, _++_}
 use mathlib.Core.Bool.{Bool, true, false}
 use Prim.Native.Nat.{ℕ, zero, suc, _+_, _<_, _≤_, max}
 use native.Mathlib.Omega.{arith}
+use lib.ListN.{length, drop}
 use lib.Dec.{T, ltb}
 use Rattle.basics.specs.Choice.{pick}
 use Rattle.basics.specs.TestLaws.{T-of, of-T, clash, lt-of, lt-not}
-use Rattle.tree_forest.specs.Limits.{messageLevelsBelow, messageNodesBelow}
+use Rattle.tree_forest.specs.Limits.{messageLevelsBelow, messageNodesBelow, sessionLevels}
 use Rattle.tree_forest.specs.Forest.{Forest, end, node, Tree, tree, Rising, RisingTree, nodes, levels}
 use Rattle.scalar.specs.Value.{Value, value, isValue}
 use Rattle.tree.specs.Encode.{encode, rooted, children, WellFormedTree}
+use Rattle.tree.specs.Standing.{Root}
+use Rattle.tree.specs.StandingLaws.{root-fields, encodes-root}
+use Rattle.tree.specs.EncodeLaws.{unique, good-of, sound-above}
 use Rattle.tree.specs.DecodeLaws.{encode-injective}
 use Rattle.network_syntax.specs.Syntax.{Mark, mark, Types, MessageType, Optional, none, some}
 use Rattle.network.specs.Shapes.{TypeShape, treeNodes}
@@ -169,6 +173,28 @@ fits-of (tree v F) u good rise h = of-T (fits (tree v F) u) (fits-complete (tree
 each-fits : (t u : MessageType) → RisingTree t → ((j : ℕ) → j < treeNodes t → Fits (leastMessage t j) u) → Subtype t u
 each-fits (tree (mark m b) K) (tree (mark n c) L) w h =
     record { basics = h 0 (omega arith) .basics; children = least-ordered K L w (λ j l. h j (omega arith) .children) }
+
+-- No message's encoding is the beginning of another's.
+pub no-beginning : (m n : Tree Value) → IsMessage m → IsMessage n → (r : List ℕ) → encode (rooted m) ++ r ≡ encode (rooted n) → m ≡ n
+no-beginning (tree (value b v) f) (tree (value c w) g) p q r e =
+    let s = encode (rooted (tree (value c w) g)) in
+    let x : Root s 0 0 (tree (value b v) f) = record {
+      after = r;
+      bytes = sym e;
+      proper = p .good .root;
+      good = good-of f sessionLevels 0 (sound-above f (p .good .sound)) (p .good .rising) (p .good .sound) (omega (arith, p .good .shallow));
+      small = omega (arith, p .good .few);
+    } in
+    let y = encodes-root messageLevelsBelow messageNodesBelow s (tree (value c w) g) (omega arith) (omega arith) q in
+    let x′ = root-fields s 0 0 b v f x in
+    let y′ = root-fields s 0 0 c w g y in
+    let ew : w ≡ v = sym (y′ .value) ∙ x′ .value in
+    let after : drop (0 + 5 + length v) s ≡ encode g ++ y .after = subst (λ (z : List ℕ). drop (0 + 5 + length z) s ≡ encode g ++ y .after) ew (y′ .after) in
+    let eg = unique s (0 + 5 + length v) sessionLevels sessionLevels 0 0 f g r (y .after) (x′ .after) after (x .good) (y .good) (sym (x′ .count) ∙ y′ .count) in
+    same-tree (sym (x′ .basic) ∙ y′ .basic) (sym ew) eg
+  where
+    same-tree : {b c : ℕ} {v w : List ℕ} {f g : Forest Value} → b ≡ c → v ≡ w → f ≡ g → tree (value b v) f ≡ tree (value c w) g
+    same-tree p q r = cc
 
 -- At most one message is smallest.
 pub smallest-unique : (t u : MessageType) (m n : Tree Value) → Smallest t u m → Smallest t u n → m ≡ n

@@ -108,6 +108,13 @@ least-sound j (node i (mark m b) k r) p q =
     let hr = least-sound (j - (1 + nodes k)) r (p .3) (q .2) in
     pick-by SoundValues (holdsChild m j (1 + nodes k)) (λ e. (p .0, q .0, least-proper b (p .1), hk, hr)) (λ e. hr)
 
+pub least-few : (j : ℕ) (K : Types) → nodes (leastWith j K) ≤ nodes K
+unfolding measure leastWith
+least-few j end = omega arith
+least-few j (node i (mark m b) k r) =
+    pick-by (λ (F : Forest Value). nodes F ≤ 1 + nodes k + nodes r) (holdsChild m j (1 + nodes k))
+    (λ e. omega (arith, least-few (j - 1) k, least-few (j - (1 + nodes k)) r)) (λ e. omega (arith, least-few (j - (1 + nodes k)) r))
+
 above-from : (i x : ℕ) (F : Forest Value) → i < x → Above x F → Above i F
 above-from i x end h l = tt
 above-from i x (node j a k r) h l = omega arith

@@ -9,3 +9,4 @@ pub mod ChildLaws
 pub mod WithinLaws
 pub mod OrderedLaws
 pub mod BreakingLaws
+pub mod Examples
