@@ -1,3 +1,5 @@
 pub mod Rows
 pub mod Bytes
 pub mod Writing
+pub mod Searching
+pub mod Showing

@@ -61,7 +61,7 @@ module _ (file : List ℕ) (r n j : ℕ) (o : List ℕ) (w : ℕ) (fit : w ≤ l
     least-outside lq = record { inside = fit; writes = λ wf le s l. unmet file r n wf le z g lp lq }
 
     module _ (i : ℕ) (m : Bool) (b first c next : ℕ) (lq : g ≡ Of i m b first c next) (x l : ℕ) (t : Bool) (p : Spans file first c j x) (lx : l ≡ j - x)
-      (e : t ≡ holdsChild m j x) where
+        (e : t ≡ holdsChild m j x) where
       K : Types
       K = rowTypes file first c
 

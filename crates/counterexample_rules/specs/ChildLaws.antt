@@ -96,11 +96,12 @@ numbered x j (node i (mark n d) p r) m b k e l =
         let e0 : 0 + (1 + j) ≡ 1 + j = omega arith in
         let l′ : j ≤ nodes p = subst (λ (z : Types). j ≤ nodes z) (sym q) l in
         let e1 : 1 + j - 1 ≡ j = omega arith in
-        let e2 : 1 + j - (1 + nodes p) ≡ 0 = omega arith in
-        ( omega arith
-        , ap (λ (z : ℕ). leastWith z (node i (mark n d) p r)) e0
-        ∙ least-by (1 + j) i n d p r true (inside-held n (1 + j) (1 + nodes p) (omega arith) (omega arith))
-        ∙ same-siblings (ap (λ (z : ℕ). leastWith z p) e1 ∙ ap (leastWith j) q) (ap (λ (z : ℕ). leastWith z r) e2) )
+        let e2 : 1 + j - (1 + nodes p) ≡ 0 = omega arith in (
+          omega arith,
+          ap (λ (z : ℕ). leastWith z (node i (mark n d) p r)) e0
+              ∙ least-by (1 + j) i n d p r true (inside-held n (1 + j) (1 + nodes p) (omega arith) (omega arith))
+              ∙ same-siblings (ap (λ (z : ℕ). leastWith z p) e1 ∙ ap (leastWith j) q) (ap (λ (z : ℕ). leastWith z r) e2),
+        )
 
     there : Numbered x j r k
         → (1 + nodes p + rest + (1 + j) ≤ 1 + nodes p + nodes r) × (leastWith (1 + nodes p + rest + (1 + j)) (node i (mark n d) p r)
@@ -109,9 +110,10 @@ numbered x j (node i (mark n d) p r) m b k e l =
         let J = 1 + nodes p + rest + (1 + j) in
         let ek = past-none (J - 1) p (omega arith) in
         let e2 : J - (1 + nodes p) ≡ rest + (1 + j) = omega arith in
-        let er : leastWith (J - (1 + nodes p)) r ≡ withChild x (leastWith j k) r = ap (λ (z : ℕ). leastWith z r) e2 ∙ w .is in
-        ( omega (arith, w .inside)
-        , least-by J i n d p r n (past-held n J (1 + nodes p) (omega arith)) ∙ rw (ek, er) refl )
+        let er : leastWith (J - (1 + nodes p)) r ≡ withChild x (leastWith j k) r = ap (λ (z : ℕ). leastWith z r) e2 ∙ w .is in (
+          omega (arith, w .inside),
+          least-by J i n d p r n (past-held n J (1 + nodes p) (omega arith)) ∙ rw (ek, er) refl,
+        )
 
     go : (o : Compare x i) → findBy o (tree (mark n d) p) (find x r) ≡ present (tree (mark m b) k)
         → (find x r ≡ present (tree (mark m b) k) → j ≤ nodes k → Numbered x j r k) → Goal o
@@ -195,10 +197,11 @@ contained-child x c (node j a l s) (node i (mark n b) k r) w t v f e p =
     held : (n : Bool) → T (both n) → (T (eqb (basicOf a) b)) × (T (areSubtypes (ownTypes l) k)) × (T (areSubtypes (ownTypes s) r))
     held n t =
         let u = and-r (eqb (basicOf a) b) (implies n true && (areSubtypes (ownTypes l) k && areSubtypes (ownTypes s) r)) t in
-        let z = and-r (implies n true) (areSubtypes (ownTypes l) k && areSubtypes (ownTypes s) r) u in
-        ( and-l (eqb (basicOf a) b) (implies n true && (areSubtypes (ownTypes l) k && areSubtypes (ownTypes s) r)) t
-        , and-l (areSubtypes (ownTypes l) k) (areSubtypes (ownTypes s) r) z
-        , and-r (areSubtypes (ownTypes l) k) (areSubtypes (ownTypes s) r) z )
+        let z = and-r (implies n true) (areSubtypes (ownTypes l) k && areSubtypes (ownTypes s) r) u in (
+          and-l (eqb (basicOf a) b) (implies n true && (areSubtypes (ownTypes l) k && areSubtypes (ownTypes s) r)) t,
+          and-l (areSubtypes (ownTypes l) k) (areSubtypes (ownTypes s) r) z,
+          and-r (areSubtypes (ownTypes l) k) (areSubtypes (ownTypes s) r) z,
+        )
 
     found : (h : Compare x j) → x ≡ j → findBy h (tree a l) (find x s) ≡ present (tree v f) → l ≡ f
     found h q e = let y = sym (find-eq h q (tree a l) (find x s)) ∙ e in cc

@@ -66,7 +66,7 @@ pub record Suits (K : Types) (F : Forest Value) : Type 0 where
   pub fitting : T (areSubtypes (ownTypes F) K)
 
 module _ (K L : Types) (F : Forest Value) (w : Suits K F) (h : LeastFit K L F)
-  (below : (k l : Types) (f : Forest Value) → nodes k < nodes K → Suits k f → LeastFit k l f → Subtypes (ownTypes f) l) (x : ℕ) where
+    (below : (k l : Types) (f : Forest Value) → nodes k < nodes K → Suits k f → LeastFit k l f → Subtypes (ownTypes f) l) (x : ℕ) where
   none : Contained (leastWith 0 K) F
   none = contained-least F K (w .sound) (w .fitting)
 

@@ -59,7 +59,7 @@ write-least-sub-write-least : (t : ℕ) → write-least-lts.Need-sub-write-least
 write-least-sub-write-least t c = search needs
 
 write-least-write-least-requires : (t : ℕ) → write-least-lts.Need-write-least-requires (line-at-reads.Asked, line-at-reads.Learnt, span-reads.Asked, span-reads.Learnt, minus-reads.Asked, minus-reads.Learnt, holds-reads.Asked, holds-reads.Learnt, write-least-below t, write-least.Post, least-size-reads.Asked, least-size-reads.Learnt, held-reads.Asked, held-reads.Learnt, push-least-reads.Asked, push-least-reads.Learnt) (write-least-at t) write-least.Post
-write-least-write-least-requires t c κs = 
+write-least-write-least-requires t c κs =
     let d1 = c .before .before .before .before .before .before in
     let d2 = d1 .before .before in
     let start = d2 .before .before .before .before in
@@ -70,7 +70,7 @@ write-least-same-length : (t : ℕ) → write-least-lts.Need-same-length (line-a
 write-least-same-length t c = search needs
 
 write-least-returns-3 : (t : ℕ) → write-least-lts.Need-returns-3 (line-at-reads.Asked, line-at-reads.Learnt, span-reads.Asked, span-reads.Learnt, minus-reads.Asked, minus-reads.Learnt, holds-reads.Asked, holds-reads.Learnt, write-least-below t, write-least.Post, least-size-reads.Asked, least-size-reads.Learnt, held-reads.Asked, held-reads.Learnt, push-least-reads.Asked, push-least-reads.Learnt) (write-least-at t) write-least.Post
-write-least-returns-3 t c = 
+write-least-returns-3 t c =
     let d1 = c .before .before in
     let d2 = d1 .before .before in
     let d3 = d2 .before in
@@ -93,7 +93,7 @@ write-least-add-if3 : (t : ℕ) → write-least-lts.Need-add-if3 (line-at-reads.
 write-least-add-if3 t c = search needs
 
 write-least-returns-4 : (t : ℕ) → write-least-lts.Need-returns-4 (line-at-reads.Asked, line-at-reads.Learnt, span-reads.Asked, span-reads.Learnt, minus-reads.Asked, minus-reads.Learnt, holds-reads.Asked, holds-reads.Learnt, write-least-below t, write-least.Post, least-size-reads.Asked, least-size-reads.Learnt, held-reads.Asked, held-reads.Learnt, push-least-reads.Asked, push-least-reads.Learnt) (write-least-at t) write-least.Post
-write-least-returns-4 t c = 
+write-least-returns-4 t c =
     let d1 = c .before in
     let d2 = d1 .before in
     let d3 = d2 .before in
@@ -119,7 +119,7 @@ write-least-push-least-requires : (t : ℕ) → write-least-lts.Need-push-least-
 write-least-push-least-requires t c κs = search needs
 
 write-least-write-least-requires-2 : (t : ℕ) → write-least-lts.Need-write-least-requires-2 (line-at-reads.Asked, line-at-reads.Learnt, span-reads.Asked, span-reads.Learnt, minus-reads.Asked, minus-reads.Learnt, holds-reads.Asked, holds-reads.Learnt, write-least-below t, write-least.Post, least-size-reads.Asked, least-size-reads.Learnt, held-reads.Asked, held-reads.Learnt, push-least-reads.Asked, push-least-reads.Learnt) (write-least-at t) write-least.Post
-write-least-write-least-requires-2 t c κs = 
+write-least-write-least-requires-2 t c κs =
     let d1 = c .before .before .before in
     let d2 = d1 .before .before .before .before in
     let d3 = d2 .before .before .before .before .before .before .before in
@@ -132,7 +132,7 @@ write-least-sub-write-least-2 : (t : ℕ) → write-least-lts.Need-sub-write-lea
 write-least-sub-write-least-2 t c = search needs
 
 write-least-write-least-requires-3 : (t : ℕ) → write-least-lts.Need-write-least-requires-3 (line-at-reads.Asked, line-at-reads.Learnt, span-reads.Asked, span-reads.Learnt, minus-reads.Asked, minus-reads.Learnt, holds-reads.Asked, holds-reads.Learnt, write-least-below t, write-least.Post, least-size-reads.Asked, least-size-reads.Learnt, held-reads.Asked, held-reads.Learnt, push-least-reads.Asked, push-least-reads.Learnt) (write-least-at t) write-least.Post
-write-least-write-least-requires-3 t c κs = 
+write-least-write-least-requires-3 t c κs =
     let d1 = c .before .before .before in
     let d2 = d1 .before in
     let d3 = d2 .before .before .before .before .before .before .before in
@@ -146,7 +146,7 @@ write-least-same-length-2 : (t : ℕ) → write-least-lts.Need-same-length-2 (li
 write-least-same-length-2 t c = search needs
 
 write-least-returns-5 : (t : ℕ) → write-least-lts.Need-returns-5 (line-at-reads.Asked, line-at-reads.Learnt, span-reads.Asked, span-reads.Learnt, minus-reads.Asked, minus-reads.Learnt, holds-reads.Asked, holds-reads.Learnt, write-least-below t, write-least.Post, least-size-reads.Asked, least-size-reads.Learnt, held-reads.Asked, held-reads.Learnt, push-least-reads.Asked, push-least-reads.Learnt) (write-least-at t) write-least.Post
-write-least-returns-5 t c = 
+write-least-returns-5 t c =
     let e1 = c .before .before in
     let e2 = e1 .before .before .before .before in
     let e3 = e2 .before .before .before .before in

@@ -1,3 +1,4 @@
+use Rattle.counterexample.proofs.Searching.{considered-fits, considered-kept, considered-new}
 use borrow.Author.Needs.{needs}
 use Rattle.counterexample.proofs.consider.Statement.{statement}
 use Rattle.counterexample.proofs.consider.Tie as tie
@@ -9,81 +10,83 @@ use Rattle.counterexample.proofs.write_message.Reads as write-message-r
 use Rattle.tree.proofs.octets.Reads as octets-reads
 use Rattle.tree_edit.proofs.append.Reads as append-reads
 
--- src/lib.rt:199:5
 octets-requires : tie.Need-octets-requires
 octets-requires c κs = search needs
 
--- src/lib.rt:201:27
 slice-aggregate-write-message : tie.Need-slice-aggregate-write-message
 slice-aggregate-write-message c = search needs
 
--- src/lib.rt:201:9
 write-message-requires : tie.Need-write-message-requires
 write-message-requires c κs = search needs
 
--- src/lib.rt:202:26
 slice-aggregate-fits : tie.Need-slice-aggregate-fits
 slice-aggregate-fits c = search needs
 
--- src/lib.rt:202:8
 fits-requires : tie.Need-fits-requires
 fits-requires c κs = search needs
 
--- src/lib.rt:203:9
 returns : tie.Need-returns
-returns c = ?
+returns c =
+    let d1 = c .before in
+    let d2 = d1 .before .before .before in
+    let d3 = d2 .before .before in
+    let start = d3 .before .before .before in
+    considered-fits _ _ _ _ _ _ (d3 .octets .ensures) (start .pre .1) _ _ _ (d2 .write-message .ensures) _ (d1 .fits2 .ensures) (c .if1 .taken)
 
--- src/lib.rt:205:16
 sub-better : tie.Need-sub-better
 sub-better c = search needs
 
--- src/lib.rt:205:16
 part-better-start : tie.Need-part-better-start
 part-better-start c = search needs
 
--- src/lib.rt:205:16
 part-better-end : tie.Need-part-better-end
 part-better-end c = search needs
 
--- src/lib.rt:205:26
 sub-better-2 : tie.Need-sub-better-2
 sub-better-2 c = search needs
 
--- src/lib.rt:205:26
 part-better-start-2 : tie.Need-part-better-start-2
 part-better-start-2 c = search needs
 
--- src/lib.rt:205:26
 part-better-end-2 : tie.Need-part-better-end-2
 part-better-end-2 c = search needs
 
--- src/lib.rt:205:9
 better-requires : tie.Need-better-requires
 better-requires c κs = search needs
 
--- src/lib.rt:206:9
 same-length : tie.Need-same-length
 same-length c = search needs
 
--- src/lib.rt:206:9
 returns-2 : tie.Need-returns-2
-returns-2 c = ?
+returns-2 c =
+    let e1 = c .before in
+    let d0 = e1 .before .before .before .before .before in
+    let d1 = d0 .before in
+    let d2 = d1 .before .before .before in
+    let d3 = d2 .before .before in
+    let start = d3 .before .before .before in
+    considered-kept _ _ _ _ _ _ (d3 .octets .ensures) (start .pre .1) _ _ _ (d2 .write-message .ensures) _ (d1 .fits2 .ensures) (d0 .if1 .left) _ (e1 .better .ensures) (c .if2 .taken)
 
--- src/lib.rt:208:32
 slice-aggregate-append : tie.Need-slice-aggregate-append
 slice-aggregate-append c = search needs
 
--- src/lib.rt:208:5
 append-requires : tie.Need-append-requires
 append-requires c κs = search needs
 
--- src/lib.rt:195:1
 same-length-2 : tie.Need-same-length-2
 same-length-2 c = search needs
 
--- src/lib.rt:195:1
 returns-3 : tie.Need-returns-3
-returns-3 c = ?
+returns-3 c =
+    let e3 = c .before .before in
+    let e2 = e3 .before .before .before in
+    let e1 = e2 .before in
+    let d0 = e1 .before .before .before .before .before in
+    let d1 = d0 .before in
+    let d2 = d1 .before .before .before in
+    let d3 = d2 .before .before in
+    let start = d3 .before .before .before in
+    considered-new _ _ _ _ _ _ (d3 .octets .ensures) (start .pre .1) _ _ _ (d2 .write-message .ensures) _ (d1 .fits2 .ensures) (d0 .if1 .left) _ (e1 .better .ensures) (e2 .if2 .left) _ _ (e3 .append .ensures) (e3 .append .kept .0)
 
 pub consider-spec : {M : Type 1} → statement M
 consider-spec =

@@ -1,3 +1,10 @@
+use Rattle.counterexample.proofs.Searching.{search-begins, search-goes-on, search-ends}
+use Rattle.counterexample.specs.Tells.{Searched}
+use mathlib.Core.Path.{_≡_, _∙_, refl}
+use lib.ListN.{length}
+use Prim.Native.Nat.{_-_, _≤_}
+use native.Mathlib.Omega.{arith}
+use borrow.Author.Needs.{needs}
 use Rattle.counterexample.proofs.search.Statement.{statement}
 use Rattle.counterexample.proofs.search.Tie as tie
 use Rattle.counterexample.proofs.search.Reads as reads
@@ -6,42 +13,45 @@ use Rattle.counterexample.proofs.consider.Reads as consider-reads
 use Rattle.counterexample.proofs.row_nodes.Reads as row-nodes-reads
 
 abbrev Inv-loop : tie.InvT-loop
-Inv-loop best₀ file first second all n₀ j₀ best n j = ?
+Inv-loop best₀ file first second all n₀ j₀ best n j =
+    Searched file first second j best n × (j ≤ all) × (length best ≡ length best₀)
 
 abbrev μ-loop : tie.MeasureT-loop
-μ-loop best₀ file first second all n₀ j₀ best n j = ?
+μ-loop best₀ file first second all n₀ j₀ best n j = all - j
 
--- src/lib.rt:215:9
 row-nodes-requires : tie.Need-row-nodes-requires Inv-loop μ-loop
-row-nodes-requires c κs = ?
+row-nodes-requires c κs = search needs
 
--- src/lib.rt:218:5
 loop-holds : tie.Need-loop-holds Inv-loop μ-loop
-loop-holds c = ?
+loop-holds c = (search-begins _ _ _ _, omega arith, refl)
 
--- src/lib.rt:219:9
 consider-requires : tie.Need-consider-requires Inv-loop μ-loop
-consider-requires c κs = ?
+consider-requires c κs =
+    let l = c .before .before .loop in
+    let start = c .before .before .before .before .before .before in
+    (omega (arith, l .inv .2, start .pre), l .inv .0 .inside)
 
--- src/lib.rt:220:9
 add-j : tie.Need-add-j Inv-loop μ-loop
-add-j c = ?
+add-j c = search needs
 
--- src/lib.rt:218:5
 loop-less : tie.Need-loop-less Inv-loop μ-loop
-loop-less c = ?
+loop-less c = search needs
 
--- src/lib.rt:218:5
 loop-again : tie.Need-loop-again Inv-loop μ-loop
-loop-again c = ?
+loop-again c =
+    let d1 = c .before .before in
+    let d2 = d1 .before .before in
+    let l = d2 .before .loop in
+    (search-goes-on _ _ _ _ _ _ _ _ (l .inv .0) (d1 .consider .ensures) (d1 .consider .kept .0), omega (arith, d2 .loop-test .taken), d1 .consider .kept .0 ∙ l .inv .2)
 
--- src/lib.rt:211:1
 same-length : tie.Need-same-length Inv-loop μ-loop
-same-length c = ?
+same-length c = search needs
 
--- src/lib.rt:211:1
 returns : tie.Need-returns Inv-loop μ-loop
-returns c = ?
+returns c =
+    let d1 = c .before in
+    let l = d1 .loop in
+    search-ends _ _ _ _ _ _ _ (d1 .before .row-nodes .ensures) (l .inv .0) (l .inv .1) (c .loop-test .left)
 
 pub search-spec : {M : Type 1} → statement M
 search-spec =

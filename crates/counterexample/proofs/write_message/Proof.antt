@@ -24,7 +24,7 @@ enum-told : tie.Need-enum-told
 enum-told c = search needs
 
 returns : tie.Need-returns
-returns c = 
+returns c =
     let d1 = c .before .before in
     let d2 = d1 .before in
     let start = d2 .before .before .before in
@@ -49,7 +49,7 @@ same-length : tie.Need-same-length
 same-length c = search needs
 
 returns-2 : tie.Need-returns-2
-returns-2 c = 
+returns-2 c =
     let d1 = c .before .before in
     let d2 = d1 .before .before .before .before in
     let d3 = d2 .before .before in

@@ -17,9 +17,10 @@ returns-4 : tie.Need-returns-4
 returns-4 c = (least-is (c .match .keys4), omega arith)
 
 returns-5 : tie.Need-returns-5
-returns-5 c =
-    ( least-none (c .before .args .basic) (c .match .rest .0 .0 .0 .1) (c .match .rest .0 .0 .1) (c .match .rest .0 .1) (c .match .rest .1)
-    , omega arith )
+returns-5 c = (
+  least-none (c .before .args .basic) (c .match .rest .0 .0 .0 .1) (c .match .rest .0 .0 .1) (c .match .rest .0 .1) (c .match .rest .1),
+  omega arith,
+)
 
 pub least-size-spec : {M : Type 1} → statement M
 least-size-spec = tie.close (tie.spec returns returns-2 returns-3 returns-4 returns-5)
