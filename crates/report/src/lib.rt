@@ -8,16 +8,16 @@ use console::number;
 use console::write;
 use refusal::Verdict;
 
-fn word(ok: &mut bool, basic: u8) {
+// The word of a basic type.
+pub fn word(ok: &mut bool, basic: u8) {
     let w = scalar::word_of(basic);
     let bytes = w.bytes;
     let len = w.len;
     write(ok, &bytes[..len]);
-    write(ok, b"\n");
 }
 
 // A path's ids down to the node, each in its place by level.
-fn print_path(ok: &mut bool, ids: [u16; 8], level: usize)
+pub fn print_path(ok: &mut bool, ids: [u16; 8], level: usize)
     requires { ⌜ level < 8 ⌝ }
 {
     let mut i: usize = 0;
@@ -35,6 +35,13 @@ fn mark(ok: &mut bool, mandatory: bool) {
         return;
     }
     write(ok, b" ? ");
+}
+
+// What follows a node's path.
+fn print_type(ok: &mut bool, mandatory: bool, basic: u8) {
+    mark(ok, mandatory);
+    word(ok, basic);
+    write(ok, b"\n");
 }
 
 // The n siblings at `at`, whose path's ids above are the first `level` of `ids`; gives the place past them.
@@ -66,8 +73,7 @@ fn nodes(
     number(ok, q);
     write(ok, role);
     print_path(ok, down, level);
-    mark(ok, mandatory);
-    word(ok, basic);
+    print_type(ok, mandatory, basic);
     let end = nodes(ok, s, q, role, down, level + 1, mid, count);
     nodes(ok, s, q, role, ids, level, end, n - 1)
 }

@@ -23,12 +23,6 @@ slice-aggregate-write c =
 write-requires : tie.Need-write-requires
 write-requires c κs = search needs
 
-slice-aggregate-write-2 : tie.Need-slice-aggregate-write-2
-slice-aggregate-write-2 c = search needs
-
-write-requires-2 : tie.Need-write-requires-2
-write-requires-2 c κs = search needs
-
 returns : tie.Need-returns
 returns c = search needs
 
@@ -40,6 +34,4 @@ word-spec =
     array-share-prefix-bytes
     slice-aggregate-write
     write-requires
-    slice-aggregate-write-2
-    write-requires-2
     returns)
