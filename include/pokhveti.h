@@ -1,4 +1,5 @@
-/* The checker of network files, the stepper, the message reader and the reader of type declarations of Pokhveti, for C on x86-64.
+/* The checker of network files, the stepper, the message reader, the reader of type declarations and the message that breaks it of Pokhveti,
+ * for C on x86-64.
  *
  * Link with libhost.a (README, "From C"). The library needs memcpy, memmove and memset, and neither a heap nor data of its own. The
  * functions keep no state, so they may be called from several threads at once. They are total: any bytes of any length are answered. No
@@ -12,7 +13,7 @@
  * that started them, and a message that names another session than its own is refused with 15 (pokhveti_send). A file with an input of such a
  * service whose request type has not that child, mandatory and an int, is refused with 23.
  *
- * Stack: check, environments and fresh stay within 2 MiB, types within 1 MiB, each move within 128 KiB, part within 4 KiB, on the deepest
+ * Stack: check, environments and fresh stay within 2 MiB, types within 1 MiB, each move and counterexample within 128 KiB, part within 4 KiB, on the deepest
  * networks that 256 rows allow, the deepest texts that 8,192 bytes allow and on every other input that was tried. That is measured (bin/compare stack), not proved: the proofs speak of a machine without a
  * stack. A thread needs as much beside what it takes itself. */
 #ifndef POKHVETI_H
@@ -113,6 +114,14 @@ uint32_t pokhveti_close(const uint8_t *file, size_t length, uint8_t *state, size
  * place of the first offending byte (the text's length where it ends too soon); 1 for too small a buffer; 3 for more than 256 rows; 5 for a
  * type of more than 16 nodes or 4 levels, with the place that its row would have. */
 uint32_t pokhveti_types(const uint8_t *text, size_t length, uint8_t *rows, size_t rows_size, size_t *bytes, size_t *place);
+
+/* Given two rows of section T, each taken as a root, writes to the start of the out buffer (at least POKHVETI_OUT bytes) the message that fits
+ * the first type and not the second: of all such messages that of the fewest nodes, and of these the one with the lowest bytes in order. Gives 0,
+ * *bytes being the message's length, or 0 where there is none, which is exactly where the first type is a subtype of the second; the bytes past
+ * it stay. Otherwise it gives the number of the refusal, with its place in *place, *bytes 0, and the buffer is left as it was: 1 for too small a
+ * buffer, 2 to 5 for the file, 15 where a number is no row of section T. The file need not be accepted: 6 to 13 and 23 are not tried. */
+uint32_t pokhveti_counterexample(const uint8_t *file, size_t length, uint8_t *out, size_t out_size, uint16_t first, uint16_t second,
+                                 size_t *bytes, size_t *place);
 
 #ifdef __cplusplus
 }

@@ -12,14 +12,14 @@ use Rattle.scalar.specs.Basic.{string}
 use Rattle.scalar.specs.Value.{Value, isValue}
 use Rattle.scalar.specs.ValueLaws.{string-rule}
 use Rattle.refusal.specs.Refusal.{outcomeNumber}
-use Rattle.tree.specs.Encode.{Message}
-use Rattle.network_syntax.specs.Syntax.{MessageType, Operation, some, Network}
+use Rattle.tree.specs.Encode.{Message, encode, rooted, Octets}
+use Rattle.network_syntax.specs.Syntax.{MessageType, Operation, none, some, Network}
 use Rattle.network_syntax.specs.Rows.{entry}
 use Rattle.network.specs.Layout.{typeCount, behaviourCount}
 use Rattle.network.specs.Rows.{rootFits}
 use Rattle.network.specs.Sizes.{typeWithin}
 use Rattle.network.specs.Decode.{typeOf, networkOf}
-use Rattle.network.specs.Breaks.{TypeBreaks}
+use Rattle.network.specs.Counterexample.{TypeBreaks}
 use Rattle.network.specs.Form.{WellFormed}
 use Rattle.refusal.specs.declared.Refusal.the-variants.{UnfitKey}
 use Rattle.check_typing.specs.Result.{refused}
@@ -43,6 +43,16 @@ use Rattle.type_rows.specs.Ranged.{Small, EachType, TypeRowsOf}
 use Rattle.type_rows.specs.TextRows.{text-rows-mean, text-rows-root, text-rows-rules, text-rows-small}
 use Rattle.type_writing.specs.Answer.{writeTypes}
 use Rattle.type_writing.specs.AnswerLaws.{text-leaves, text-stays}
+use Rattle.check_subtyping.specs.Subtype.{Subtype}
+use Rattle.check_subtyping.specs.Own.{Fits}
+use Rattle.counterexample_rules.specs.Smallest.{IsMessage, Smallest, TypeWithin}
+use Rattle.counterexample_rules.specs.Breaking.{breaking}
+use Rattle.counterexample_rules.specs.BreakingLaws.{breaking-smallest, smallest-breaking, smallest-unique, no-beginning}
+use Rattle.counterexample_rules.specs.BreakingLaws.{none-subtype, subtype-none, messages-subtype, subtype-messages}
+use Rattle.counterexample_rules.specs.Examples.{AllBreak, examples, examples-hold}
+use Rattle.counterexample.specs.Answer.{counterexample}
+use Rattle.counterexample.specs.AnswerLaws.{breaking-leaves, breaking-stays}
+use Rattle.counterexample.specs.RowLaws.{row-within}
 
 -- ---- Types as text (02, Wish 1)
 
@@ -141,3 +151,57 @@ pub one-key-from-fresh : (file : List ℕ) → AcceptedFile file → (l : List T
     → Stands (networkOf file) (behaviourCount file) (after file (freshBytes file) l) G
     → KeysApart (networkOf file) G × KeyedQueues file G
 one-key-from-fresh = keys-from-fresh
+
+-- ---- A message that breaks it (02, Wish 6)
+
+-- "the message that fits the first and not the second: fewest nodes, then lowest bytes in order", for all types within the limits.
+pub shown-is-smallest : (t u : MessageType) → TypeWithin t → TypeWithin u → (m : Tree Value) → breaking t u ≡ some m
+    → Smallest t u m
+shown-is-smallest = breaking-smallest
+
+pub smallest-is-shown : (t u : MessageType) → TypeWithin t → TypeWithin u → (m : Tree Value) → Smallest t u m
+    → breaking t u ≡ some m
+smallest-is-shown = smallest-breaking
+
+-- At most one message is smallest; no message's bytes are the beginning of another's.
+pub smallest-is-one : (t u : MessageType) (m n : Tree Value) → Smallest t u m → Smallest t u n → m ≡ n
+smallest-is-one = smallest-unique
+
+pub messages-apart : (m n : Tree Value) → IsMessage m → IsMessage n → (r : List ℕ)
+    → encode (rooted m) ++ r ≡ encode (rooted n) → m ≡ n
+messages-apart = no-beginning
+
+-- "None (0 and no bytes) is reported exactly when the first is a subtype of the second."
+pub none-is-subtype : (t u : MessageType) → TypeWithin t → TypeWithin u → breaking t u ≡ none → Subtype t u
+none-is-subtype = none-subtype
+
+pub subtype-is-none : (t u : MessageType) → TypeWithin t → TypeWithin u → Subtype t u → breaking t u ≡ none
+subtype-is-none = subtype-none
+
+-- "So T1 ≤ T2 holds exactly when every message that fits T1 fits T2, over all types within the limits".
+pub subtype-by-messages : (t u : MessageType) → TypeWithin t → TypeWithin u
+    → ((m : Tree Value) → IsMessage m → Fits m t → Fits m u) → Subtype t u
+subtype-by-messages = messages-subtype
+
+pub messages-by-subtype : (t u : MessageType) → Subtype t u → (m : Tree Value) → Fits m t → Fits m u
+messages-by-subtype = subtype-messages
+
+-- Such are the types of every file that none of 2 to 5 refuses.
+pub rows-within-limits : (file : List ℕ) → Octets file → WellFormed file → (r : ℕ) → r < typeCount file
+    → TypeWithin (typeOf file r)
+rows-within-limits = row-within
+
+-- A refusal leaves the out buffer; the bytes past the message stay.
+pub refused-pair-leaves : (file : List ℕ) (first second : ℕ) (out : List ℕ)
+    → (outcomeNumber (counterexample file first second out .outcome) ≡ 0 → ⊥)
+    → counterexample file first second out .out ≡ out
+refused-pair-leaves = breaking-leaves
+
+pub past-message-stays : (file : List ℕ) (first second : ℕ) (out : List ℕ)
+    → drop (counterexample file first second out .outcome .bytes) (counterexample file first second out .out)
+    ≡ drop (counterexample file first second out .outcome .bytes) out
+past-message-stays = breaking-stays
+
+-- Six pairs of types with their messages.
+pub pairs-of-types : AllBreak examples
+pairs-of-types = examples-hold

@@ -1,5 +1,5 @@
-// The controller, as a host calls it: the checker of network files, fresh state, the moves, the message reader and the reader of type
-// declarations. Nothing is asked of the caller. specs/Promises.antt and specs/RequestPromises.antt have all that is promised of them.
+// The controller, as a host calls it: the checker of network files, fresh state, the moves, the message reader, the reader of type
+// declarations and the message that shows that two types do not fit. Nothing is asked of the caller. specs/Promises.antt and specs/RequestPromises.antt have all that is promised of them.
 ghost use mathlib.Core.Path.{_≡_};
 ghost use Rattle.refusal.specs.Refusal.{outcomeNumber};
 ghost use Rattle.tree_part.specs.Part.{partOf};
@@ -13,6 +13,7 @@ ghost use Rattle.move_step.specs.Moves.{moveOf};
 ghost use Rattle.soundness.specs.Property3.{NumberFits};
 ghost use Rattle.soundness.specs.Calls.{SoundCall};
 ghost use Rattle.type_writing.specs.Answer.{writeTypes};
+ghost use Rattle.counterexample.specs.Answer as breaking;
 ghost use Rattle.controller.specs.Parts.{PartAt};
 pub use check_listing::Listing;
 pub use check_network::Answer;
@@ -97,4 +98,13 @@ pub fn write_types(text: &[u8], out: &mut [u8]) -> Outcome
     ensures { λ _. ⌜ now (out .exit) ≡ writeTypes (now (text .entry)) (now (out .entry)) .out ⌝ }
 {
     type_writing::write_types(text, out)
+}
+
+// Writes the message that fits the type of row `first` and not that of row `second`: the fewest nodes, then the lowest bytes; nothing, with 0
+// bytes, where the first is a subtype of the second.
+pub fn counterexample(file: &[u8], first: u16, second: u16, out: &mut [u8]) -> Outcome
+    ensures { λ r. ⌜ r ≡ breaking.counterexample (now (file .entry)) first second (now (out .entry)) .outcome ⌝ }
+    ensures { λ _. ⌜ now (out .exit) ≡ breaking.counterexample (now (file .entry)) first second (now (out .entry)) .out ⌝ }
+{
+    counterexample::show(file, first, second, out)
 }

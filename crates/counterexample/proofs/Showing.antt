@@ -23,7 +23,7 @@ use Rattle.network.specs.Form.{formOf, WellFormed}
 use Rattle.network.specs.Decode.{typeOf}
 use Rattle.network.specs.Shapes.{treeNodes}
 use Rattle.counterexample_rules.specs.Breaking.{lowestOf, breaking}
-use Rattle.counterexample.specs.Answer.{BreakingAnswer, breakingRefused, shownBytes, breakingShown, afterForm, areTypeRows, counterexample}
+use Rattle.counterexample.specs.Answer.{BreakingAnswer, breakingRefused, shownBytes, breakingShown, onceFormed, areTypeRows, counterexample}
 use Rattle.counterexample.specs.Tells.{Searched}
 
 module _ (file : List ℕ) (first second : ℕ) (out : List ℕ) where
@@ -39,21 +39,21 @@ module _ (file : List ℕ) (first second : ℕ) (out : List ℕ) where
 
   pub show-small : {o : Outcome} → length out < 512 → o ≡ refusedBy BufferSize → Shows o out
   unfolding counterexample
-  show-small {o} l e = shows (ap (λ (t : Bool). pick t (breakingRefused BufferSize out) (afterForm (formOf file) out rows)) (lt-ltb (length out) 512 l) ∙ ap (λ (x : Outcome). record { outcome = x; out = out }) (sym e))
+  show-small {o} l e = shows (ap (λ (t : Bool). pick t (breakingRefused BufferSize out) (onceFormed (formOf file) out rows)) (lt-ltb (length out) 512 l) ∙ ap (λ (x : Outcome). record { outcome = x; out = out }) (sym e))
 
   module _ (l : 512 ≤ length out) where
-    roomy : counterexample file first second out ≡ afterForm (formOf file) out rows
+    roomy : counterexample file first second out ≡ onceFormed (formOf file) out rows
     unfolding counterexample
-    roomy = ap (λ (t : Bool). pick t (breakingRefused BufferSize out) (afterForm (formOf file) out rows)) (le-ltb (length out) 512 l)
+    roomy = ap (λ (t : Bool). pick t (breakingRefused BufferSize out) (onceFormed (formOf file) out rows)) (le-ltb (length out) 512 l)
 
     pub show-form : {o : Outcome} {v : Verdict} {why : Refusal} → v ≡ formOf file → v ≡ Refused why → o ≡ record { bytes = 0; verdict = v } → Shows o out
     show-form {o} {v} {why} f r e =
-        shows (roomy ∙ ap (λ (x : Verdict). afterForm x out rows) (sym f ∙ r)
+        shows (roomy ∙ ap (λ (x : Verdict). onceFormed x out rows) (sym f ∙ r)
         ∙ ap (λ (x : Outcome). record { outcome = x; out = out }) (sym (e ∙ ap (λ (x : Verdict). record { bytes = 0; verdict = x }) r)))
 
     module _ {v : Verdict} (f : v ≡ formOf file) (d : v ≡ Done) where
       formed : counterexample file first second out ≡ rows
-      formed = roomy ∙ ap (λ (x : Verdict). afterForm x out rows) (sym f ∙ d)
+      formed = roomy ∙ ap (λ (x : Verdict). onceFormed x out rows) (sym f ∙ d)
 
       tested : (t : Bool) → areTypeRows file first second ≡ t
           → counterexample file first second out

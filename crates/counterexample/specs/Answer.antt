@@ -42,9 +42,9 @@ abbrev pub breakingShown : List ℕ → List ℕ → BreakingAnswer
 breakingShown bytes out = record { outcome = doneWith (length bytes); out = bytes ++ drop (length bytes) out }
 
 -- Refusals 2 to 5 come first.
-abbrev pub afterForm : Verdict → List ℕ → BreakingAnswer → BreakingAnswer
-afterForm Done out r = r
-afterForm (Refused why) out r = breakingRefused why out
+abbrev pub onceFormed : Verdict → List ℕ → BreakingAnswer → BreakingAnswer
+onceFormed Done out r = r
+onceFormed (Refused why) out r = breakingRefused why out
 
 -- "a number that is no type row".
 abbrev pub areTypeRows : List ℕ → ℕ → ℕ → Bool
@@ -53,6 +53,7 @@ areTypeRows file first second = ltb first (typeCount file) && ltb second (typeCo
 unfoldable pub counterexample : List ℕ → ℕ → ℕ → List ℕ → BreakingAnswer
 counterexample file first second out =
     pick (ltb (length out) outRoom) (breakingRefused BufferSize out)  -- 1
-    (afterForm (formOf file) out  -- 2 to 5
-    (pick (areTypeRows file first second) (breakingShown (shownBytes (breaking (typeOf file first) (typeOf file second))) out)
+    (onceFormed (formOf file) out  -- 2 to 5
+    (pick (areTypeRows file first second)
+    (breakingShown (shownBytes (breaking (typeOf file first) (typeOf file second))) out)
     (breakingRefused MoveNotAllowed out)))  -- 15

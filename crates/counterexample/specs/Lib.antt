@@ -1,3 +1,4 @@
 pub mod Answer
 pub mod Tells
 pub mod RowLaws
+pub mod AnswerLaws

@@ -26,13 +26,13 @@ use Rattle.check_subtyping.specs.OwnLaws.{own-rising, message-within, fits-soun
 use Rattle.check_typing.specs.EnvironmentLaws.{sums, maxima}
 use Rattle.counterexample_rules.specs.Order.{Lower, isLower}
 use Rattle.counterexample_rules.specs.OrderLaws.{irreflexive, lower-trans, neither-lower, lower-sound, lower-complete}
-use Rattle.counterexample_rules.specs.Smallest.{IsMessage, Breaks, Smallest, TypeWithin}
+use Rattle.counterexample_rules.specs.Smallest.{IsMessage, Counterexample, Smallest, TypeWithin}
 use Rattle.counterexample_rules.specs.Breaking.{leastOf, leastWith, leastMessage, lowerOf, lowestOf, breaking}
 use Rattle.counterexample_rules.specs.Contained.{Contained}
 use Rattle.counterexample_rules.specs.ContainedLaws.{contained-lower}
 use Rattle.counterexample_rules.specs.LeastLaws.{least-proper, least-sound, least-rising, least-fits, least-most}
 use Rattle.counterexample_rules.specs.ChildLaws.{contained-least}
-use Rattle.counterexample_rules.specs.WithinLaws.{Suits, LeastFit, least-decide}
+use Rattle.counterexample_rules.specs.WithinLaws.{FitsTypes, LeastFit, least-decide}
 use Rattle.counterexample_rules.specs.OrderedLaws.{least-ordered}
 
 -- ---- the least messages of a type
@@ -150,7 +150,7 @@ tells-at t u n b e = subst (Tells t u n) e (lowest-tells t u n)
 decide : (t u : MessageType) → RisingTree t → (n : Tree Value) → IsMessage n → Fits n t
     → ((j : ℕ) → j < treeNodes t → Contained (leastWith j (rootChildren t)) (children n) → Fits (leastMessage t j) u) → Fits n u
 decide (tree (mark m b) K) (tree (mark p c) L) rise (tree v F) good fit h =
-    let suits : Suits K F = record {
+    let suits : FitsTypes K F = record {
       rising = good .good .rising;
       typed = rise;
       sound = good .good .sound;
@@ -204,7 +204,7 @@ smallest-unique t u m n p q =
 
 module _ (t u : MessageType) (wt : TypeWithin t) (wu : TypeWithin u) where
   -- What the search gives breaks it.
-  found-breaks : (c : Tree Value) → LowestAt t u (treeNodes t) c → Breaks t u c
+  found-breaks : (c : Tree Value) → LowestAt t u (treeNodes t) c → Counterexample t u c
   found-breaks c h =
       let good = subst IsMessage (sym (h .is)) (least-message t wt (h .number)) in
       record {
@@ -214,7 +214,7 @@ module _ (t u : MessageType) (wt : TypeWithin t) (wu : TypeWithin u) where
       }
 
   -- And nothing lower does.
-  found-lowest : (c : Tree Value) → LowestAt t u (treeNodes t) c → (n : Tree Value) → Breaks t u n → Lower n c → ⊥
+  found-lowest : (c : Tree Value) → LowestAt t u (treeNodes t) c → (n : Tree Value) → Counterexample t u n → Lower n c → ⊥
   found-lowest c h n b low =
       b .misfits (decide t u (wt .shape .rising) n (b .message) (b .fitsFirst)
       (λ j l q. by j l q (fits (leastMessage t j) u) refl))

@@ -25,10 +25,10 @@ byOrder (eq h) a b c = b
 byOrder (gt h) a b c = c
 
 -- The siblings that are mandatory, and the one with the id x, c being its children.
-unfoldable pub withChild : ℕ → Forest Value → Types → Forest Value
-withChild x c end = end
-withChild x c (node i (mark m b) k r) =
-    let others = withChild x c r in
+unfoldable pub leastHolding : ℕ → Forest Value → Types → Forest Value
+leastHolding x c end = end
+leastHolding x c (node i (mark m b) k r) =
+    let others = leastHolding x c r in
     byOrder (compare x i) (leastWith 0 (node i (mark m b) k r))
     (node i (leastOf b) c (leastWith 0 r))
     (pick m (node i (leastOf b) (leastWith 0 k) others) others)
@@ -46,36 +46,36 @@ no-value e = let z : _≡_ {A = ℕ} 0 1 = cc in absurd (omega arith)
 
 -- What stands at x.
 pub find-child : (x : ℕ) (c : Forest Value) (K : Types) (m : Bool) (b : ℕ) (k : Types) → find x K ≡ present (tree (mark m b) k)
-    → find x (withChild x c K) ≡ present (tree (leastOf b) c)
-unfolding find withChild
+    → find x (leastHolding x c K) ≡ present (tree (leastOf b) c)
+unfolding find leastHolding
 find-child x c end m b k e = no-child e
 find-child x c (node i (mark n d) l r) m b k e = go (compare x i) e (find-child x c r m b k)
   where
     go : (o : Compare x i) → findBy o (tree (mark n d) l) (find x r) ≡ present (tree (mark m b) k)
-        → (find x r ≡ present (tree (mark m b) k) → find x (withChild x c r) ≡ present (tree (leastOf b) c))
+        → (find x r ≡ present (tree (mark m b) k) → find x (leastHolding x c r) ≡ present (tree (leastOf b) c))
         → find x (byOrder o (leastWith 0 (node i (mark n d) l r)) (node i (leastOf d) c (leastWith 0 r))
-        (pick n (node i (leastOf d) (leastWith 0 l) (withChild x c r)) (withChild x c r))) ≡ present (tree (leastOf b) c)
+        (pick n (node i (leastOf d) (leastWith 0 l) (leastHolding x c r)) (leastHolding x c r))) ≡ present (tree (leastOf b) c)
     go (lt h) e ih = no-child e
     go (eq h) e ih =
         let p : d ≡ b = cc in
         find-eq (compare x i) h (tree (leastOf d) c) (find x (leastWith 0 r)) ∙ rw p refl
     go (gt h) e ih = on n (ih e)
       where
-        on : (t : Bool) → find x (withChild x c r) ≡ present (tree (leastOf b) c)
-            → find x (pick t (node i (leastOf d) (leastWith 0 l) (withChild x c r)) (withChild x c r)) ≡ present (tree (leastOf b) c)
-        on true q = find-gt (compare x i) h (tree (leastOf d) (leastWith 0 l)) (find x (withChild x c r)) ∙ q
+        on : (t : Bool) → find x (leastHolding x c r) ≡ present (tree (leastOf b) c)
+            → find x (pick t (node i (leastOf d) (leastWith 0 l) (leastHolding x c r)) (leastHolding x c r)) ≡ present (tree (leastOf b) c)
+        on true q = find-gt (compare x i) h (tree (leastOf d) (leastWith 0 l)) (find x (leastHolding x c r)) ∙ q
         on false q = q
 
 -- The number of a node below that child, 0 being the child itself.
 pub record Numbered (x j : ℕ) (K k : Types) : Type 0 where
   pub inside : before x K + (1 + j) ≤ nodes K
-  pub is : leastWith (before x K + (1 + j)) K ≡ withChild x (leastWith j k) K
+  pub is : leastWith (before x K + (1 + j)) K ≡ leastHolding x (leastWith j k) K
 
 same-siblings : {i b : ℕ} {c d r s : Forest Value} → c ≡ d → r ≡ s → node i (leastOf b) c r ≡ node i (leastOf b) d s
 same-siblings p q = cc
 
 pub numbered : (x j : ℕ) (K : Types) (m : Bool) (b : ℕ) (k : Types) → find x K ≡ present (tree (mark m b) k) → j ≤ nodes k → Numbered x j K k
-unfolding find withChild before measure
+unfolding find leastHolding before measure
 numbered x j end m b k e l = no-child e
 numbered x j (node i (mark n d) p r) m b k e l =
     let y = go (compare x i) e (numbered x j r m b k) in record { inside = y .0; is = y .1 }
@@ -88,7 +88,7 @@ numbered x j (node i (mark n d) p r) m b k e l =
         (byOrder o 0 0 (1 + nodes p + rest) + (1 + j) ≤ 1 + nodes p + nodes r)
         × (leastWith (byOrder o 0 0 (1 + nodes p + rest) + (1 + j)) (node i (mark n d) p r)
         ≡ byOrder o (leastWith 0 (node i (mark n d) p r)) (node i (leastOf d) (leastWith j k) (leastWith 0 r))
-        (pick n (node i (leastOf d) (leastWith 0 p) (withChild x (leastWith j k) r)) (withChild x (leastWith j k) r)))
+        (pick n (node i (leastOf d) (leastWith 0 p) (leastHolding x (leastWith j k) r)) (leastHolding x (leastWith j k) r)))
 
     here : p ≡ k
         → (0 + (1 + j) ≤ 1 + nodes p + nodes r) × (leastWith (0 + (1 + j)) (node i (mark n d) p r) ≡ node i (leastOf d) (leastWith j k) (leastWith 0 r))
@@ -105,12 +105,12 @@ numbered x j (node i (mark n d) p r) m b k e l =
 
     there : Numbered x j r k
         → (1 + nodes p + rest + (1 + j) ≤ 1 + nodes p + nodes r) × (leastWith (1 + nodes p + rest + (1 + j)) (node i (mark n d) p r)
-        ≡ pick n (node i (leastOf d) (leastWith 0 p) (withChild x (leastWith j k) r)) (withChild x (leastWith j k) r))
+        ≡ pick n (node i (leastOf d) (leastWith 0 p) (leastHolding x (leastWith j k) r)) (leastHolding x (leastWith j k) r))
     there w =
         let J = 1 + nodes p + rest + (1 + j) in
         let ek = past-none (J - 1) p (omega arith) in
         let e2 : J - (1 + nodes p) ≡ rest + (1 + j) = omega arith in
-        let er : leastWith (J - (1 + nodes p)) r ≡ withChild x (leastWith j k) r = ap (λ (z : ℕ). leastWith z r) e2 ∙ w .is in (
+        let er : leastWith (J - (1 + nodes p)) r ≡ leastHolding x (leastWith j k) r = ap (λ (z : ℕ). leastWith z r) e2 ∙ w .is in (
           omega (arith, w .inside),
           least-by J i n d p r n (past-held n J (1 + nodes p) (omega arith)) ∙ rw (ek, er) refl,
         )
@@ -177,8 +177,8 @@ contained-least (node j v l s) (node i (mark n b) k r) w t =
 
 -- A message that fits and has the child x contains these with it, if its children contain c.
 pub contained-child : (x : ℕ) (c : Forest Value) (F : Forest Value) (K : Types) → SoundValues F → T (areSubtypes (ownTypes F) K)
-    → (v : Value) (f : Forest Value) → find x F ≡ present (tree v f) → Contained c f → Contained (withChild x c K) F
-unfolding find areSubtypes mapForest SoundValues withChild
+    → (v : Value) (f : Forest Value) → find x F ≡ present (tree v f) → Contained c f → Contained (leastHolding x c K) F
+unfolding find areSubtypes mapForest SoundValues leastHolding
 contained-child x c end K w t v f e p = no-value e
 contained-child x c (node j a l s) end w t v f e p = absurd t
 contained-child x c (node j a l s) (node i (mark n b) k r) w t v f e p =
@@ -192,7 +192,7 @@ contained-child x c (node j a l s) (node i (mark n b) k r) w t v f e p =
     both n = eqb (basicOf a) b && (implies n true && (areSubtypes (ownTypes l) k && areSubtypes (ownTypes s) r))
 
     others : Forest Value
-    others = withChild x c r
+    others = leastHolding x c r
 
     held : (n : Bool) → T (both n) → (T (eqb (basicOf a) b)) × (T (areSubtypes (ownTypes l) k)) × (T (areSubtypes (ownTypes s) r))
     held n t =

@@ -42,10 +42,10 @@ contained-bytes (with {i} {b} {v} {w} {k} {l} {r} {s} x p q) e =
     subst (λ (z : ℕ). AtMost (encode (node i (value b v) k r)) (i % 256 ∷ i / 256 ∷ b ∷ z ∷ length w ∷ (w ++ (encode l ++ encode s)))) (contained-count p ek)
     (next (next (next (next tail))))
 
-pub find-above : (x i : ℕ) (r : Forest Value) → Above i r → x ≤ i → find x r ≡ absent
+pub nothing-above : (x i : ℕ) (r : Forest Value) → Above i r → x ≤ i → find x r ≡ absent
 unfolding find
-find-above x i end h l = refl
-find-above x i (node j a k r) h l = find-lt (compare x j) (omega arith) (tree a k) (find x r)
+nothing-above x i end h l = refl
+nothing-above x i (node j a k r) h l = find-lt (compare x j) (omega arith) (tree a k) (find x r)
 
 not-absent : {A : Type 0} {t : Tree Value} → present t ≡ absent → A
 not-absent e = let z : _≡_ {A = ℕ} 0 1 = cc in absurd (omega arith)
@@ -57,7 +57,7 @@ contained-absent x nothing h e = refl
 contained-absent x (without {i} {a} {c} {k} {r} p) h e = go (compare x i) (contained-absent x p (h .2))
   where
     go : Compare x i → (find x r ≡ absent → find x c ≡ absent) → find x c ≡ absent
-    go (lt l) ih = ih (find-above x i r (h .0) (omega arith))
+    go (lt l) ih = ih (nothing-above x i r (h .0) (omega arith))
     go (eq l) ih = not-absent (sym (find-eq (compare x i) l (tree a k) (find x r)) ∙ e)
     go (gt l) ih = ih (sym (find-gt (compare x i) l (tree a k) (find x r)) ∙ e)
 contained-absent x (with {i} {b} {v} {w} {k} {l} {r} {s} y p q) h e = go (compare x i) (contained-absent x q (h .2))

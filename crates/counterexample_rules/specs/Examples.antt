@@ -12,13 +12,13 @@ use Rattle.check_subtyping.specs.Subtype.{areSubtypes}
 use Rattle.counterexample_rules.specs.Order.{isLowerBytes, isLower}
 use Rattle.counterexample_rules.specs.Breaking.{leastOf, leastWith, lowestOf, breaking}
 
--- A row: two types, and the message or that there is none.
-pub data Row : Type 0 where
-  row : MessageType → MessageType → Optional (Tree Value) → Row
+-- Two types, and the message, or that there is none.
+pub data ExamplePair : Type 0 where
+  pair : MessageType → MessageType → Optional (Tree Value) → ExamplePair
 
-unfoldable pub AllBreak : List Row → Type 0
+unfoldable pub AllBreak : List ExamplePair → Type 0
 AllBreak [] = Unit {0}
-AllBreak (row t u b ∷ l) = (breaking t u ≡ b) × AllBreak l
+AllBreak (pair t u b ∷ l) = (breaking t u ≡ b) × AllBreak l
 
 -- `void {.load : double .clipped? : bool}` and `void {.load : double}`, load having the id 1 and clipped 2.
 abbrev pub liftType : MessageType
@@ -34,22 +34,25 @@ overVoid k = tree (mark true void) k
 abbrev voidWith : Forest Value → Optional (Tree Value)
 voidWith f = some (tree (leastOf void) f)
 
-abbrev pub examples : List Row
+abbrev pub examples : List ExamplePair
 examples =
     -- a load of 0, not clipped
-    row liftType weightType (voidWith (node 1 (leastOf double) end (node 2 (leastOf bool) end end)))
-    ∷ row weightType liftType none
+    pair liftType weightType (voidWith (node 1 (leastOf double) end (node 2 (leastOf bool) end end)))
+    ∷ pair weightType liftType none
     -- an optional child's mandatory child, which the second type does not know
-    ∷ row (overVoid (node 1 (mark false void) (node 2 (mark true int) end end) end)) (overVoid (node 1 (mark false void) end end))
+    ∷ pair (overVoid (node 1 (mark false void) (node 2 (mark true int) end end) end))
+    (overVoid (node 1 (mark false void) end end))
     (voidWith (node 1 (leastOf void) (node 2 (leastOf int) end end) end))
     -- either child alone breaks it; of the ids 1 and 256 the bytes `00 01` are lower
-    ∷ row (overVoid (node 1 (mark false bool) end (node 256 (mark false bool) end end))) (overVoid end) (voidWith (node 256 (leastOf bool) end end))
+    ∷ pair (overVoid (node 1 (mark false bool) end (node 256 (mark false bool) end end))) (overVoid end)
+    (voidWith (node 256 (leastOf bool) end end))
     -- roots that differ: the mandatory nodes alone
-    ∷ row (tree (mark true int) (node 1 (mark true bool) end (node 2 (mark false bool) end end)))
+    ∷ pair (tree (mark true int) (node 1 (mark true bool) end (node 2 (mark false bool) end end)))
     (tree (mark true long) (node 1 (mark true bool) end (node 2 (mark false bool) end end)))
     (some (tree (leastOf int) (node 1 (leastOf bool) end end)))
     -- a child that is mandatory in the second alone
-    ∷ row (overVoid (node 1 (mark false bool) end end)) (overVoid (node 1 (mark true bool) end end)) (voidWith end)
+    ∷ pair (overVoid (node 1 (mark false bool) end end)) (overVoid (node 1 (mark true bool) end end))
+    (voidWith end)
     ∷ []
 
 pub examples-hold : AllBreak examples

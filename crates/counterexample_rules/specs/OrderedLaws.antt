@@ -14,7 +14,7 @@ use Rattle.check_subtyping.specs.Subtype.{ChildSubtype, Subtypes}
 use Rattle.check_subtyping.specs.SubtypeLaws.{child-cast, child-basics, child-below, not-present-absent, absent-not-mandatory, in-both}
 use Rattle.check_subtyping.specs.Own.{ownMark, ownTypes}
 use Rattle.counterexample_rules.specs.Breaking.{leastOf, leastWith}
-use Rattle.counterexample_rules.specs.ContainedLaws.{find-above}
+use Rattle.counterexample_rules.specs.ContainedLaws.{nothing-above}
 use Rattle.counterexample_rules.specs.LeastLaws.{least-zero, least-above}
 use Rattle.counterexample_rules.specs.ChildLaws.{before, numbered, find-child}
 use Rattle.counterexample_rules.specs.WithinLaws.{found-fewer, found-rising, none-found}
@@ -40,9 +40,9 @@ zero-absent x (node i (mark m b) k r) w h = ap (find x) (least-zero i m b k r) �
     go : (o : Compare x i) (m : Bool) → NotMandatory (findBy o (tree (mark m b) k) (find x r)) → (NotMandatory (find x r) → find x (leastWith 0 r) ≡ absent)
         → find x (pick m (node i (leastOf b) (leastWith 0 k) (leastWith 0 r)) (leastWith 0 r)) ≡ absent
     go (lt o) true h ih = find-lt (compare x i) o (tree (leastOf b) (leastWith 0 k)) (find x (leastWith 0 r))
-    go (lt o) false h ih = find-above x i (leastWith 0 r) (least-above i 0 r (w .0) (w .2)) (omega arith)
+    go (lt o) false h ih = nothing-above x i (leastWith 0 r) (least-above i 0 r (w .0) (w .2)) (omega arith)
     go (eq o) true h ih = mandatory h
-    go (eq o) false h ih = find-above x i (leastWith 0 r) (least-above i 0 r (w .0) (w .2)) (omega arith)
+    go (eq o) false h ih = nothing-above x i (leastWith 0 r) (least-above i 0 r (w .0) (w .2)) (omega arith)
     go (gt o) true h ih = find-gt (compare x i) o (tree (leastOf b) (leastWith 0 k)) (find x (leastWith 0 r)) ∙ ih h
     go (gt o) false h ih = ih h
 

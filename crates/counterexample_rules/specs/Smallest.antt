@@ -14,15 +14,15 @@ abbrev pub IsMessage : Tree Value → Type 0
 IsMessage m = Message (encode (rooted m)) m
 
 -- "the message that fits the first and not the second".
-pub record Breaks (t u : MessageType) (m : Tree Value) : Type 0 where
+pub record Counterexample (t u : MessageType) (m : Tree Value) : Type 0 where
   pub message : IsMessage m
   pub fitsFirst : Fits m t
   pub misfits : Fits m u → ⊥
 
 -- "fewest nodes, then lowest bytes in order": no message that breaks it is lower.
 pub record Smallest (t u : MessageType) (m : Tree Value) : Type 0 where
-  pub breaks : Breaks t u m
-  pub lowest : (n : Tree Value) → Breaks t u n → Lower n m → ⊥
+  pub breaks : Counterexample t u m
+  pub lowest : (n : Tree Value) → Counterexample t u n → Lower n m → ⊥
 
 -- 01, T: "id u16".
 unfoldable pub IdsBelow : Types → Type 0

@@ -18,7 +18,7 @@ use Rattle.check_subtyping.specs.OwnLaws.{own-child, own-at, own-rising}
 use Rattle.counterexample_rules.specs.Contained.{Contained}
 use Rattle.counterexample_rules.specs.ContainedLaws.{contained-absent}
 use Rattle.counterexample_rules.specs.Breaking.{leastOf, leastWith}
-use Rattle.counterexample_rules.specs.ChildLaws.{before, Numbered, numbered, withChild, find-child, contained-least, contained-child}
+use Rattle.counterexample_rules.specs.ChildLaws.{before, Numbered, numbered, leastHolding, find-child, contained-least, contained-child}
 
 pub none-found : {A X : Type 0} {t : Tree A} → absent ≡ present t → X
 none-found e = let z : _≡_ {A = ℕ} 0 1 = cc in absurd (omega arith)
@@ -59,14 +59,14 @@ abbrev pub LeastFit : Types → Types → Forest Value → Type 0
 LeastFit K L F = (j : ℕ) → j ≤ nodes K → Contained (leastWith j K) F → Subtypes (ownTypes (leastWith j K)) L
 
 -- F is sound and fits K.
-pub record Suits (K : Types) (F : Forest Value) : Type 0 where
+pub record FitsTypes (K : Types) (F : Forest Value) : Type 0 where
   pub rising : Rising F
   pub typed : Rising K
   pub sound : SoundValues F
   pub fitting : T (areSubtypes (ownTypes F) K)
 
-module _ (K L : Types) (F : Forest Value) (w : Suits K F) (h : LeastFit K L F)
-    (below : (k l : Types) (f : Forest Value) → nodes k < nodes K → Suits k f → LeastFit k l f → Subtypes (ownTypes f) l) (x : ℕ) where
+module _ (K L : Types) (F : Forest Value) (w : FitsTypes K F) (h : LeastFit K L F)
+    (below : (k l : Types) (f : Forest Value) → nodes k < nodes K → FitsTypes k f → LeastFit k l f → Subtypes (ownTypes f) l) (x : ℕ) where
   none : Contained (leastWith 0 K) F
   none = contained-least F K (w .sound) (w .fitting)
 
@@ -81,7 +81,7 @@ module _ (K L : Types) (F : Forest Value) (w : Suits K F) (h : LeastFit K L F)
     child : ChildSubtype (present (ownType (tree v f))) (present (tree (mark m b) k))
     child = child-cast (ap ownLookup e) eK (own-at F (subtypes-sound (ownTypes F) K (w .fitting)) x)
 
-    suits : Suits k f
+    suits : FitsTypes k f
     suits =
         let rf = found-rising x F v f (w .rising) e in
         let rk = found-rising x K (mark m b) k (w .typed) eK in
@@ -118,11 +118,11 @@ module _ (K L : Types) (F : Forest Value) (w : Suits K F) (h : LeastFit K L F)
   by-child absent e = missing e
   by-child (present (tree v f)) e = there v f e (find x K) refl
 
-within : (n : ℕ) (K L : Types) (F : Forest Value) → nodes K ≤ n → Suits K F → LeastFit K L F → Subtypes (ownTypes F) L
+within : (n : ℕ) (K L : Types) (F : Forest Value) → nodes K ≤ n → FitsTypes K F → LeastFit K L F → Subtypes (ownTypes F) L
 within zero K L F z w h =
     record { at = λ x. by-child K L F w h (λ k l f s v g. absurd (omega arith)) x (find x F) refl }
 within (suc n) K L F z w h =
     record { at = λ x. by-child K L F w h (λ k l f s v g. within n k l f (omega arith) v g) x (find x F) refl }
 
-pub least-decide : (K L : Types) (F : Forest Value) → Suits K F → LeastFit K L F → Subtypes (ownTypes F) L
+pub least-decide : (K L : Types) (F : Forest Value) → FitsTypes K F → LeastFit K L F → Subtypes (ownTypes F) L
 least-decide K L F w h = within (nodes K) K L F (omega arith) w h

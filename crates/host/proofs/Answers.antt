@@ -14,8 +14,7 @@ use Rattle.move_rules.specs.Fresh.{Freshened}
 use Rattle.move_rules.specs.Moves.{Move}
 use Rattle.move_rules.specs.Step.{step}
 use Rattle.soundness.specs.Calls.{SoundCall}
-use Rattle.type_writing.specs.Answer.{TextAnswer}
-use Rattle.host.specs.Reports.{Says, RunsCall, TellsText}
+use Rattle.host.specs.Reports.{Says, RunsCall, WritesOut}
 
 pub answer-numbers : (c : Checked (List Environments)) {x : Answer} {n p : ℕ} → (x ≡ checkAnswer c) × IfPassed ShapedAll c
     → n ≡ numberIn (x .verdict) → p ≡ placeIn (x .verdict) → (n ≡ refusalNumber c) × (p ≡ refusalPlace c)
@@ -47,9 +46,9 @@ runs {file} {s} {out} {m} {outside} {o} {s′} e k = (
   subst (λ (x : ℕ). SoundCall file s (record { move = m; bytes = outside; out = out }) x s′) (sym (k .0 .0)) (e .1 .1 .1),
 )
 
-pub text-told : {A : TextAnswer} {o : Outcome} {out : List ℕ} {n b p : ℕ} → (o ≡ A .outcome) × (out ≡ A .out) → Says o n p × (b ≡ o .bytes)
-    → TellsText A n b p out
-text-told e k = (
+pub out-told : {left : Outcome} {o : Outcome} {out out′ : List ℕ} {n b p : ℕ} → (o ≡ left) × (out ≡ out′) → Says o n p × (b ≡ o .bytes)
+    → WritesOut left out′ n b p out
+out-told e k = (
   (k .0 .0 ∙ ap (λ (x : Outcome). outcomeNumber x) (e .0), k .0 .1 ∙ ap (λ (x : Outcome). outcomePlace x) (e .0)),
   k .1 ∙ ap (λ (x : Outcome). x .bytes) (e .0),
   e .1,

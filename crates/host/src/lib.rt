@@ -1,5 +1,5 @@
-// The checker, fresh state, the moves, the message reader and the reader of type declarations for C: numbers and slices only. A slice is passed as a pointer and a length;
-// include/pokhveti.h has the declarations.
+// The checker, fresh state, the moves, the message reader, the reader of type declarations and the message that breaks it for C: numbers and
+// slices only. A slice is passed as a pointer and a length; include/pokhveti.h has the declarations.
 ghost use mathlib.Core.Path.{_≡_};
 ghost use mathlib.Core.List.{[], _∷_};
 ghost use Rattle.check_files.specs.FileChecker.{checkFile};
@@ -10,7 +10,8 @@ ghost use Rattle.move_rules.specs.Fresh.{fresh};
 ghost use Rattle.move_rules.specs.Moves as definition;
 ghost use Rattle.move_rules.specs.Moves.{local, receive, send, reply, outerReply, close};
 ghost use Rattle.type_writing.specs.Answer.{writeTypes};
-ghost use Rattle.host.specs.Reports.{Says, RunsCall, TellsText};
+ghost use Rattle.counterexample.specs.Answer.{counterexample};
+ghost use Rattle.host.specs.Reports.{Says, RunsCall, TellsText, TellsBreaking};
 use controller::Move;
 use controller::Outcome;
 
@@ -222,4 +223,19 @@ pub extern "C" fn pokhveti_types(
     ensures { λ n. ⌜ TellsText (writeTypes (now (text .entry)) (now (rows .entry))) n (now (bytes .exit)) (now (place .exit)) (now (rows .exit)) ⌝ }
 {
     report(controller::write_types(text, rows), bytes, place)
+}
+
+// Writes the message that fits the first of two type rows and not the second: 0, or the number of the refusal.
+#[no_mangle]
+pub extern "C" fn pokhveti_counterexample(
+    file: &[u8],
+    out: &mut [u8],
+    first: u16,
+    second: u16,
+    bytes: &mut usize,
+    place: &mut usize,
+) -> u32
+    ensures { λ n. ⌜ TellsBreaking (counterexample (now (file .entry)) first second (now (out .entry))) n (now (bytes .exit)) (now (place .exit)) (now (out .exit)) ⌝ }
+{
+    report(controller::counterexample(file, first, second, out), bytes, place)
 }
