@@ -19,7 +19,7 @@ use Rattle.network.specs.Layout.{typeCount, behaviourCount}
 use Rattle.network.specs.Rows.{rootFits}
 use Rattle.network.specs.Sizes.{typeWithin}
 use Rattle.network.specs.Decode.{typeOf, networkOf}
-use Rattle.network.specs.Counterexample.{TypeBreaks}
+use Rattle.network.specs.Breaks.{TypeBreaks}
 use Rattle.network.specs.Form.{WellFormed}
 use Rattle.refusal.specs.declared.Refusal.the-variants.{UnfitKey}
 use Rattle.check_typing.specs.Result.{refused}
