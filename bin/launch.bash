@@ -1,4 +1,5 @@
-# What bin/check, bin/part, bin/play, bin/types and bin/compare share: options, building what is not built yet, running a program for its status.
+# What bin/check, bin/part, bin/play, bin/types, bin/counterexample and bin/compare share: options, building what is not built yet, running a
+# program for its status.
 # A launcher sets `usage` and `about`, the lines of its --help, and `self`, its own path. Statuses: 0 accepted or done, 1 refused
 # (bin/compare: a difference), 2 usage, unreadable input, missing tool or failed write. A launcher that a signal ends dies of that signal.
 set +o posix -uo pipefail
