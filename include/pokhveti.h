@@ -13,7 +13,7 @@
  * that started them, and a message that names another session than its own is refused with 15 (pokhveti_send). A file with an input of such a
  * service whose request type has not that child, mandatory and an int, is refused with 23.
  *
- * Stack: check, environments and fresh stay within 2 MiB, types within 1 MiB, each move and counterexample within 128 KiB, part within 4 KiB, on the deepest
+ * Stack: check, environments and fresh stay within 2 MiB, types within 1 MiB, each move within 128 KiB, counterexample within 16 KiB, part within 4 KiB, on the deepest
  * networks that 256 rows allow, the deepest texts that 8,192 bytes allow and on every other input that was tried. That is measured (bin/compare stack), not proved: the proofs speak of a machine without a
  * stack. A thread needs as much beside what it takes itself. */
 #ifndef POKHVETI_H

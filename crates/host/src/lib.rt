@@ -237,5 +237,9 @@ pub extern "C" fn pokhveti_counterexample(
 ) -> u32
     ensures { λ n. ⌜ TellsBreaking (counterexample (now (file .entry)) first second (now (out .entry))) n (now (bytes .exit)) (now (place .exit)) (now (out .exit)) ⌝ }
 {
-    report(controller::counterexample(file, first, second, out), bytes, place)
+    report(
+        controller::counterexample(file, first, second, out),
+        bytes,
+        place,
+    )
 }

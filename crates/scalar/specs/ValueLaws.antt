@@ -120,16 +120,16 @@ least-short b v =
     (λ e. omega arith) (λ e. omega arith) (λ e. omega arith) (λ e. omega arith) b
 
 -- Of a basic type that is none of these the least value has no byte.
-pub least-none : (b : ℕ) → (b ≡ bool → ⊥) → (b ≡ int → ⊥) → (b ≡ double → ⊥) → (b ≡ long → ⊥) → leastBytes b ≡ []
+pub least-empty : (b : ℕ) → (b ≡ bool → ⊥) → (b ≡ int → ⊥) → (b ≡ double → ⊥) → (b ≡ long → ⊥) → leastBytes b ≡ []
 unfolding leastBytes
-least-none zero o i d l = absurd (o refl)
-least-none (suc zero) o i d l = absurd (i refl)
-least-none (suc (suc zero)) o i d l = absurd (d refl)
-least-none (suc (suc (suc zero))) o i d l = absurd (l refl)
-least-none (suc (suc (suc (suc zero)))) o i d l = refl
-least-none (suc (suc (suc (suc (suc zero))))) o i d l = refl
-least-none (suc (suc (suc (suc (suc (suc zero)))))) o i d l = refl
-least-none (suc (suc (suc (suc (suc (suc (suc b))))))) o i d l = refl
+least-empty zero o i d l = absurd (o refl)
+least-empty (suc zero) o i d l = absurd (i refl)
+least-empty (suc (suc zero)) o i d l = absurd (d refl)
+least-empty (suc (suc (suc zero))) o i d l = absurd (l refl)
+least-empty (suc (suc (suc (suc zero)))) o i d l = refl
+least-empty (suc (suc (suc (suc (suc zero))))) o i d l = refl
+least-empty (suc (suc (suc (suc (suc (suc zero)))))) o i d l = refl
+least-empty (suc (suc (suc (suc (suc (suc (suc b))))))) o i d l = refl
 
 -- ---- the number of some bytes of a slice
 

@@ -20,7 +20,7 @@ pub const PART: usize = 4 << 10;
 /// The most that types may use.
 pub const TYPES: usize = 1 << 20;
 /// The most that counterexample may use.
-pub const COUNTEREXAMPLE: usize = 128 << 10;
+pub const COUNTEREXAMPLE: usize = 16 << 10;
 
 /// Room for the frames from which the proved code is called.
 const WRAPPER: usize = 512;

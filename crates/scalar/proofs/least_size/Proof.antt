@@ -1,6 +1,6 @@
 use native.Mathlib.Omega.{arith}
 use Rattle.scalar.proofs.ByScalar.{least-is}
-use Rattle.scalar.specs.ValueLaws.{least-none}
+use Rattle.scalar.specs.ValueLaws.{least-empty}
 use Rattle.scalar.proofs.least_size.Statement.{statement}
 use Rattle.scalar.proofs.least_size.Tie as tie
 
@@ -18,7 +18,7 @@ returns-4 c = (least-is (c .match .keys4), omega arith)
 
 returns-5 : tie.Need-returns-5
 returns-5 c = (
-  least-none (c .before .args .basic) (c .match .rest .0 .0 .0 .1) (c .match .rest .0 .0 .1) (c .match .rest .0 .1) (c .match .rest .1),
+  least-empty (c .before .args .basic) (c .match .rest .0 .0 .0 .1) (c .match .rest .0 .0 .1) (c .match .rest .0 .1) (c .match .rest .1),
   omega arith,
 )
 
