@@ -37,7 +37,8 @@ pub record Held (file : List ℕ) (r n j x : ℕ) : Type 0 where
 -- The least siblings of the n rows from r on with their node number j are written from w on, up to e.
 pub record LeastWritten (file : List ℕ) (r n j : ℕ) (o o′ : List ℕ) (w e : ℕ) : Type 0 where
   pub inside : e ≤ length o
-  pub writes : WellFormed file → r + n ≤ typeCount file → nodes (rowTypes file r n) < 256 → w + length (encode (leastWith j (rowTypes file r n))) ≤ length o →
+  pub writes : WellFormed file → r + n ≤ typeCount file → nodes (rowTypes file r n) < 256 →
+      w + length (encode (leastWith j (rowTypes file r n))) ≤ length o →
       Wrote o o′ w e (length (encode (leastWith j (rowTypes file r n)))) (encode (leastWith j (rowTypes file r n)))
 
 -- The least message of row r with its node number j is written from the start on, up to e.
@@ -57,7 +58,8 @@ isBetter m (some best) = isLower m best
 
 -- x tells whether the message a is lower than b, where b is one.
 pub record BetterTold (a b : List ℕ) (x : Bool) : Type 0 where
-  pub tells : (m : Tree Value) (best : Optional (Tree Value)) → IsMessage m → IfMessage best → a ≡ encode (rooted m) → b ≡ shownBytes best → x ≡ isBetter m best
+  pub tells : (m : Tree Value) (best : Optional (Tree Value)) → IsMessage m → IfMessage best →
+      a ≡ encode (rooted m) → b ≡ shownBytes best → x ≡ isBetter m best
 
 -- The first n bytes of s are the message, none where n is 0.
 abbrev pub HoldsMessage : List ℕ → ℕ → Optional (Tree Value) → Type 0

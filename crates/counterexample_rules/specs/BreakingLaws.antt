@@ -128,7 +128,8 @@ module _ (t u : MessageType) (n : ℕ) where
   picked true c h = h
   picked false c h = h
 
-  next-some : (c : Tree Value) → LowestAt t u n c → (x : Bool) → fits m u ≡ x → Tells t u (suc n) (pick x (some c) (pick (isLower m c) (some m) (some c)))
+  next-some : (c : Tree Value) → LowestAt t u n c → (x : Bool) → fits m u ≡ x
+      → Tells t u (suc n) (pick x (some c) (pick (isLower m c) (some m) (some c)))
   next-some c h true e = next-fits c h e
   next-some c h false e = picked (isLower m c) c (next-lower c h e (isLower m c) refl)
 
@@ -189,8 +190,10 @@ no-beginning (tree (value b v) f) (tree (value c w) g) p q r e =
     let x′ = root-fields s 0 0 b v f x in
     let y′ = root-fields s 0 0 c w g y in
     let ew : w ≡ v = sym (y′ .value) ∙ x′ .value in
-    let after : drop (0 + 5 + length v) s ≡ encode g ++ y .after = subst (λ (z : List ℕ). drop (0 + 5 + length z) s ≡ encode g ++ y .after) ew (y′ .after) in
-    let eg = unique s (0 + 5 + length v) sessionLevels sessionLevels 0 0 f g r (y .after) (x′ .after) after (x .good) (y .good) (sym (x′ .count) ∙ y′ .count) in
+    let after : drop (0 + 5 + length v) s ≡ encode g ++ y .after =
+    subst (λ (z : List ℕ). drop (0 + 5 + length z) s ≡ encode g ++ y .after) ew (y′ .after) in
+    let eg = unique s (0 + 5 + length v) sessionLevels sessionLevels 0 0 f g r (y .after) (x′ .after) after (x .good) (y .good)
+    (sym (x′ .count) ∙ y′ .count) in
     same-tree (sym (x′ .basic) ∙ y′ .basic) (sym ew) eg
   where
     same-tree : {b c : ℕ} {v w : List ℕ} {f g : Forest Value} → b ≡ c → v ≡ w → f ≡ g → tree (value b v) f ≡ tree (value c w) g

@@ -124,7 +124,8 @@ numbered x j (node i (mark n d) p r) m b k e l =
 -- ---- what contains them
 
 -- A child of a message that fits has a value of its type's basic type.
-held-value : (i b : ℕ) (v : Value) {c l r s : Forest Value} → T (eqb (basicOf v) b) → (h : (0 < i) × (i < 65536) × Proper v × SoundValues l × SoundValues s)
+held-value : (i b : ℕ) (v : Value) {c l r s : Forest Value} → T (eqb (basicOf v) b)
+    → (h : (0 < i) × (i < 65536) × Proper v × SoundValues l × SoundValues s)
     → Contained c l → Contained r s → Contained (node i (leastOf b) c r) (node i v l s)
 held-value i b (value d w) {c} {l} {r} {s} t h p q =
     let e = eqb→eq d b t in
@@ -147,7 +148,8 @@ contained-least end (node i (mark n b) k r) w t =
     subst (λ (z : Forest Value). Contained z end) (sym (least-zero i n b k r))
     (optional n (and-l (not n) (areSubtypes end r) t) (contained-least end r w (and-r (not n) (areSubtypes end r) t)))
   where
-    optional : (n : Bool) → T (not n) → Contained (leastWith 0 r) end → Contained (pick n (node i (leastOf b) (leastWith 0 k) (leastWith 0 r)) (leastWith 0 r)) end
+    optional : (n : Bool) → T (not n) → Contained (leastWith 0 r) end
+        → Contained (pick n (node i (leastOf b) (leastWith 0 k) (leastWith 0 r)) (leastWith 0 r)) end
     optional true u p = absurd u
     optional false u p = p
 contained-least (node j v l s) (node i (mark n b) k r) w t =
@@ -169,7 +171,9 @@ contained-least (node j v l s) (node i (mark n b) k r) w t =
     go (gt d) false t hl hs hF = hF t
     go (eq d) true t hl hs hF =
         let u = and-r (eqb (basicOf v) b) (areSubtypes (ownTypes l) k && areSubtypes (ownTypes s) r) t in
-        under-id d (held-value i b v (and-l (eqb (basicOf v) b) (areSubtypes (ownTypes l) k && areSubtypes (ownTypes s) r) t) (subst (λ (z : ℕ). (0 < z) × (z < 65536) × Proper v × SoundValues l × SoundValues s) d w)
+        under-id d
+        (held-value i b v (and-l (eqb (basicOf v) b) (areSubtypes (ownTypes l) k && areSubtypes (ownTypes s) r) t)
+        (subst (λ (z : ℕ). (0 < z) × (z < 65536) × Proper v × SoundValues l × SoundValues s) d w)
         (hl (and-l (areSubtypes (ownTypes l) k) (areSubtypes (ownTypes s) r) u)) (hs (and-r (areSubtypes (ownTypes l) k) (areSubtypes (ownTypes s) r) u)))
     go (eq d) false t hl hs hF =
         without (hs (and-r (areSubtypes (ownTypes l) k) (areSubtypes (ownTypes s) r)

@@ -39,7 +39,8 @@ contained-bytes (with {i} {b} {v} {w} {k} {l} {r} {s} x p q) e =
     let ek : nodes k ≡ nodes l = omega (arith, contained-nodes p, contained-nodes q) in
     let er : nodes r ≡ nodes s = omega (arith, contained-nodes p, contained-nodes q) in
     let tail = value-bytes x (most-append (contained-bytes p ek) (contained-bytes q er)) in
-    subst (λ (z : ℕ). AtMost (encode (node i (value b v) k r)) (i % 256 ∷ i / 256 ∷ b ∷ z ∷ length w ∷ (w ++ (encode l ++ encode s)))) (contained-count p ek)
+    subst (λ (z : ℕ). AtMost (encode (node i (value b v) k r)) (i % 256 ∷ i / 256 ∷ b ∷ z ∷ length w ∷ (w ++ (encode l ++ encode s))))
+    (contained-count p ek)
     (next (next (next (next tail))))
 
 pub nothing-above : (x i : ℕ) (r : Forest Value) → Above i r → x ≤ i → find x r ≡ absent

@@ -147,7 +147,8 @@ later-id (eq h) x y l t = absurd (omega arith)
 later-id (gt h) x y l t = t
 
 -- An optional child may be left out.
-left-out : (F : Forest Value) (i b : ℕ) (k r : Types) → Above i F → T (areSubtypes (ownTypes F) r) → T (areSubtypes (ownTypes F) (node i (mark false b) k r))
+left-out : (F : Forest Value) (i b : ℕ) (k r : Types) → Above i F → T (areSubtypes (ownTypes F) r)
+    → T (areSubtypes (ownTypes F) (node i (mark false b) k r))
 unfolding areSubtypes mapForest
 left-out end i b k r h t = t
 left-out (node j v l s) i b k r h t =

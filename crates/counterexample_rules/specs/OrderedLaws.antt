@@ -37,7 +37,8 @@ unfolding find Rising
 zero-absent x end w h = end-absent x
 zero-absent x (node i (mark m b) k r) w h = ap (find x) (least-zero i m b k r) ∙ go (compare x i) m h (zero-absent x r (w .2))
   where
-    go : (o : Compare x i) (m : Bool) → NotMandatory (findBy o (tree (mark m b) k) (find x r)) → (NotMandatory (find x r) → find x (leastWith 0 r) ≡ absent)
+    go : (o : Compare x i) (m : Bool) → NotMandatory (findBy o (tree (mark m b) k) (find x r))
+        → (NotMandatory (find x r) → find x (leastWith 0 r) ≡ absent)
         → find x (pick m (node i (leastOf b) (leastWith 0 k) (leastWith 0 r)) (leastWith 0 r)) ≡ absent
     go (lt o) true h ih = find-lt (compare x i) o (tree (leastOf b) (leastWith 0 k)) (find x (leastWith 0 r))
     go (lt o) false h ih = nothing-above x i (leastWith 0 r) (least-above i 0 r (w .0) (w .2)) (omega arith)
@@ -50,7 +51,8 @@ zero-absent x (node i (mark m b) k r) w h = ap (find x) (least-zero i m b k r) �
 abbrev pub EachLeastFits : Types → Types → Type 0
 EachLeastFits K L = (j : ℕ) → j ≤ nodes K → Subtypes (ownTypes (leastWith j K)) L
 
-module _ (K L : Types) (w : Rising K) (h : EachLeastFits K L) (below : (k l : Types) → nodes k < nodes K → Rising k → EachLeastFits k l → Subtypes k l) (x : ℕ) where
+module _ (K L : Types) (w : Rising K) (h : EachLeastFits K L)
+    (below : (k l : Types) → nodes k < nodes K → Rising k → EachLeastFits k l → Subtypes k l) (x : ℕ) where
   -- without a number
   alone : NotMandatory (find x K) → ChildSubtype absent (find x L)
   alone n = child-cast (find-map ownMark x (leastWith 0 K) ∙ ap (mapLookup ownMark) (zero-absent x K w n)) refl (h 0 (omega arith) .at x)

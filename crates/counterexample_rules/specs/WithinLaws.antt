@@ -77,7 +77,8 @@ module _ (K L : Types) (F : Forest Value) (w : FitsTypes K F) (h : LeastFit K L 
       find-map ownMark x (leastWith 0 K) ∙ ap (mapLookup ownMark) (contained-absent x none (w .rising) e) in
       child-cast (q ∙ sym p) refl (h 0 (omega arith) none .at x)
 
-  module _ (v : Value) (f : Forest Value) (e : find x F ≡ present (tree v f)) (m : Bool) (b : ℕ) (k : Types) (eK : find x K ≡ present (tree (mark m b) k)) where
+  module _ (v : Value) (f : Forest Value) (e : find x F ≡ present (tree v f))
+      (m : Bool) (b : ℕ) (k : Types) (eK : find x K ≡ present (tree (mark m b) k)) where
     child : ChildSubtype (present (ownType (tree v f))) (present (tree (mark m b) k))
     child = child-cast (ap ownLookup e) eK (own-at F (subtypes-sound (ownTypes F) K (w .fitting)) x)
 
@@ -85,14 +86,20 @@ module _ (K L : Types) (F : Forest Value) (w : FitsTypes K F) (h : LeastFit K L 
     suits =
         let rf = found-rising x F v f (w .rising) e in
         let rk = found-rising x K (mark m b) k (w .typed) eK in
-        record { rising = rf; typed = rk; sound = found-sound x F v f (w .sound) e; fitting = subtypes-complete (ownTypes f) k (own-rising f rf) rk (child-below child) }
+        record {
+          rising = rf;
+          typed = rk;
+          sound = found-sound x F v f (w .sound) e;
+          fitting = subtypes-complete (ownTypes f) k (own-rising f rf) rk (child-below child);
+        }
 
     -- with the child, and below it the node number j
     held : (j : ℕ) → j ≤ nodes k → Contained (leastWith j k) f → ChildSubtype (present (tree (mark true b) (ownTypes (leastWith j k)))) (find x L)
     held j l c =
         let y = numbered x j K m b k eK l in
         let C = leastWith (before x K + (1 + j)) K in
-        let d : Contained C F = subst (λ (z : Forest Value). Contained z F) (sym (y .is)) (contained-child x (leastWith j k) F K (w .sound) (w .fitting) v f e c) in
+        let d : Contained C F =
+        subst (λ (z : Forest Value). Contained z F) (sym (y .is)) (contained-child x (leastWith j k) F K (w .sound) (w .fitting) v f e c) in
         let p : find x (ownTypes C) ≡ present (tree (mark true b) (ownTypes (leastWith j k))) =
         find-map ownMark x C ∙ ap (mapLookup ownMark) (ap (find x) (y .is) ∙ find-child x (leastWith j k) K m b k eK) in
         child-cast p refl (h (before x K + (1 + j)) (y .inside) d .at x)
@@ -109,7 +116,8 @@ module _ (K L : Types) (F : Forest Value) (w : FitsTypes K F) (h : LeastFit K L 
           children = below k l f (found-fewer x K (mark m b) k eK) suits (λ j le d. child-below (child-cast refl q (held j le d)));
         })
 
-  there : (v : Value) (f : Forest Value) → find x F ≡ present (tree v f) → (y : Lookup Mark) → find x K ≡ y → ChildSubtype (find x (ownTypes F)) (find x L)
+  there : (v : Value) (f : Forest Value) → find x F ≡ present (tree v f) → (y : Lookup Mark) → find x K ≡ y
+      → ChildSubtype (find x (ownTypes F)) (find x L)
   there v f e absent eK = absurd (not-present-absent (child-cast (ap ownLookup e) eK (own-at F (subtypes-sound (ownTypes F) K (w .fitting)) x)))
   there v f e (present (tree (mark m b) k)) eK =
       child-cast (sym (find-map ownMark x F ∙ ap (mapLookup ownMark) e)) refl (shown v f e m b k eK (find x L) refl)
