@@ -52,20 +52,20 @@ entry-none row o b f e = rw (sym f, of_eq _ none e) refl
 pub entry-some : (row o b : ℕ) {c : ℕ} → c ≡ column_of b → (table_at o c ≡ none → ⊥) → Typing.Leaf (table_at o c) ≡ entry_typing row (table_at o (column_of b))
 entry-some row o b {c} f h = rw (sym f, ne_eqb (table_at o c) none h) refl
 
-given : (x : Typing) → OneOf (0 ∷ 1 ∷ []) (tag_of typings.the-type x) → is_refused x ≡ false
+given : (x : Typing) → OneOf (0 ∷ 1 ∷ []) (tag_of typings.the_type x) → is_refused x ≡ false
 given (Typing.At at b) k = refl
 given (Typing.Leaf b) k = refl
 given (Typing.Refused why) k = absurd (miss (0 ∷ 1 ∷ []) 2 tt k)
 
-pub right-refused : (row o : ℕ) (x : Typing) {y : Typing} {why : Refusal} → OneOf (0 ∷ 1 ∷ []) (tag_of typings.the-type x) → y ≡ Typing.Refused why
+pub right-refused : (row o : ℕ) (x : Typing) {y : Typing} {why : Refusal} → OneOf (0 ∷ 1 ∷ []) (tag_of typings.the_type x) → y ≡ Typing.Refused why
     → y ≡ operator_typed row o x y
 right-refused row o x k e = rw (given x k, e) refl
 
-pub alone : (row o : ℕ) (x : Typing) {i b : ℕ} {z : Typing} → OneOf (0 ∷ 1 ∷ []) (tag_of typings.the-type x) → i ≡ o → b ≡ root_typed x
+pub alone : (row o : ℕ) (x : Typing) {i b : ℕ} {z : Typing} → OneOf (0 ∷ 1 ∷ []) (tag_of typings.the_type x) → i ≡ o → b ≡ root_typed x
     → z ≡ entry_typing row (table_at i (column_of b)) → z ≡ operator_typed row o x x
 alone row o x {i} {b} k f g h = rw (given x k, sym g, of_eq b b refl, sym f) h
 
-module _ (row o : ℕ) (x y : Typing) (k : OneOf (0 ∷ 1 ∷ []) (tag_of typings.the-type x)) (l : OneOf (0 ∷ 1 ∷ []) (tag_of typings.the-type y)) where
+module _ (row o : ℕ) (x y : Typing) (k : OneOf (0 ∷ 1 ∷ []) (tag_of typings.the_type x)) (l : OneOf (0 ∷ 1 ∷ []) (tag_of typings.the_type y)) where
   pub unlike : {b c : ℕ} → b ≡ root_typed x → c ≡ root_typed y → (b ≡ c → ⊥) → Typing.Refused (OperandType row) ≡ operator_typed row o x y
   unlike {b} {c} g h n = rw (given x k, given y l, sym g, sym h, ne_eqb b c n) refl
 

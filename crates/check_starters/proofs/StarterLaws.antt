@@ -414,9 +414,9 @@ branches-listed q r first n file =
     (sequences-listed file n first)
 
 -- The row is no choice.
-pub starts_other : (file : List ℕ) (q r : ℕ) {x : BehaviourRow} {s : Step} → x ≡ behaviour_row_of file r → OneOf others (tag_of rows.the-type x) → StarterChecks file q r s
+pub starts_other : (file : List ℕ) (q r : ℕ) {x : BehaviourRow} {s : Step} → x ≡ behaviour_row_of file r → OneOf others (tag_of rows.the_type x) → StarterChecks file q r s
 starts_other file q r {x} e h = record {
-  tells = λ w l i. absurd (miss others 10 tt (subst (λ (y : BehaviourRow). OneOf others (tag_of rows.the-type y)) (e ∙ choice-row file r i) h));
+  tells = λ w l i. absurd (miss others 10 tt (subst (λ (y : BehaviourRow). OneOf others (tag_of rows.the_type y)) (e ∙ choice-row file r i) h));
 }
 
 module _ (file : List ℕ) (q r : ℕ) {left at first n : ℕ} {x : BehaviourRow} (a : left ≡ behaviour_count file) (b : x ≡ behaviour_row_of file r)

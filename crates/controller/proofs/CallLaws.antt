@@ -23,7 +23,7 @@ pub outside-fits : {m : Move} {q id n k : ℕ} → m ≡ Move.OuterMessage q id 
 unfolding move_of
 outside-fits e l = rw e l
 
-pub other_fits : (m : Move) → OneOf others (tag_of moves.the-type m) → NumberFits (move_of m)
+pub other_fits : (m : Move) → OneOf others (tag_of moves.the_type m) → NumberFits (move_of m)
 unfolding move_of
 other_fits (Move.Local q n r) k = tt
 other_fits (Move.Receive q n r) k = tt

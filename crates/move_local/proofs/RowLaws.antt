@@ -423,7 +423,7 @@ pub ruleset while-laws = (while-not-ready, while-missing, while-wrong, while-out
 abbrev others : List ℕ
 others = 0 ∷ 1 ∷ 2 ∷ 3 ∷ 4 ∷ 7 ∷ 8 ∷ 10 ∷ 11 ∷ 12 ∷ []
 
-other_row : (file : List ℕ) (G : State) (q n : ℕ) (S : Session) (r : ℕ) (y : BehaviourRow) → OneOf others (tag_of rows.the-type y)
+other_row : (file : List ℕ) (G : State) (q n : ℕ) (S : Session) (r : ℕ) (y : BehaviourRow) → OneOf others (tag_of rows.the_type y)
     → local_at G q n S (behaviour_by file r y) ≡ not_allowed
 unfolding local_at
 other_row file G q n S r BehaviourRow.Nil e = refl
@@ -448,7 +448,7 @@ module _ (file s : List ℕ) (slot r : ℕ) {x : BehaviourRow} (e : x ≡ behavi
         m.tells w G st q n b (behaviour_count file) h k.1 out ∙ ap (λ (B : Behaviour). finish s out (local_at G q n h.session B)) (sym k.0);
   }
 
-  pub row_other : {o : Outcome} → OneOf others (tag_of rows.the-type x) → o ≡ refused_by MoveNotAllowed → RowMade file s s slot r o
+  pub row_other : {o : Outcome} → OneOf others (tag_of rows.the_type x) → o ≡ refused_by MoveNotAllowed → RowMade file s s slot r o
   row_other g k = row_made x refl (by-refused file s slot r x k (λ w G q n b left h p. other_row file G q n h.session r x g))
 
 -- ---- the move

@@ -279,11 +279,11 @@ module _ (file s out : List ℕ) (q n r : ℕ) where
               ∙ (ap (λ (z : ℕ). next G i.session (waiting_row z c2 r2)) (sym u) ∙ ap (λ (z : ℕ). next G i.session (waiting_row q2 z r2)) (sym v))))));
         }
 
-        pub move-not-received : {a : Outcome} → OneOf (0 ∷ 1 ∷ 2 ∷ 3 ∷ []) (tag_of progress.the-type p) → a ≡ refused_by MoveNotAllowed
+        pub move-not-received : {a : Outcome} → OneOf (0 ∷ 1 ∷ 2 ∷ 3 ∷ []) (tag_of progress.the_type p) → a ≡ refused_by MoveNotAllowed
             → MadeOut file moves s s out out a
         move-not-received j f = made-out-refused file moves f (λ w G st. move_row w G st ∙ none-received p G (running h e w G st).session j)
           where
-            none-received : (p : coded.Progress) (G : State) (S : Session) → OneOf (0 ∷ 1 ∷ 2 ∷ 3 ∷ []) (tag_of progress.the-type p)
+            none-received : (p : coded.Progress) (G : State) (S : Session) → OneOf (0 ∷ 1 ∷ 2 ∷ 3 ∷ []) (tag_of progress.the_type p)
                 → on_received (meaning p) (next G S) ≡ not_allowed
             none-received coded.Progress.Undone G S k = refl
             none-received coded.Progress.Done G S k = refl

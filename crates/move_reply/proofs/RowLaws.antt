@@ -89,10 +89,10 @@ module _ (file s : List ℕ) (slot b q r : ℕ) {t : Bool} (h : HasRow file b r 
       small = λ o c e. nowhere e;
     }
 
-    pub no-request : OneOf (0 ∷ 1 ∷ []) (tag_of rows.the-type row) → ReplyingAt file s slot b q r Replying.NotAllowed
+    pub no-request : OneOf (0 ∷ 1 ∷ []) (tag_of rows.the_type row) → ReplyingAt file s slot b q r Replying.NotAllowed
     no-request k = not-allowed (λ N G n. other N G n row k)
       where
-        other : (N : Network) (G : State) (n : ℕ) (x : InputRow) → OneOf (0 ∷ 1 ∷ []) (tag_of rows.the-type x) → answers file N G q n S r x ≡ not_allowed
+        other : (N : Network) (G : State) (n : ℕ) (x : InputRow) → OneOf (0 ∷ 1 ∷ []) (tag_of rows.the_type x) → answers file N G q n S r x ≡ not_allowed
         other N G n InputRow.Nothing k = refl
         other N G n (InputRow.OneWay o x) k = refl
         other N G n (InputRow.RequestResponse o x c d) k = absurd (miss (0 ∷ 1 ∷ []) 2 tt k)

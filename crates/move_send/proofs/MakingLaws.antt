@@ -170,7 +170,7 @@ module _ (file s : List ℕ) (slot i o e to : ℕ) (after : Progress) (out : Lis
         ap (λ (x : Bool). require x MoveNotAllowed (on_tree (evaluate S.tree (expression_of file e)) (sends G q n S))) (eq-eqb to 0 zero)
         ∙ ap (λ (l : Evaluation (Tree Value)). on_tree l (sends G q n S)) f
 
-    pub outside-unwritten : {v : Verdict} {a : Outcome} → OneOf (1 ∷ 2 ∷ 3 ∷ []) (tag_of written.the-type x) → v ≡ written_verdict x
+    pub outside-unwritten : {v : Verdict} {a : Outcome} → OneOf (1 ∷ 2 ∷ 3 ∷ []) (tag_of written.the_type x) → v ≡ written_verdict x
         → a ≡ record { bytes = 0; verdict = v } → SendsOutside file s slot i o e to after s out out a
     outside-unwritten f d g = record {
       tells = λ w lo le G st q n b h j.
@@ -179,7 +179,7 @@ module _ (file s : List ℕ) (slot i o e to : ℕ) (after : Progress) (out : Lis
           refused-step (g ∙ ap (λ (z : Verdict). record { bytes = 0; verdict = z }) (d ∙ u.1)) (evaluated G q n h.session y refl ∙ u.2);
     }
       where
-        none : (x : Written) → OneOf (1 ∷ 2 ∷ 3 ∷ []) (tag_of written.the-type x) → (G : State) (q n : ℕ) (S : Session) (y : Evaluation (Tree Value))
+        none : (x : Written) → OneOf (1 ∷ 2 ∷ 3 ∷ []) (tag_of written.the_type x) → (G : State) (q n : ℕ) (S : Session) (y : Evaluation (Tree Value))
             → WrittenAs buf x y → (why : Refusal) × (written_verdict x ≡ Refused why) × (on_tree y (sends G q n S) ≡ refused why)
         none (Written.Tree n) f G q j S y h = absurd (miss (1 ∷ 2 ∷ 3 ∷ []) 0 tt f)
         none Written.Missing f G q j S y h = (Stuck, refl, ap (λ (z : Evaluation (Tree Value)). on_tree z (sends G q j S)) h)
@@ -367,10 +367,10 @@ module _ (file s out : List ℕ) (q n r to : ℕ) where
           in-session i (λ B S. send_reached (network_of file) G q n S to (reach S.progress r B))
           ∙ ap (send_reached (network_of file) G q n i.session to) (sym (reaching w G st))
 
-      pub move-unreached : {a : Outcome} → OneOf (0 ∷ 2 ∷ []) (tag_of reached.the-type y) → a ≡ refused_by MoveNotAllowed → MadeOut file makes s s out out a
+      pub move-unreached : {a : Outcome} → OneOf (0 ∷ 2 ∷ []) (tag_of reached.the_type y) → a ≡ refused_by MoveNotAllowed → MadeOut file makes s s out out a
       move-unreached g f = made-out-refused file makes f (λ w G st. move-is w G st ∙ other G (running h e w G st).session y g)
         where
-          other : (G : State) (S : Session) (y : rows.Reached) → OneOf (0 ∷ 2 ∷ []) (tag_of reached.the-type y)
+          other : (G : State) (S : Session) (y : rows.Reached) → OneOf (0 ∷ 2 ∷ []) (tag_of reached.the_type y)
               → send_reached (network_of file) G q n S to (reached_as file y) ≡ not_allowed
           other G S rows.Reached.Unreached k = refl
           other G S (rows.Reached.Reached i) k = absurd (miss (0 ∷ 2 ∷ []) 1 tt k)

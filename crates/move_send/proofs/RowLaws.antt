@@ -100,10 +100,10 @@ module _ (file s : List ℕ) (slot q i : ℕ) where
           ∙ ap (λ (x : Progress). if_undone x (require (permits q output two (operation_of file o)) MoveNotAllowed
           (sending_as file N G q n S to i (Sending.Row o e two)))) (sym m)
 
-      pub row-not-undone : OneOf (1 ∷ 2 ∷ 3 ∷ 4 ∷ []) (tag_of progress.the-type p) → SendingAt file s slot q i Sending.Nothing
+      pub row-not-undone : OneOf (1 ∷ 2 ∷ 3 ∷ 4 ∷ []) (tag_of progress.the_type p) → SendingAt file s slot q i Sending.Nothing
       row-not-undone k = refuses (λ N G n to. row_next N G n to ∙ other p _ k)
         where
-          other : (p : coded.Progress) (r : Result) → OneOf (1 ∷ 2 ∷ 3 ∷ 4 ∷ []) (tag_of progress.the-type p) → if_undone (meaning p) r ≡ not_allowed
+          other : (p : coded.Progress) (r : Result) → OneOf (1 ∷ 2 ∷ 3 ∷ 4 ∷ []) (tag_of progress.the_type p) → if_undone (meaning p) r ≡ not_allowed
           other coded.Progress.Undone r k = absurd (miss (1 ∷ 2 ∷ 3 ∷ 4 ∷ []) 0 tt k)
           other coded.Progress.Done r k = refl
           other coded.Progress.Waits r k = refl

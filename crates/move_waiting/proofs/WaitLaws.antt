@@ -102,10 +102,10 @@ module _ (file s : List ℕ) (slot b q r : ℕ) {t : Bool} (h : HasRow file b r 
       small = λ o p e. nowhere e;
     }
 
-    pub no-solicit : OneOf (0 ∷ 1 ∷ []) (tag_of rows.the-type row) → WaitsAt file s slot b q r Waiting.NotAllowed
+    pub no-solicit : OneOf (0 ∷ 1 ∷ []) (tag_of rows.the_type row) → WaitsAt file s slot b q r Waiting.NotAllowed
     no-solicit k = not-allowed (λ f. other row f k)
       where
-        other : (x : OutputRow) (f : Operation → Path → Result) → OneOf (0 ∷ 1 ∷ []) (tag_of rows.the-type x) → asks file q S r x f ≡ not_allowed
+        other : (x : OutputRow) (f : Operation → Path → Result) → OneOf (0 ∷ 1 ∷ []) (tag_of rows.the_type x) → asks file q S r x f ≡ not_allowed
         other OutputRow.Nothing f k = refl
         other (OutputRow.Notification o e) f k = refl
         other (OutputRow.SolicitResponse o e x) f k = absurd (miss (0 ∷ 1 ∷ []) 2 tt k)
@@ -117,10 +117,10 @@ module _ (file s : List ℕ) (slot b q r : ℕ) {t : Bool} (h : HasRow file b r 
       solicits : (f : Operation → Path → Result) → asks file q S r row f ≡ if_waiting (meaning p) (Next f)
       solicits f = ap (λ (z : OutputRow). asks file q S r z f) g ∙ ap (λ (z : Progress). if_waiting z (Next f)) (sym m)
 
-      pub no-waits : OneOf (0 ∷ 1 ∷ 3 ∷ 4 ∷ []) (tag_of progress.the-type p) → WaitsAt file s slot b q r Waiting.NotAllowed
+      pub no-waits : OneOf (0 ∷ 1 ∷ 3 ∷ 4 ∷ []) (tag_of progress.the_type p) → WaitsAt file s slot b q r Waiting.NotAllowed
       no-waits k = not-allowed (λ f. solicits f ∙ other p (Next f) k)
         where
-          other : (p : coded.Progress) (z : Result) → OneOf (0 ∷ 1 ∷ 3 ∷ 4 ∷ []) (tag_of progress.the-type p) → if_waiting (meaning p) z ≡ not_allowed
+          other : (p : coded.Progress) (z : Result) → OneOf (0 ∷ 1 ∷ 3 ∷ 4 ∷ []) (tag_of progress.the_type p) → if_waiting (meaning p) z ≡ not_allowed
           other coded.Progress.Undone z k = refl
           other coded.Progress.Done z k = refl
           other coded.Progress.Waits z k = absurd (miss (0 ∷ 1 ∷ 3 ∷ 4 ∷ []) 2 tt k)

@@ -17,8 +17,8 @@ no_input = 0 ∷ 3 ∷ 4 ∷ 5 ∷ 6 ∷ 7 ∷ 8 ∷ 9 ∷ 10 ∷ 11 ∷ 12 ∷ 
 abbrev no_output : List ℕ
 no_output = 0 ∷ 1 ∷ 2 ∷ 5 ∷ 6 ∷ 7 ∷ 8 ∷ 9 ∷ 10 ∷ 11 ∷ 12 ∷ []
 
-others : (y : BehaviourRow) → (OneOf no_input (tag_of rows.the-type y) → InputRow.Nothing ≡ input_row_in (view_in y))
-    × (OneOf no_output (tag_of rows.the-type y) → OutputRow.Nothing ≡ output_row_in (view_in y))
+others : (y : BehaviourRow) → (OneOf no_input (tag_of rows.the_type y) → InputRow.Nothing ≡ input_row_in (view_in y))
+    × (OneOf no_output (tag_of rows.the_type y) → OutputRow.Nothing ≡ output_row_in (view_in y))
 unfolding view_in
 others BehaviourRow.Nil = (λ h. refl, λ h. refl)
 others (BehaviourRow.OneWay o p) = (λ h. absurd (miss no_input 1 tt h), λ h. refl)
@@ -51,7 +51,7 @@ module _ (s : List ℕ) (r : ℕ) {y : BehaviourRow} (e : y ≡ behaviour_row_of
   unfolding view_in
   input-request f = input-by f
 
-  pub input_none : OneOf no_input (tag_of rows.the-type y) → InputRow.Nothing ≡ input_row_of s r
+  pub input_none : OneOf no_input (tag_of rows.the_type y) → InputRow.Nothing ≡ input_row_of s r
   input_none h = (others y).0 h ∙ input-by refl
 
   pub output-notification : {o x : ℕ} → y ≡ BehaviourRow.Notification o x → OutputRow.Notification o x ≡ output_row_of s r
@@ -62,7 +62,7 @@ module _ (s : List ℕ) (r : ℕ) {y : BehaviourRow} (e : y ≡ behaviour_row_of
   unfolding view_in
   output-solicit f = output-by f
 
-  pub output-none : OneOf no_output (tag_of rows.the-type y) → OutputRow.Nothing ≡ output_row_of s r
+  pub output-none : OneOf no_output (tag_of rows.the_type y) → OutputRow.Nothing ≡ output_row_of s r
   output-none h = (others y).1 h ∙ output-by refl
 
 pub ruleset input-laws = (input-one-way, input-request, input_none)

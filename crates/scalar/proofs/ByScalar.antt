@@ -28,7 +28,7 @@ use Rattle.scalar.specs.contracts.Scalar as S
 abbrev NoBool : List ℕ
 NoBool = 1 ∷ 2 ∷ 3 ∷ 4 ∷ 5 ∷ 6 ∷ []
 
-no_bool : (k : Scalar) (t : List ℕ) → OneOf NoBool (tag_of S.the-type k) → Truth.Wrong ≡ truth_of (value_beside k t)
+no_bool : (k : Scalar) (t : List ℕ) → OneOf NoBool (tag_of S.the_type k) → Truth.Wrong ≡ truth_of (value_beside k t)
 unfolding truth_of
 no_bool (Scalar.Bool p) t h = absurd (miss NoBool 0 tt h)
 no_bool (Scalar.Int z) t h = refl
@@ -47,7 +47,7 @@ module _ (v : Operand) where
   unfolding truth_of unsigned_of
   truth-false e f = sym (ap truth_of (value-is v (e ∙ ap Scalar.Bool f)))
 
-  pub truth-other : OneOf NoBool (tag_of S.the-type v.scalar) → Truth.Wrong ≡ truth_of (value_of v)
+  pub truth-other : OneOf NoBool (tag_of S.the_type v.scalar) → Truth.Wrong ≡ truth_of (value_of v)
   unfolding value_of
   truth-other h = no_bool v.scalar (beside v) h
 

@@ -37,7 +37,7 @@ use Rattle.scalar.specs.contracts.Pair as P
 
 -- ---- the kind of a scalar is its tag
 
-tag-kind : (x : Scalar) → tag_of S.the-type x ≡ kind_of x
+tag-kind : (x : Scalar) → tag_of S.the_type x ≡ kind_of x
 tag-kind (Bool b) = refl
 tag-kind (Int z) = refl
 tag-kind (Double x) = refl
@@ -47,7 +47,7 @@ tag-kind Raw = refl
 tag-kind Void = refl
 
 -- The arm of `paired` where the second scalar is of none of the kinds that the first is of.
-pub kinds-differ : (k : ℕ) (ks : List ℕ) (x y : Scalar) → (OneOf ks k → ⊥) → kind_of x ≡ k → OneOf ks (tag_of S.the-type y) → eqb (kind_of x) (kind_of y) ≡ false
+pub kinds-differ : (k : ℕ) (ks : List ℕ) (x y : Scalar) → (OneOf ks k → ⊥) → kind_of x ≡ k → OneOf ks (tag_of S.the_type y) → eqb (kind_of x) (kind_of y) ≡ false
 kinds-differ k ks x y n e h = ne_eqb (kind_of x) (kind_of y) (λ q. n (subst (OneOf ks) (tag-kind y ∙ sym q ∙ e) h))
 
 -- ---- the value of an operand whose scalar is known
@@ -64,7 +64,7 @@ unfolding answer_of not_of unsigned_of
 not_bool a {p = true} e = rw (value-is a e) refl
 not_bool a {p = false} e = rw (value-is a e) refl
 
-not-other-by : (x : Scalar) (t : List ℕ) → OneOf (1 ∷ 2 ∷ 3 ∷ 4 ∷ 5 ∷ 6 ∷ []) (tag_of S.the-type x) → wrong ≡ not_of (value_beside x t)
+not-other-by : (x : Scalar) (t : List ℕ) → OneOf (1 ∷ 2 ∷ 3 ∷ 4 ∷ 5 ∷ 6 ∷ []) (tag_of S.the_type x) → wrong ≡ not_of (value_beside x t)
 unfolding not_of
 not-other-by (Bool b) t h = absurd (miss (1 ∷ 2 ∷ 3 ∷ 4 ∷ 5 ∷ 6 ∷ []) 0 tt h)
 not-other-by (Int z) t h = refl
@@ -74,7 +74,7 @@ not-other-by String t h = refl
 not-other-by Raw t h = refl
 not-other-by Void t h = refl
 
-pub not-other : (a : Operand) → OneOf (1 ∷ 2 ∷ 3 ∷ 4 ∷ 5 ∷ 6 ∷ []) (tag_of S.the-type a.scalar) → answer_of Wrong ≡ not_of (value_of a)
+pub not-other : (a : Operand) → OneOf (1 ∷ 2 ∷ 3 ∷ 4 ∷ 5 ∷ 6 ∷ []) (tag_of S.the_type a.scalar) → answer_of Wrong ≡ not_of (value_of a)
 unfolding answer_of value_of
 not-other a h = not-other-by a.scalar (beside a) h
 
@@ -126,7 +126,7 @@ pub negate-double : (a : Operand) {p : Float} → a.scalar ≡ Double p → T (f
 unfolding answer_of negate_of
 negate-double a {p} e f = rw (value-is a e, double-back p f) refl
 
-negate-other-by : (x : Scalar) (t : List ℕ) → OneOf (0 ∷ 4 ∷ 5 ∷ 6 ∷ []) (tag_of S.the-type x) → wrong ≡ negate_of (value_beside x t)
+negate-other-by : (x : Scalar) (t : List ℕ) → OneOf (0 ∷ 4 ∷ 5 ∷ 6 ∷ []) (tag_of S.the_type x) → wrong ≡ negate_of (value_beside x t)
 unfolding negate_of
 negate-other-by (Bool b) t h = refl
 negate-other-by (Int z) t h = absurd (miss (0 ∷ 4 ∷ 5 ∷ 6 ∷ []) 1 tt h)
@@ -136,7 +136,7 @@ negate-other-by String t h = refl
 negate-other-by Raw t h = refl
 negate-other-by Void t h = refl
 
-pub negate-other : (a : Operand) → OneOf (0 ∷ 4 ∷ 5 ∷ 6 ∷ []) (tag_of S.the-type a.scalar) → answer_of Wrong ≡ negate_of (value_of a)
+pub negate-other : (a : Operand) → OneOf (0 ∷ 4 ∷ 5 ∷ 6 ∷ []) (tag_of S.the_type a.scalar) → answer_of Wrong ≡ negate_of (value_of a)
 unfolding answer_of value_of
 negate-other a h = negate-other-by a.scalar (beside a) h
 
@@ -183,7 +183,7 @@ module _ (o : Numeric) (a b : Operand) where
 abbrev NoNumbers : List ℕ
 NoNumbers = 0 ∷ 4 ∷ 5 ∷ 6 ∷ 7 ∷ []
 
-no-numbers-by : (o : Numeric) (x y : Scalar) (s t : List ℕ) (m : Pair) → AsPair x y m → OneOf NoNumbers (tag_of P.the-type m) → wrong ≡ numeric_of o (value_beside x s) (value_beside y t)
+no-numbers-by : (o : Numeric) (x y : Scalar) (s t : List ℕ) (m : Pair) → AsPair x y m → OneOf NoNumbers (tag_of P.the_type m) → wrong ≡ numeric_of o (value_beside x s) (value_beside y t)
 no-numbers-by o x y s t (Bools p q) h k = rw (h.0, h.1) refl
 no-numbers-by o x y s t (Ints p q) h k = absurd (miss NoNumbers 1 tt k)
 no-numbers-by o x y s t (Doubles p q) h k = absurd (miss NoNumbers 2 tt k)
@@ -228,19 +228,19 @@ module _ (a b : Operand) where
   less-doubles p q v f g k = rw k (on-doubles comparing a b v f g)
 
 module _ (a b : Operand) (m : Pair) (h : AsPair a.scalar b.scalar m) where
-  no-numbers : (o : Numeric) → OneOf NoNumbers (tag_of P.the-type m) → wrong ≡ numeric_of o (value_of a) (value_of b)
+  no-numbers : (o : Numeric) → OneOf NoNumbers (tag_of P.the_type m) → wrong ≡ numeric_of o (value_of a) (value_of b)
   unfolding value_of
   no-numbers o k = no-numbers-by o a.scalar b.scalar (beside a) (beside b) m h k
 
-  pub add-other : OneOf NoNumbers (tag_of P.the-type m) → answer_of Wrong ≡ add_of (value_of a) (value_of b)
+  pub add-other : OneOf NoNumbers (tag_of P.the_type m) → answer_of Wrong ≡ add_of (value_of a) (value_of b)
   unfolding answer_of add_of
   add-other k = no-numbers adding k
 
-  pub subtract-other : OneOf NoNumbers (tag_of P.the-type m) → answer_of Wrong ≡ subtract_of (value_of a) (value_of b)
+  pub subtract-other : OneOf NoNumbers (tag_of P.the_type m) → answer_of Wrong ≡ subtract_of (value_of a) (value_of b)
   unfolding answer_of subtract_of
   subtract-other k = no-numbers subtracting k
 
-  pub less_other : OneOf NoNumbers (tag_of P.the-type m) → answer_of Wrong ≡ less_of (value_of a) (value_of b)
+  pub less_other : OneOf NoNumbers (tag_of P.the_type m) → answer_of Wrong ≡ less_of (value_of a) (value_of b)
   unfolding answer_of less_of
   less_other k = no-numbers comparing k
 
@@ -256,7 +256,7 @@ and-bits false false = refl
 abbrev NoBools : List ℕ
 NoBools = 1 ∷ 2 ∷ 3 ∷ 4 ∷ 5 ∷ 6 ∷ 7 ∷ []
 
-no-bools-by : (x y : Scalar) (s t : List ℕ) (m : Pair) → AsPair x y m → OneOf NoBools (tag_of P.the-type m) → wrong ≡ alike and_by (value_beside x s) (value_beside y t)
+no-bools-by : (x y : Scalar) (s t : List ℕ) (m : Pair) → AsPair x y m → OneOf NoBools (tag_of P.the_type m) → wrong ≡ alike and_by (value_beside x s) (value_beside y t)
 no-bools-by x y s t (Bools p q) h k = absurd (miss NoBools 0 tt k)
 no-bools-by x y s t (Ints p q) h k = rw (h.0, h.1) refl
 no-bools-by x y s t (Doubles p q) h k = rw (h.0, h.1) refl
@@ -271,7 +271,7 @@ no-bools-by x y s t Unlike h k = unlike and_by x y s t h
 abbrev NoEquals : List ℕ
 NoEquals = 6 ∷ 7 ∷ []
 
-no-equals-by : (x y : Scalar) (s t : List ℕ) (m : Pair) → AsPair x y m → OneOf NoEquals (tag_of P.the-type m) → wrong ≡ alike equal_by (value_beside x s) (value_beside y t)
+no-equals-by : (x y : Scalar) (s t : List ℕ) (m : Pair) → AsPair x y m → OneOf NoEquals (tag_of P.the_type m) → wrong ≡ alike equal_by (value_beside x s) (value_beside y t)
 no-equals-by x y s t (Bools p q) h k = absurd (miss NoEquals 0 tt k)
 no-equals-by x y s t (Ints p q) h k = absurd (miss NoEquals 1 tt k)
 no-equals-by x y s t (Doubles p q) h k = absurd (miss NoEquals 2 tt k)
@@ -292,7 +292,7 @@ module _ (a b : Operand) (m : Pair) (h : AsPair a.scalar b.scalar m) where
   unfolding answer_of and_of
   and-bools {p} {q} e k = let v = bools a b m h e in rw (k, v.0, v.1) (ap gives (and-bits p q))
 
-  pub and-other : OneOf NoBools (tag_of P.the-type m) → answer_of Wrong ≡ and_of (value_of a) (value_of b)
+  pub and-other : OneOf NoBools (tag_of P.the_type m) → answer_of Wrong ≡ and_of (value_of a) (value_of b)
   unfolding answer_of and_of value_of
   and-other k = no-bools-by a.scalar b.scalar (beside a) (beside b) m h k
 
@@ -312,6 +312,6 @@ module _ (a b : Operand) (m : Pair) (h : AsPair a.scalar b.scalar m) where
   unfolding answer_of equal_of
   equal-raws e k = let v = raws a b m h e in rw (k, v.0, v.1) refl
 
-  pub equal-other : OneOf NoEquals (tag_of P.the-type m) → answer_of Wrong ≡ equal_of (value_of a) (value_of b)
+  pub equal-other : OneOf NoEquals (tag_of P.the_type m) → answer_of Wrong ≡ equal_of (value_of a) (value_of b)
   unfolding answer_of equal_of value_of
   equal-other k = no-equals-by a.scalar b.scalar (beside a) (beside b) m h k

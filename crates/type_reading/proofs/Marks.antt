@@ -40,7 +40,7 @@ module _ (s : List ℕ) (at : ℕ) where
         ∙ rw (kind-of-mark k t.3 t.4, kind-of-mark kind h l) (ne_eqb k kind n)
 
   -- What is no mark.
-  pub no-mark : (kind : ℕ) → 0 < kind → kind < 8 → (r : Item) → ItemTold s at r → OneOf (0 ∷ 2 ∷ 3 ∷ []) (tag_of items.the-type r)
+  pub no-mark : (kind : ℕ) → 0 < kind → kind < 8 → (r : Item) → ItemTold s at r → OneOf (0 ∷ 2 ∷ 3 ∷ []) (tag_of items.the_type r)
       → next_is (mark_token kind) (items_at s at) ≡ false
   no-mark kind h l (Word p q) t o = ap (next_is (mark_token kind)) t.3 ∙ rw (kind-of-mark kind h l) (ne_eqb 0 kind (λ e. omega arith))
   no-mark kind h l (Mark k p q) t o = absurd (miss (0 ∷ 2 ∷ 3 ∷ []) 1 tt o)
@@ -65,7 +65,7 @@ module _ (s : List ℕ) (at : ℕ) where
   fault-no-word p q t = ap next_word t.3
 
   -- What is no word.
-  pub no_word : (r : Item) → ItemTold s at r → OneOf (1 ∷ 2 ∷ 3 ∷ []) (tag_of items.the-type r) → next_word (items_at s at) ≡ []
+  pub no_word : (r : Item) → ItemTold s at r → OneOf (1 ∷ 2 ∷ 3 ∷ []) (tag_of items.the_type r) → next_word (items_at s at) ≡ []
   no_word (Word p q) t o = absurd (miss (1 ∷ 2 ∷ 3 ∷ []) 0 tt o)
   no_word (Mark k p q) t o = mark-no-word k p q t
   no_word (Fault p q) t o = fault-no-word p q t

@@ -55,7 +55,7 @@ kind-no-word question h = refl
 kind-no-word zero_to_one h = refl
 kind-no-word one_to_one h = refl
 
-pub wordless-item : (s : List ℕ) (at : ℕ) (r : WordItem) → ItemTold s at r → OneOf (1 ∷ 2 ∷ 3 ∷ []) (tag_of items.the-type r) → next_word (items_at s at) ≡ []
+pub wordless-item : (s : List ℕ) (at : ℕ) (r : WordItem) → ItemTold s at r → OneOf (1 ∷ 2 ∷ 3 ∷ []) (tag_of items.the_type r) → next_word (items_at s at) ≡ []
 wordless-item s at (Word p q) t o = absurd (miss (1 ∷ 2 ∷ 3 ∷ []) 0 tt o)
 wordless-item s at (MarkItem k p q) t o =
     let e = kind-of-mark k t.3 t.4 in ap next_word t.5 ∙ kind-no-word (mark_token k) (λ z. omega (arith, e, z, t.3))

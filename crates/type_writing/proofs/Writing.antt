@@ -109,7 +109,7 @@ part-whole m n k h e = simp length-take (omega arith)
 
 -- No declaration begins.
 pub rest-other : (s : List ℕ) (at : ℕ) (table : List ℕ) (n total : ℕ) (names : List ℕ) (m : ℕ) (images out : List ℕ) (row : ℕ) (r : Start)
-    → StartTold s at table n r → OneOf (0 ∷ 2 ∷ []) (tag_of starts.the-type r) → n < total → RestWritten s at table n total names m images out out row
+    → StartTold s at table n r → OneOf (0 ∷ 2 ∷ []) (tag_of starts.the_type r) → n < total → RestWritten s at table n total names m images out out row
 rest-other s at table n total names m images out row Finished t o h = rest_over s at table n total names m images out row h t
 rest-other s at table n total names m images out row (TreeAt p a) t o h = absurd (miss (0 ∷ 2 ∷ []) 1 tt o)
 rest-other s at table n total names m images out row (BadStart p) t o h = rest-wrong s at table n total names m images out row p t
