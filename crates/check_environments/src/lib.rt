@@ -13,28 +13,28 @@ ghost use Rattle.check_environments.specs.Tells.{Places, Assigns, Asks, IsIn, Re
 use refusal::{Refusal, Verdict};
 
 // An environment: the bytes of its tree and how many they are; zeros after them.
-#[derive(Drop)]
+#[derive(Clone, Copy)]
 pub struct Environment {
     pub bytes: [u8; 512],
     pub len: usize,
 }
 
 // What a step of the checker answers: the environment, or the refusal (with the empty environment).
-#[derive(Drop)]
+#[derive(Clone, Copy)]
 pub struct Step {
     pub environment: Environment,
     pub verdict: Verdict,
 }
 
 // Where a path stands firm, with its basic type; or that it does not.
-#[derive(Drop)]
+#[derive(Clone, Copy)]
 pub enum Reading {
     Firm(usize, u8),
     NotFirm,
 }
 
 // Where a path leads: to a type at a place, below mandatory edges; to nothing, its longest part standing firm; or through an optional edge.
-#[derive(Drop)]
+#[derive(Clone, Copy)]
 pub enum Reach {
     Here(usize),
     Gap,
@@ -43,7 +43,7 @@ pub enum Reach {
 
 // A node as it is listed: whether there is one, the ids of its path (zeros after them) and how many they are, whether it is mandatory, its
 // basic type.
-#[derive(Drop)]
+#[derive(Clone, Copy)]
 pub struct Entry {
     pub there: bool,
     pub ids: [u16; 6],

@@ -10,7 +10,7 @@ use refusal::Refusal;
 
 // The type of an expression: a basic type alone; the tree at a place of the environment, with its basic type; or a refusal, placed at the B
 // row whose expression it is.
-#[derive(Drop)]
+#[derive(Clone, Copy)]
 pub enum Typing {
     Leaf(u8),
     At(usize, u8),

@@ -115,7 +115,7 @@ fn answer_count(x: Answer) -> usize
 }
 
 // What is told of a file: 0, the number of its refusal, or 1 for too small a buffer; and how many nodes its environments have.
-#[derive(Drop)]
+#[derive(Clone, Copy)]
 pub struct Listing {
     pub number: u8,
     pub count: usize,

@@ -10,14 +10,14 @@ use check_environments::{Environment, Step};
 use refusal::{Refusal, Verdict};
 
 // The environments of a service's starter and client; that of one that is not there is empty.
-#[derive(Drop)]
+#[derive(Clone, Copy)]
 pub struct Pair {
     pub starter: Environment,
     pub client: Environment,
 }
 
 // What one service answers.
-#[derive(Drop)]
+#[derive(Clone, Copy)]
 pub struct One {
     pub verdict: Verdict,
     pub pair: Pair,
@@ -25,7 +25,7 @@ pub struct One {
 
 // What the checker answers: the verdict, and the environments of the services by row; those of a refused file and of services that are
 // not there are empty.
-#[derive(Drop)]
+#[derive(Clone, Copy)]
 pub struct Answer {
     pub verdict: Verdict,
     pub first: Pair,

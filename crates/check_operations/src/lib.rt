@@ -11,7 +11,7 @@ ghost use Rattle.check_operations.specs.Meeting.{operation_met};
 use network_layout::both;
 
 // The O row of the input met, or none.
-#[derive(Drop)]
+#[derive(Clone, Copy)]
 pub enum Met {
     Input(u16),
     Nothing,

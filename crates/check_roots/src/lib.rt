@@ -9,7 +9,7 @@ use network_row_parts::Subs;
 use network_rows::{BehaviourRow, ExpressionRow};
 
 // The path or the operands of an E row.
-#[derive(Drop)]
+#[derive(Clone, Copy)]
 pub enum Operands {
     Nothing,
     Path(u16),
@@ -18,7 +18,7 @@ pub enum Operands {
 }
 
 // The paths and the expression that a B row names itself.
-#[derive(Drop)]
+#[derive(Clone, Copy)]
 pub enum Own {
     Nothing,
     Path(u16),

@@ -10,7 +10,7 @@ use network_rows::BehaviourRow;
 use refusal::{Refusal, Verdict};
 
 // What the branches give, one after the other; or that it is not sure.
-#[derive(Drop)]
+#[derive(Clone, Copy)]
 pub struct Gathered {
     pub sure: bool,
     pub step: Step,

@@ -6,7 +6,7 @@ ghost use Rattle.check_types.specs.TypeRows.{line_of};
 ghost use Rattle.check_types.specs.Tells.{accepts, RowsUnder, TreesUnder, RowUnder, TreeUnder, FitsRow, BasicUnder, RowsOrder, RowsWritten, TypeWritten};
 
 // A node of a type: its id, whether it is mandatory, its basic type, its child count and where its children start; or a fault.
-#[derive(Drop)]
+#[derive(Clone, Copy)]
 pub enum TypeHead {
     Node(u16, bool, u8, u8, usize),
     Fault,
@@ -14,7 +14,7 @@ pub enum TypeHead {
 
 // A T row: its id, whether it is mandatory, its basic type, its children's first row and their count, and the next row; or no row whose
 // children are later rows.
-#[derive(Drop)]
+#[derive(Clone, Copy)]
 pub enum Line {
     Of(u16, bool, u8, u16, u16, u16),
     Outside,

@@ -161,6 +161,7 @@ pub data Among (Γ : Types) : List Types → Type 0 where
 
 one_of : (Γ Δ : Types) (Θs : List Types) → OneTypeWith Δ Θs → Among Γ Θs → OneType Δ Γ
 unfolding OneTypeWith
+one_of Γ Δ [] o x'' = elim x'' [ ]
 one_of Γ Δ (Θ ∷ Θs) o (at_first e) = subst (OneType Δ) (sym e) o.0
 one_of Γ Δ (Θ ∷ Θs) o (in_rest n) = one_of Γ Δ Θs o.1 n
 
@@ -172,6 +173,7 @@ either_same (present s) m t f e = ap present (f s refl)
 pub in-union : (Γ : Types) (Γs : List Types) → AllRising Γs → OneTypeEach Γs → Among Γ Γs → (i : ℕ) (t : MessageType) → find i Γ ≡ present t
     → find i (union_of Γs) ≡ present t
 unfolding union_of AllRising OneTypeEach
+in-union Γ [] w h x4 i t e = elim x4 [ ]
 in-union Γ (Δ ∷ Γs) w h (at_first g) i t e =
     find-union Δ (union_of Γs) w.0 i
     ∙ ap (λ (l : Lookup Mark). either l (find i (union_of Γs))) (ap (λ (z : Types). find i z) (sym g) ∙ e)

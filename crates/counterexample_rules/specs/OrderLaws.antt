@@ -9,9 +9,14 @@ use Rattle.scalar.specs.Value.{Value}
 use Rattle.tree.specs.Encode.{encode, rooted}
 use Rattle.counterexample_rules.specs.Order.{LowerBytes, ends, differs, goes_on, Lower, fewer, as_many, is_lower_bytes, is_lower}
 
+-- Bytes of which the first are lower are not the same.
+bytes-differ : {s t : List ℕ} → LowerBytes s t → s ≡ t → ⊥
+bytes-differ ends e = cc
+bytes-differ (differs {x = x} {y = y} h) e = let z : x ≡ y = cc in omega arith
+bytes-differ (goes_on {s = s} {t = t} l) e = let z : s ≡ t = cc in bytes-differ l z
+
 pub bytes-irreflexive : {s : List ℕ} → LowerBytes s s → ⊥
-bytes-irreflexive (differs h) = omega arith
-bytes-irreflexive (goes_on l) = bytes-irreflexive l
+bytes-irreflexive l = bytes-differ l refl
 
 pub bytes-trans : {s t u : List ℕ} → LowerBytes s t → LowerBytes t u → LowerBytes s u
 bytes-trans ends (differs h) = ends

@@ -1,18 +1,20 @@
 // Signed 32-bit and 64-bit numbers, their two's complement patterns, and arithmetic that is exact or leaves the width.
+#![tactic(auto)]
+
 ghost use Rattle.std.specs.Prelude.{◌≡◌, ◌+ℤ◌, ◌-ℤ◌, neg_ℤ};
 ghost use Rattle.std.specs.Int.{w32, w64};
 ghost use Rattle.std.proofs.Common.{to_z, of_z};
 ghost use Rattle.integer.specs.Range.{in_width, int_sum, long_sum};
 
 // The exact result of an operation on ints; or that it is outside.
-#[derive(Drop)]
+#[derive(Clone, Copy)]
 pub enum IntSum {
     Exact(i32),
     Outside,
 }
 
 // The exact result of an operation on longs; or that it is outside.
-#[derive(Drop)]
+#[derive(Clone, Copy)]
 pub enum LongSum {
     Exact(i64),
     Outside,

@@ -18,13 +18,13 @@ use state_trees::Change;
 
 // Where an admitted message goes: into the queue of the live session of the slot; or it starts the session of the free slot, by branch k of
 // the choice c, with input row a, a tree of n bytes and the key x.
-#[derive(Drop)]
+#[derive(Clone, Copy)]
 pub enum Arrival {
     Queued(usize),
     Starts(usize, u16, u8, u16, u16, u32),
 }
 
-#[derive(Drop)]
+#[derive(Clone, Copy)]
 pub enum Admission {
     Refused(Refusal),
     Admitted(Arrival),

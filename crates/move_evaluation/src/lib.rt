@@ -17,7 +17,7 @@ use scalar::{Computed, Operand, Scalar, Truth};
 
 // Where the value of an expression is: a tree at a place of the session's tree, or a value alone. Or a value read is missing, an operand is
 // of the wrong kind, or a result is outside its width.
-#[derive(Drop)]
+#[derive(Clone, Copy)]
 pub enum Source {
     At(usize),
     Alone,
@@ -28,7 +28,7 @@ pub enum Source {
 
 // What evaluation answers: the source, and the root value beside it. Of an outside one only the root's kind counts; where a value is missing
 // or an operand of the wrong kind, the root says nothing.
-#[derive(Drop)]
+#[derive(Clone, Copy)]
 pub struct Evaluated {
     pub source: Source,
     pub root: Operand,
@@ -36,7 +36,7 @@ pub struct Evaluated {
 
 // What a condition says; or a value read is missing, an operand or the condition itself is of the wrong kind, or a result is outside its
 // width.
-#[derive(Drop)]
+#[derive(Clone, Copy)]
 pub enum Decision {
     True,
     False,
@@ -46,7 +46,7 @@ pub enum Decision {
 }
 
 // The length of a tree that was written; or a value read is missing, an operand is of the wrong kind, or a result is outside its width.
-#[derive(Drop)]
+#[derive(Clone, Copy)]
 pub enum Written {
     Tree(usize),
     Missing,

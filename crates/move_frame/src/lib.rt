@@ -4,7 +4,7 @@ ghost use Rattle.move_frame.specs.Made.{RunsAt};
 use move_targets::Runs;
 
 // A live session: where its slot starts and the B row of what it runs; or none.
-#[derive(Drop)]
+#[derive(Clone, Copy)]
 pub enum Running {
     Session(usize, u16),
     Nothing,

@@ -8,14 +8,14 @@ use network_layout::both;
 use tree::{Found, Head};
 
 // The key of a message, an int as a u32; or that it has none.
-#[derive(Drop)]
+#[derive(Clone, Copy)]
 pub enum Key {
     Int(u32),
     Nothing,
 }
 
 // A message goes to its target, and a session that it starts keeps the key, 0 where the service is not keyed; or another target is wanted, 15.
-#[derive(Drop)]
+#[derive(Clone, Copy)]
 pub enum Finding {
     Goes(u32),
     Another,

@@ -13,14 +13,14 @@ use network_rows::BehaviourRow;
 use state_progress::Progress;
 
 // The part of a row that is taken.
-#[derive(Drop)]
+#[derive(Clone, Copy)]
 pub enum Part {
     Nothing,
     Taken(u8),
 }
 
 // Whether a row is done, or the rows that decide it: that one, or both.
-#[derive(Drop)]
+#[derive(Clone, Copy)]
 pub enum Deciders {
     Settled(bool),
     One(u16),
@@ -28,7 +28,7 @@ pub enum Deciders {
 }
 
 // The rows through which a reached row is passed; or the branches of a choice whose inputs are offered, by first row and count.
-#[derive(Drop)]
+#[derive(Clone, Copy)]
 pub enum Ways {
     Nowhere,
     One(u16),
@@ -38,7 +38,7 @@ pub enum Ways {
 
 // How a row is reached: not at all; as itself; or as an input of a choice in which no branch is taken (the choice's row, the branch's
 // number, the input's row).
-#[derive(Drop)]
+#[derive(Clone, Copy)]
 pub enum Reached {
     Unreached,
     Reached(u16),

@@ -18,7 +18,7 @@ use state_queues::OldestEntry;
 use state_trees::Change;
 
 // What an input settles: nothing, or a branch of a choice, by the choice's row and the branch's number.
-#[derive(Drop)]
+#[derive(Clone, Copy)]
 pub enum Settling {
     Nothing,
     Branch(u16, u8),
@@ -26,7 +26,7 @@ pub enum Settling {
 
 // The message that is taken, by its entry in the queue and the length of the session's changed tree; or that there is none, or that the
 // tree would pass its limits.
-#[derive(Drop)]
+#[derive(Clone, Copy)]
 pub enum Taking {
     Nothing,
     TooLarge,

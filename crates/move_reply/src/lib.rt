@@ -17,14 +17,14 @@ use state_progress::Progress;
 use tree::Found;
 
 // The O row and the P row of the reply path of a row whose body is done; or 15.
-#[derive(Drop)]
+#[derive(Clone, Copy)]
 pub enum Replying {
     NotAllowed,
     Row(u16, u16),
 }
 
 // The length of a tree that was written, or that there is none.
-#[derive(Drop)]
+#[derive(Clone, Copy)]
 pub enum Reply {
     Message(usize),
     Missing,

@@ -20,7 +20,7 @@ use state_destinations::{Destination, ReplyTo};
 use state_progress::Progress;
 
 // What a row sends: its operation (O row), its message (E row) and whether it is two-way; or that it sends nothing.
-#[derive(Drop)]
+#[derive(Clone, Copy)]
 pub enum Sending {
     Nothing,
     Row(u16, u16, bool),

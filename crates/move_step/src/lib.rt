@@ -10,7 +10,7 @@ use refusal::{Outcome, Refusal, Verdict};
 
 // "A move names service, session and behaviour row"; a send also its target session, an outer message its operation's id, its target session
 // and its reply number.
-#[derive(Drop)]
+#[derive(Clone, Copy)]
 pub enum Move {
     Local(u16, u16, u16),
     Receive(u16, u16, u16),

@@ -14,21 +14,21 @@ use network_layout::both;
 use network_rows::InputRow;
 
 // The B row that a session runs, or none.
-#[derive(Drop)]
+#[derive(Clone, Copy)]
 pub enum Runs {
     Row(u16),
     Nothing,
 }
 
 // How a session starts: the starter's row, the branch's number and its input's row, or not at all.
-#[derive(Drop)]
+#[derive(Clone, Copy)]
 pub enum Start {
     Branch(u16, u8, u16),
     Nothing,
 }
 
 // How a message gets to a session: 15; 16; queued; or it starts the session, as above.
-#[derive(Drop)]
+#[derive(Clone, Copy)]
 pub enum Target {
     NoTarget,
     QueueFull,

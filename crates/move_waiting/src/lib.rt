@@ -10,14 +10,14 @@ use state_progress::Progress;
 use state_trees::Change;
 
 // The O row and the P row of a row that waits for its reply; or 15.
-#[derive(Drop)]
+#[derive(Clone, Copy)]
 pub enum Waiting {
     NotAllowed,
     Row(u16, u16),
 }
 
 // Who replies: an outsider, or row r of the session in a slot.
-#[derive(Drop)]
+#[derive(Clone, Copy)]
 pub enum Sender {
     Outsider,
     Row(usize, u16),

@@ -13,10 +13,10 @@ use Rattle.network.specs.declared.Broken.{Broken}
 use Rattle.network.specs.declared.Broken.TheVariants.{At, Nowhere}
 use Rattle.network.specs.Least.{least, rule, least_over}
 use Rattle.network.specs.LeastLaws.{AtOrBelow, least-hit, rule-hit, over-hit, least-below, rule-below, over_below}
-use Rattle.network.specs.Layout.{path_count, type_count, expression_count, behaviour_count, operation_count, service_count, behaviour_at, laid_out, counted}
+use Rattle.network.specs.Layout.{path_count, type_count, expression_count, behaviour_count, operation_count, service_count, path_at, expression_at, behaviour_at, laid_out, counted}
 use Rattle.network.specs.Rows.{path_row, type_row, child_rule, child_ids, fields_rule, expression_row, behaviour_head, branch_rule, branch_row_rule, choice_run}
 use Rattle.network.specs.Rows.{behaviour_row, operation_fields, operation_links, repeat_rule, operation_row, location_rule, service_row, path_rows, type_rows}
-use Rattle.network.specs.Rows.{expression_rows, behaviour_rows, operation_rows, service_rows, kind_at, is_choice_kind, first_child, child_count}
+use Rattle.network.specs.Rows.{expression_rows, behaviour_rows, operation_rows, service_rows, expression_kind_at, kind_at, is_choice_kind, first_child, child_count}
 use Rattle.network.specs.Uses.{row_use_rule, service_use_rule, uses_row, uses_rows, broken}
 use Rattle.network.specs.Sizes.{type_large, expression_large, type_sizes, expression_sizes, large}
 use Rattle.network.specs.Form.{after_sizes, after_fields, form_of}
@@ -27,6 +27,7 @@ use Rattle.network.specs.Breaks.{operation_service_row, operation_direction_byte
 use Rattle.network.specs.Breaks.{operation_place, operation_request, operation_reply, operation_repeated, service_location_zero, service_starter}
 use Rattle.network.specs.Breaks.{service_client, service_repeated}
 use Rattle.network.specs.Breaks.{in_path, in_type, in_expression, in_behaviour, in_use, in_operation, in_service}
+use Rattle.network.specs.Breaks.{PathBreaks, TypeBreaks, ExpressionBreaks, BehaviourBreaks, UseBreaks, OperationBreaks, ServiceBreaks}
 use Rattle.network.specs.Breaks.{Breaks, TooLargeAt, large_type, large_expression}
 
 -- A rule before others: the answer is its place or theirs; it is at or below its place, and theirs.
@@ -240,58 +241,79 @@ module _ (s : List ℕ) where
   unfolding choice_run
   branch-low r p c h = rw c h
 
+  path-below : (r p : ℕ) → PathBreaks s (path_at s r) p → AtOrBelow (path_row s r) p
+  unfolding path_row
+  path-below r p (path_first h) = here _ _ _ h
+  path-below r p (path_second h) = past _ _ _ p (here _ _ _ h)
+  path-below r p (path_third h) = past _ _ _ p (past _ _ _ p (here _ _ _ h))
+  path-below r p (path_fourth h) = past _ _ _ p (past _ _ _ p (past _ _ _ p (here _ _ _ h)))
+
+  type-below : (r p : ℕ) → TypeBreaks s r p → AtOrBelow (type_row s r) p
+  unfolding type_row child_ids child_rule
+  type-below r p (type_cardinality h) = here _ _ _ h
+  type-below r p (type_basic_type h) = past _ _ _ p (here _ _ _ h)
+  type-below r p (type_children h) = past _ _ _ p (past _ _ _ p (here _ _ _ h))
+  type-below r p (child_id j k h) = past _ _ _ p (past _ _ _ p (past _ _ _ p (over_below (child_rule s (first_child s r) (child_count s r)) (type_count s) j p k (here _ _ _ h))))
+
+  expression-below : (r p : ℕ) → ExpressionBreaks s r (expression_at s r) (expression_kind_at s r) p → AtOrBelow (expression_row s r) p
+  unfolding expression_row fields_rule
+  expression-below r p (expression_kind_byte h) = here _ _ _ h
+  expression-below r p (expression_basic h) = past _ _ _ p (here _ _ _ h)
+  expression-below r p (expression_a h) = past _ _ _ p (past _ _ _ p (here _ _ _ h))
+  expression-below r p (expression_b h) = past _ _ _ p (past _ _ _ p (past _ _ _ p (here _ _ _ h)))
+  expression-below r p (expression_c h) = past _ _ _ p (past _ _ _ p (past _ _ _ p (past _ _ _ p (here _ _ _ h))))
+
+  behaviour-below : (r p : ℕ) → BehaviourBreaks s r (behaviour_at s r) (kind_at s r) p → AtOrBelow (behaviour_row s r) p
+  unfolding behaviour_row behaviour_head fields_rule choice_run branch_row_rule branch_rule
+  behaviour-below r p (behaviour_kind_byte h) = here _ _ _ h
+  behaviour-below r p (behaviour_unused h) = past _ _ _ p (here _ _ _ h)
+  behaviour-below r p (behaviour_a h) = past _ _ _ p (past _ _ _ p (here _ _ _ h))
+  behaviour-below r p (behaviour_b h) = past _ _ _ p (past _ _ _ p (past _ _ _ p (here _ _ _ h)))
+  behaviour-below r p (behaviour_c h) = past _ _ _ p (past _ _ _ p (past _ _ _ p (past _ _ _ p (here _ _ _ h))))
+  behaviour-below r p (behaviour_d h) = past _ _ _ p (past _ _ _ p (past _ _ _ p (past _ _ _ p (past _ _ _ p (here _ _ _ h)))))
+  behaviour-below r p (choice_branches j k c h) =
+      past _ _ _ p (past _ _ _ p (past _ _ _ p (past _ _ _ p (past _ _ _ p (past _ _ _ p
+      (branch-low r p c (over_below (branch_rule s (behaviour_at s r)) (behaviour_count s) j p k (here _ _ _ h))))))))
+
+  use-below : (r p : ℕ) → UseBreaks s r p → AtOrBelow (uses_row s r) p
+  unfolding uses_row row_use_rule service_use_rule
+  use-below r p (never_used h) = here _ _ _ h
+  use-below r p (used_again_by_row j k h) =
+      past _ _ _ p (least-below (least_over (behaviour_count s) (row_use_rule s r)) (least_over (service_count s) (service_use_rule s r)) p
+      (inl (over_below (row_use_rule s r) (behaviour_count s) j p k (here _ _ _ h))))
+  use-below r p (used_again_by_service j k h) =
+      past _ _ _ p (least-below (least_over (behaviour_count s) (row_use_rule s r)) (least_over (service_count s) (service_use_rule s r)) p
+      (inr (over_below (service_use_rule s r) (service_count s) j p k (here _ _ _ h))))
+
+  operation-below : (r p : ℕ) → OperationBreaks s r p → AtOrBelow (operation_row s r) p
+  unfolding operation_row operation_fields operation_links repeat_rule
+  operation-below r p (operation_service_row h) = here _ _ _ h
+  operation-below r p (operation_direction_byte h) = past _ _ _ p (here _ _ _ h)
+  operation-below r p (operation_two_way_byte h) = past _ _ _ p (past _ _ _ p (here _ _ _ h))
+  operation-below r p (operation_unused h) = past _ _ _ p (past _ _ _ p (past _ _ _ p (here _ _ _ h)))
+  operation-below r p (operation_id_zero h) = past _ _ _ p (past _ _ _ p (past _ _ _ p (past _ _ _ p (here _ _ _ h))))
+  operation-below r p (operation_place h) = past _ _ _ p (past _ _ _ p (past _ _ _ p (past _ _ _ p (past _ _ _ p (here _ _ _ h)))))
+  operation-below r p (operation_request h) = past _ _ _ p (past _ _ _ p (past _ _ _ p (past _ _ _ p (past _ _ _ p (past _ _ _ p (here _ _ _ h))))))
+  operation-below r p (operation_reply h) = past _ _ _ p (past _ _ _ p (past _ _ _ p (past _ _ _ p (past _ _ _ p (past _ _ _ p (past _ _ _ p (here _ _ _ h)))))))
+  operation-below r p (operation_repeated j k h) =
+      past _ _ _ p (past _ _ _ p (past _ _ _ p (past _ _ _ p (past _ _ _ p (past _ _ _ p (past _ _ _ p (past _ _ _ p
+      (over_below (repeat_rule s r) (r) j p k (here _ _ _ h)))))))))
+
+  service-below : (r p : ℕ) → ServiceBreaks s r p → AtOrBelow (service_row s r) p
+  unfolding service_row location_rule
+  service-below r p (service_location_zero h) = here _ _ _ h
+  service-below r p (service_starter h) = past _ _ _ p (here _ _ _ h)
+  service-below r p (service_client h) = past _ _ _ p (past _ _ _ p (here _ _ _ h))
+  service-below r p (service_repeated j k h) = past _ _ _ p (past _ _ _ p (past _ _ _ p (over_below (location_rule s r) (r) j p k (here _ _ _ h))))
+
   broken-below : (p : ℕ) → Breaks s p → AtOrBelow (broken s) p
-  unfolding path_row type_row child_ids child_rule expression_row fields_rule behaviour_row behaviour_head choice_run branch_row_rule branch_rule uses_row row_use_rule
-      service_use_rule operation_row operation_fields operation_links repeat_rule service_row location_rule
-  broken-below p (in_path r l (path_first h)) = in-path r p l (here _ _ _ h)
-  broken-below p (in_path r l (path_second h)) = in-path r p l (past _ _ _ p (here _ _ _ h))
-  broken-below p (in_path r l (path_third h)) = in-path r p l (past _ _ _ p (past _ _ _ p (here _ _ _ h)))
-  broken-below p (in_path r l (path_fourth h)) = in-path r p l (past _ _ _ p (past _ _ _ p (past _ _ _ p (here _ _ _ h))))
-  broken-below p (in_type r l (type_cardinality h)) = in-type r p l (here _ _ _ h)
-  broken-below p (in_type r l (type_basic_type h)) = in-type r p l (past _ _ _ p (here _ _ _ h))
-  broken-below p (in_type r l (type_children h)) = in-type r p l (past _ _ _ p (past _ _ _ p (here _ _ _ h)))
-  broken-below p (in_type r l (child_id j k h)) =
-      in-type r p l (past _ _ _ p (past _ _ _ p (past _ _ _ p (over_below (child_rule s (first_child s r) (child_count s r)) (type_count s) j p k (here _ _ _ h)))))
-  broken-below p (in_expression r l (expression_kind_byte h)) = in-expression r p l (here _ _ _ h)
-  broken-below p (in_expression r l (expression_basic h)) = in-expression r p l (past _ _ _ p (here _ _ _ h))
-  broken-below p (in_expression r l (expression_a h)) = in-expression r p l (past _ _ _ p (past _ _ _ p (here _ _ _ h)))
-  broken-below p (in_expression r l (expression_b h)) = in-expression r p l (past _ _ _ p (past _ _ _ p (past _ _ _ p (here _ _ _ h))))
-  broken-below p (in_expression r l (expression_c h)) = in-expression r p l (past _ _ _ p (past _ _ _ p (past _ _ _ p (past _ _ _ p (here _ _ _ h)))))
-  broken-below p (in_behaviour r l (behaviour_kind_byte h)) = in-behaviour r p l (here _ _ _ h)
-  broken-below p (in_behaviour r l (behaviour_unused h)) = in-behaviour r p l (past _ _ _ p (here _ _ _ h))
-  broken-below p (in_behaviour r l (behaviour_a h)) = in-behaviour r p l (past _ _ _ p (past _ _ _ p (here _ _ _ h)))
-  broken-below p (in_behaviour r l (behaviour_b h)) = in-behaviour r p l (past _ _ _ p (past _ _ _ p (past _ _ _ p (here _ _ _ h))))
-  broken-below p (in_behaviour r l (behaviour_c h)) = in-behaviour r p l (past _ _ _ p (past _ _ _ p (past _ _ _ p (past _ _ _ p (here _ _ _ h)))))
-  broken-below p (in_behaviour r l (behaviour_d h)) = in-behaviour r p l (past _ _ _ p (past _ _ _ p (past _ _ _ p (past _ _ _ p (past _ _ _ p (here _ _ _ h))))))
-  broken-below p (in_behaviour r l (choice_branches j k c h)) =
-      in-behaviour r p l (past _ _ _ p (past _ _ _ p (past _ _ _ p (past _ _ _ p (past _ _ _ p (past _ _ _ p
-      (branch-low r p c (over_below (branch_rule s (behaviour_at s r)) (behaviour_count s) j p k (here _ _ _ h)))))))))
-  broken-below p (in_use r l (never_used h)) = in-use r p l (here _ _ _ h)
-  broken-below p (in_use r l (used_again_by_row j k h)) =
-      in-use r p l (past _ _ _ p (least-below (least_over (behaviour_count s) (row_use_rule s r)) (least_over (service_count s) (service_use_rule s r)) p
-      (inl (over_below (row_use_rule s r) (behaviour_count s) j p k (here _ _ _ h)))))
-  broken-below p (in_use r l (used_again_by_service j k h)) =
-      in-use r p l (past _ _ _ p (least-below (least_over (behaviour_count s) (row_use_rule s r)) (least_over (service_count s) (service_use_rule s r)) p
-      (inr (over_below (service_use_rule s r) (service_count s) j p k (here _ _ _ h)))))
-  broken-below p (in_operation r l (operation_service_row h)) = in-operation r p l (here _ _ _ h)
-  broken-below p (in_operation r l (operation_direction_byte h)) = in-operation r p l (past _ _ _ p (here _ _ _ h))
-  broken-below p (in_operation r l (operation_two_way_byte h)) = in-operation r p l (past _ _ _ p (past _ _ _ p (here _ _ _ h)))
-  broken-below p (in_operation r l (operation_unused h)) = in-operation r p l (past _ _ _ p (past _ _ _ p (past _ _ _ p (here _ _ _ h))))
-  broken-below p (in_operation r l (operation_id_zero h)) = in-operation r p l (past _ _ _ p (past _ _ _ p (past _ _ _ p (past _ _ _ p (here _ _ _ h)))))
-  broken-below p (in_operation r l (operation_place h)) =
-      in-operation r p l (past _ _ _ p (past _ _ _ p (past _ _ _ p (past _ _ _ p (past _ _ _ p (here _ _ _ h))))))
-  broken-below p (in_operation r l (operation_request h)) =
-      in-operation r p l (past _ _ _ p (past _ _ _ p (past _ _ _ p (past _ _ _ p (past _ _ _ p (past _ _ _ p (here _ _ _ h)))))))
-  broken-below p (in_operation r l (operation_reply h)) =
-      in-operation r p l (past _ _ _ p (past _ _ _ p (past _ _ _ p (past _ _ _ p (past _ _ _ p (past _ _ _ p (past _ _ _ p (here _ _ _ h))))))))
-  broken-below p (in_operation r l (operation_repeated j k h)) =
-      in-operation r p l (past _ _ _ p (past _ _ _ p (past _ _ _ p (past _ _ _ p (past _ _ _ p (past _ _ _ p (past _ _ _ p (past _ _ _ p
-      (over_below (repeat_rule s r) (r) j p k (here _ _ _ h))))))))))
-  broken-below p (in_service r l (service_location_zero h)) = in-service r p l (here _ _ _ h)
-  broken-below p (in_service r l (service_starter h)) = in-service r p l (past _ _ _ p (here _ _ _ h))
-  broken-below p (in_service r l (service_client h)) = in-service r p l (past _ _ _ p (past _ _ _ p (here _ _ _ h)))
-  broken-below p (in_service r l (service_repeated j k h)) =
-      in-service r p l (past _ _ _ p (past _ _ _ p (past _ _ _ p (over_below (location_rule s r) (r) j p k (here _ _ _ h)))))
+  broken-below p (in_path r l h) = in-path r p l (path-below r p h)
+  broken-below p (in_type r l h) = in-type r p l (type-below r p h)
+  broken-below p (in_expression r l h) = in-expression r p l (expression-below r p h)
+  broken-below p (in_behaviour r l h) = in-behaviour r p l (behaviour-below r p h)
+  broken-below p (in_use r l h) = in-use r p l (use-below r p h)
+  broken-below p (in_operation r l h) = in-operation r p l (operation-below r p h)
+  broken-below p (in_service r l h) = in-service r p l (service-below r p h)
 
   -- ---- too large
 

@@ -1,14 +1,14 @@
 // The network file: the answers that its readers share. Definitions and laws are in specs/.
 
 // The place of a broken rule, a byte offset in the file, or none.
-#[derive(Drop)]
+#[derive(Clone, Copy)]
 pub enum Broken {
     At(usize),
     Nowhere,
 }
 
 // The kinds of an E row.
-#[derive(Drop)]
+#[derive(Clone, Copy)]
 pub enum ExpressionKind {
     Constant,
     ValueAt,
@@ -24,7 +24,7 @@ pub enum ExpressionKind {
 }
 
 // The kinds of a B row.
-#[derive(Drop)]
+#[derive(Clone, Copy)]
 pub enum BehaviourKind {
     Nil,
     OneWay,
@@ -42,7 +42,7 @@ pub enum BehaviourKind {
 }
 
 // What a field of an E or B row is.
-#[derive(Drop)]
+#[derive(Clone, Copy)]
 pub enum FieldSort {
     Unruled,
     Unused,
@@ -58,7 +58,7 @@ pub enum FieldSort {
 }
 
 // What the fields a, b, c, d of a row are.
-#[derive(Drop)]
+#[derive(Clone, Copy)]
 pub struct Fields {
     pub a: FieldSort,
     pub b: FieldSort,

@@ -11,7 +11,7 @@ use network_layout::{least, rule};
 use refusal::{Refusal, Verdict};
 
 // What is left of the nodes that a written-out type may have.
-#[derive(Drop)]
+#[derive(Clone, Copy)]
 pub enum Spent {
     Left(u8),
     Large,

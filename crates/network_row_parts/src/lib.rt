@@ -5,13 +5,13 @@ ghost use Rattle.network_row_parts.specs.Parts.{unary_part, binary_part, part_as
 use network_layout::both;
 use network_rows::{BehaviourRow, ExpressionRow};
 
-#[derive(Drop)]
+#[derive(Clone, Copy)]
 pub enum UnaryOperator {
     Not,
     Negate,
 }
 
-#[derive(Drop)]
+#[derive(Clone, Copy)]
 pub enum BinaryOperator {
     Add,
     Subtract,
@@ -21,7 +21,7 @@ pub enum BinaryOperator {
 }
 
 // The sub-behaviours of a B row; a choice's first row and count.
-#[derive(Drop)]
+#[derive(Clone, Copy)]
 pub enum Subs {
     Nothing,
     One(u16),
@@ -30,7 +30,7 @@ pub enum Subs {
 }
 
 // An E row by its parts: a constant's basic type, start in D and length, a path, or an operator over earlier rows.
-#[derive(Drop)]
+#[derive(Clone, Copy)]
 pub enum Part {
     Constant(u8, u16, u16),
     ValueAt(u16),

@@ -11,7 +11,7 @@ ghost use Rattle.network_rows.specs.Readers.{input_row_of, output_row_of, Branch
 use network::{BehaviourKind, ExpressionKind};
 
 // An E row by its kind: a constant's basic type, start in D and length; else path and operand rows.
-#[derive(Drop)]
+#[derive(Clone, Copy)]
 pub enum ExpressionRow {
     Constant(u8, u16, u16),
     ValueAt(u16),
@@ -27,7 +27,7 @@ pub enum ExpressionRow {
 }
 
 // A B row by its kind, with its fields in their order: operation, path, expression and B rows; a choice's first row and count.
-#[derive(Drop)]
+#[derive(Clone, Copy)]
 pub enum BehaviourRow {
     Nil,
     OneWay(u16, u16),
@@ -45,7 +45,7 @@ pub enum BehaviourRow {
 }
 
 // A B row that is an input: its O row and the P row it receives into; for a request-response the reply path's P row and the body's B row.
-#[derive(Drop)]
+#[derive(Clone, Copy)]
 pub enum InputRow {
     Nothing,
     OneWay(u16, u16),
@@ -53,7 +53,7 @@ pub enum InputRow {
 }
 
 // A B row that is an output: its O row and the E row of its message; for a solicit-response the P row that the reply goes into.
-#[derive(Drop)]
+#[derive(Clone, Copy)]
 pub enum OutputRow {
     Nothing,
     Notification(u16, u16),
@@ -61,7 +61,7 @@ pub enum OutputRow {
 }
 
 // A branch's row: the B rows of its input and of what follows it.
-#[derive(Drop)]
+#[derive(Clone, Copy)]
 pub struct BranchRow {
     pub input: u16,
     pub follow: u16,

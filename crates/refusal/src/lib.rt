@@ -3,7 +3,7 @@ ghost use Rattle.std.specs.Prelude.{◌≡◌};
 ghost use Rattle.refusal.specs.Refusal.{number_of, place_of, outcome_number, outcome_place, done_with, refused_by};
 
 // The kinds of refusal in the papers' order. A place in a file or text is a byte's, a row is counted from 0 in its section.
-#[derive(Drop)]
+#[derive(Clone, Copy)]
 pub enum Refusal {
     BufferSize,
     FileLayout,
@@ -30,13 +30,13 @@ pub enum Refusal {
     UnfitKey(u16),
 }
 
-#[derive(Drop)]
+#[derive(Clone, Copy)]
 pub enum Verdict {
     Done,
     Refused(Refusal),
 }
 
-#[derive(Drop)]
+#[derive(Clone, Copy)]
 pub struct Outcome {
     pub bytes: usize,
     pub verdict: Verdict,

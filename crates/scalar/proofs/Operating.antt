@@ -27,7 +27,7 @@ use Rattle.scalar.specs.declared.Computed.TheVariants.{Wrong, Outside, Gives}
 use Rattle.scalar.specs.Basic.{int, double, long, string, raw, void}
 use Rattle.scalar.specs.Value.{Value, value, basic_of, integral, basic_type}
 use Rattle.wire.specs.Wire.{unsigned_of}
-use Rattle.scalar.specs.Operator.{Answer, wrong, outside, gives, of_bool, of_int, of_long, of_double, integer_bytes, exactly, bool_of, bit, equal_bytes, alike, Numeric, numeric_by, numeric_of, adding, subtracting, comparing, equal_by, and_by, not_of, negate_of, and_of, add_of, subtract_of, less_of, equal_of}
+use Rattle.scalar.specs.Operator.{Answer, wrong, outside, gives, of_bool, of_int, of_long, of_double, integer_bytes, signed, exactly, bool_of, bit, equal_bytes, alike, Numeric, numeric_by, numeric_of, adding, subtracting, comparing, equal_by, and_by, not_of, negate_of, and_of, add_of, subtract_of, less_of, equal_of}
 use Rattle.scalar.specs.NumberLaws.{exact, double-back}
 use Rattle.scalar.specs.Scalar.{value_beside, beside, value_of, answer_of, int_answer, long_answer, kind_of, AsPair}
 use Rattle.scalar.specs.ScalarLaws.{basic-kind}
@@ -174,7 +174,10 @@ unlike f x y s t e = alike-differ f (value_beside x s) (value_beside y t) (rw (b
 module _ (o : Numeric) (a b : Operand) where
   on_integers : (n : ℕ) (u : Width) → (basic_type n).arithmetic ≡ integral u → {p q : ℤ} → (value_of a ≡ value n (integer_bytes u p)) × (value_of b ≡ value n (integer_bytes u q))
       → SFits u p → SFits u q → o.integers n u p q ≡ numeric_of o (value_of a) (value_of b)
-  on_integers n u k {p} {q} v f g = rw (v.0, v.1, eq-eqb n n refl, k, exact u p f, exact u q g) refl
+  on_integers n u k {p} {q} v f g = rw (v.0, v.1, eq-eqb n n refl, k) exactly-so
+    where
+      exactly-so : o.integers n u p q ≡ o.integers n u (signed u (integer_bytes u p)) (signed u (integer_bytes u q))
+      exactly-so = rw (exact u p f, exact u q g) refl
 
   on-doubles : {p q : Float} → (value_of a ≡ of_double p) × (value_of b ≡ of_double q) → T (fits binary64 p) → T (fits binary64 q)
       → gives (o.doubles double p q) ≡ numeric_of o (value_of a) (value_of b)

@@ -29,7 +29,7 @@ pub const VOID: u8 = 6;
 pub const LAST_BASIC: u8 = VOID;
 
 // A value of a basic type. The bytes of a string or a raw stand beside it.
-#[derive(Drop)]
+#[derive(Clone, Copy)]
 pub enum Scalar {
     Bool(bool),
     Int(i32),
@@ -41,7 +41,7 @@ pub enum Scalar {
 }
 
 // A scalar and the bytes beside it: the first `len`.
-#[derive(Drop)]
+#[derive(Clone, Copy)]
 pub struct Operand {
     pub scalar: Scalar,
     pub bytes: [u8; 16],
@@ -49,7 +49,7 @@ pub struct Operand {
 }
 
 // Two scalars of one kind; or two of different kinds.
-#[derive(Drop)]
+#[derive(Clone, Copy)]
 enum Pair {
     Bools(bool, bool),
     Ints(i32, i32),
@@ -63,7 +63,7 @@ enum Pair {
 
 // What an operator gives: that its operands are of the wrong kind; that its result is outside its width, with a scalar of the result's kind;
 // or a scalar.
-#[derive(Drop)]
+#[derive(Clone, Copy)]
 pub enum Computed {
     Wrong,
     Outside(Scalar),
@@ -71,7 +71,7 @@ pub enum Computed {
 }
 
 // What a value says as a condition; wrong where it is no bool.
-#[derive(Drop)]
+#[derive(Clone, Copy)]
 pub enum Truth {
     True,
     False,
@@ -79,7 +79,7 @@ pub enum Truth {
 }
 
 // The word of a basic type: the first `len` bytes.
-#[derive(Drop)]
+#[derive(Clone, Copy)]
 pub struct Word {
     pub bytes: [u8; 6],
     pub len: usize,

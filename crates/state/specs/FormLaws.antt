@@ -113,11 +113,11 @@ module _ (s : List ℕ) (o : Octets s) where
 holds_rows : {s : List ℕ} {at : ℕ} (p : Progresses) (k n : ℕ) → HoldsAt s at (joined (λ r. progress_bytes (p r)) k n) → rows_form s at n ≡ true
 unfolding rows_form joined
 holds_rows p k zero h = refl
-holds_rows p k (suc n) h =
+holds_rows {s = s} {at = at} p k (suc n) h =
     let rest = joined (λ r. progress_bytes (p r)) (suc k) n in
     let a = holds-first (progress_bytes (p k)) rest h in
     let b = holds-rest (progress_bytes (p k)) rest row_size (progress-size (p k)) h in
-    rw (holds-progress (p k) a, holds_rows p (suc k) n b)
+    rw (holds-progress (p k) a, holds_rows {s = s} {at = at + row_size} p (suc k) n b)
 
 rows-hold : (s : List ℕ) → Octets s → (p : Progresses) (at k n : ℕ) → at + row_size * n ≤ length s
     → ((i : ℕ) → i < n → p (k + i) ≡ read_progress s (at + row_size * i))
@@ -237,7 +237,7 @@ holds-queue {s} {at} (suc n) [] w h =
 holds-queue {s} {at} (suc n) (m ∷ l) w h =
     let a = holds-first (entry_bytes m) (queue_bytes n l) h in
     let b = holds-rest (entry_bytes m) (queue_bytes n l) entry_size (entry-size m (message-size m.message w.0)) h in
-    rw (entry-used m a, holds-entry-form m w.0 a, holds-queue n l w.1 b)
+    rw (entry-used m a, holds-entry-form m w.0 a, holds-queue {s = s} {at = at + entry_size} n l w.1 b)
 
 queue-holds : (s : List ℕ) → Octets s → (at n : ℕ) → at + entry_size * n ≤ length s → queue_form s at n ≡ true → HoldsAt s at (queue_bytes n (read_queue s n at))
 unfolding queue_form queue_bytes read_queue

@@ -53,7 +53,7 @@ zero-holds s at (suc n) i h =
 pub holds-zero : {s : List ℕ} {at : ℕ} (n : ℕ) → HoldsAt s at (zeros n) → all_zero s at n ≡ true
 unfolding all_zero zeros
 holds-zero zero h = refl
-holds-zero {s} {at} (suc n) h = rw (holds-head h, holds-zero n (holds-tail h))
+holds-zero {s} {at} (suc n) h = rw (holds-head h, holds-zero {s = s} {at = at + 1} n (holds-tail h))
 
 -- ---- numbers
 

@@ -152,7 +152,7 @@ module _ (f : ℕ → List ℕ) (w : ℕ) (sized : (i : ℕ) → length (f i) �
   holds-joined {s} {at} k (suc n) (suc i) l h =
       let e : at + w * suc i ≡ at + w + w * i = omega (arith, mul-suc w i) in
       let d : k + suc i ≡ suc k + i = omega arith in
-      rw (e, d) (holds-joined (suc k) n i (omega arith) (holds-rest (f k) (joined f (suc k) n) w (sized k) h))
+      rw (e, d) (holds-joined {s = s} {at = at + w} (suc k) n i (omega arith) (holds-rest (f k) (joined f (suc k) n) w (sized k) h))
 
   -- Another one in place of the i-th.
   pub replace-joined : (g : ℕ → List ℕ) (k n i : ℕ) → i < n → length (g (k + i)) ≡ w → ((j : ℕ) → (j ≡ k + i → ⊥) → g j ≡ f j)

@@ -92,7 +92,7 @@ read-queue {s} {at} (suc n) [] i w h = rw (holds-zeros (omega arith) (holds-firs
 read-queue {s} {at} (suc n) (m ∷ l) i w h =
     let a = holds-first (entry_bytes m) (queue_bytes n l) h in
     let b = holds-rest (entry_bytes m) (queue_bytes n l) entry_size (entry-size m (message-size m.message w.0)) h in
-    rw (entry-used m a, read-entry m w.0 a, read-queue n l (omega arith) w.1 b)
+    rw (entry-used m a, read-entry m w.0 a, read-queue {s = s} {at = at + entry_size} n l (omega arith) w.1 b)
 
 -- The entry of one message, and the first unused entry.
 pub holds-entry : {s : List ℕ} {at : ℕ} (n : ℕ) (a : List Queued) (m : Queued) (b : List Queued) → length a < n → AllMessages a
@@ -103,7 +103,7 @@ holds-entry {s} {at} (suc n) [] m b i w h = rw (add-zero at) (holds-first (entry
 holds-entry {s} {at} (suc n) (c ∷ a) m b i w h =
     let e : at + entry_size * suc (length a) ≡ at + entry_size + entry_size * length a = omega arith in
     let r = holds-rest (entry_bytes c) (queue_bytes n (a ++ (m ∷ b))) entry_size (entry-size c (message-size c.message w.0)) h in
-    rw e (holds-entry n a m b (omega arith) w.1 r)
+    rw e (holds-entry {s = s} {at = at + entry_size} n a m b (omega arith) w.1 r)
 
 pub first-unused : {s : List ℕ} {at : ℕ} (n : ℕ) (l : List Queued) → length l < n → AllMessages l → HoldsAt s at (queue_bytes n l)
     → byte_at s (at + entry_size * length l) ≡ 0
@@ -112,7 +112,7 @@ first-unused zero l i w h = absurd (omega arith)
 first-unused {s} {at} (suc n) [] i w h = rw (add-zero at) (holds-zeros (omega arith) (holds-first (zeros entry_size) (queue_bytes n []) h))
 first-unused {s} {at} (suc n) (m ∷ l) i w h =
     let e : at + entry_size * suc (length l) ≡ at + entry_size + entry_size * length l = omega arith in
-    rw e (first-unused n l (omega arith) w.1 (holds-rest (entry_bytes m) (queue_bytes n l) entry_size (entry-size m (message-size m.message w.0)) h))
+    rw e (first-unused {s = s} {at = at + entry_size} n l (omega arith) w.1 (holds-rest (entry_bytes m) (queue_bytes n l) entry_size (entry-size m (message-size m.message w.0)) h))
 
 -- ---- a slot
 

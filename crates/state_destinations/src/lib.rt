@@ -6,14 +6,14 @@ ghost use Rattle.state.specs.Bytes.{destination_kind, destination_bytes, reply_k
 ghost use Rattle.state_destinations.specs.Meaning.{destination_of, reply_of};
 
 // To an outsider, under its reply number; or to a waiting row, by its service, session and B row.
-#[derive(Drop)]
+#[derive(Clone, Copy)]
 pub enum Destination {
     Outsider(u32),
     WaitingRow(u8, u8, u16),
 }
 
 // Where the reply to a message goes: to nobody if its operation is one-way.
-#[derive(Drop)]
+#[derive(Clone, Copy)]
 pub enum ReplyTo {
     Nobody,
     To(Destination),

@@ -12,7 +12,7 @@ ghost use Rattle.state_progress.specs.Stored.{row_stored};
 use state_destinations::{Destination, ReplyTo};
 
 // Undone, done or waiting; the part that is taken; or received, with where the reply goes.
-#[derive(Drop)]
+#[derive(Clone, Copy)]
 pub enum Progress {
     Undone,
     Done,

@@ -10,14 +10,14 @@ ghost use Rattle.state_queues.specs.Queue.{message_span, Counted, oldest_from, o
 use state_destinations::ReplyTo;
 
 // The index of the oldest message of an operation, if there is one.
-#[derive(Drop)]
+#[derive(Clone, Copy)]
 pub enum OldestEntry {
     Nothing,
     Entry(usize),
 }
 
 // The place and the length of some bytes.
-#[derive(Drop)]
+#[derive(Clone, Copy)]
 pub struct Span {
     pub start: usize,
     pub len: usize,

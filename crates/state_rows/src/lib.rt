@@ -17,7 +17,7 @@ use state_destinations::Destination;
 use state_progress::Progress;
 
 // What progress a row can have besides undone: done, waiting for its reply, received, or one of so many parts taken.
-#[derive(Drop)]
+#[derive(Clone, Copy)]
 pub struct Allowed {
     pub done: bool,
     pub waits: bool,

@@ -7,7 +7,7 @@ ghost use Rattle.state.specs.Places.{slot_size};
 use tree_edit::Grown;
 
 // The changed tree's length in the scratch buffer, or that it passes the limits.
-#[derive(Drop)]
+#[derive(Clone, Copy)]
 pub enum Change {
     Kept(u16),
     TooLarge,

@@ -6,21 +6,21 @@ ghost use Rattle.tree.specs.Ids.{is_path, steps, is_none, Words};
 ghost use Rattle.tree.specs.Standing.{Ended, Sought, Below, Followed, Within};
 
 // What reading siblings finds: the position past them and the nodes still allowed, or a fault.
-#[derive(Drop)]
+#[derive(Clone, Copy)]
 pub enum Scan {
     Past(usize, u8),
     Bad,
 }
 
 // The header of a node: its id, its basic type, its child count and where its children start; or a fault.
-#[derive(Drop)]
+#[derive(Clone, Copy)]
 pub enum Head {
     Node(u16, u8, u8, usize),
     Fault,
 }
 
 // Where a node starts, or that there is none.
-#[derive(Drop)]
+#[derive(Clone, Copy)]
 pub enum Found {
     At(usize),
     Nothing,

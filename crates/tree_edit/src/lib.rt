@@ -12,7 +12,7 @@ ghost use Rattle.tree_edit.specs.Plan.{prefix, spliced, Led, Gap, Hit, Planned};
 
 // Where a path leads in a tree: to a gap among the children of a node, with k steps taken (the parent's place, the gap's place, k); to a
 // node (its place, where its children start, its end); or a fault.
-#[derive(Drop)]
+#[derive(Clone, Copy)]
 pub enum Plan {
     Insert(usize, usize, usize),
     Replace(usize, usize, usize),
@@ -20,7 +20,7 @@ pub enum Plan {
 }
 
 // A changed tree's length, within the limits or past them.
-#[derive(Drop)]
+#[derive(Clone, Copy)]
 pub enum Grown {
     Within(usize),
     Past(usize),

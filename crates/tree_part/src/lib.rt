@@ -5,7 +5,7 @@ ghost use Rattle.tree_part.specs.Span.{span_of};
 ghost use Rattle.tree_part.specs.Located.{Located};
 
 // A part of a message: its first byte's place and its length.
-#[derive(Drop)]
+#[derive(Clone, Copy)]
 pub struct Span {
     pub start: usize,
     pub len: usize,

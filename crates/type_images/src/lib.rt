@@ -4,7 +4,7 @@ ghost use Rattle.tree.specs.Decode.{is_tree};
 ghost use Rattle.type_images.specs.TypeImages.{LeafMade, TypeCopied, BytesPut, ChildPut};
 
 // A type's encoded tree: the first `len` bytes. (At most 16 * 7 = 112 of the 128 are used.)
-#[derive(Drop)]
+#[derive(Clone, Copy)]
 pub struct TypeImage {
     pub bytes: [u8; 128],
     pub len: usize,

@@ -7,7 +7,7 @@ ghost use Rattle.type_text.specs.TypeRows.{type_node, row_bytes};
 ghost use Rattle.type_lines.specs.Emits.{LevelEmitted, TreeEmitted};
 
 // Where the rows end, and the row of the next child.
-#[derive(Drop)]
+#[derive(Clone, Copy)]
 pub struct Emitted {
     pub at: usize,
     pub next: u16,

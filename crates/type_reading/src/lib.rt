@@ -11,7 +11,7 @@ ghost use Rattle.type_reading.specs.Readings.{ChildTold, ColonTold, ColonAfter, 
 use type_words::{BasicWord, Item};
 
 // A child's beginning: none; its `.name`, cardinality and `:`, with the place past them; or an offending byte.
-#[derive(Drop)]
+#[derive(Clone, Copy)]
 pub enum Child {
     NoChild,
     ChildAt(usize),
@@ -20,7 +20,7 @@ pub enum Child {
 
 // What stands after a `:`: a type's name with the place past it and its entry; a basic word without braces, with the place past it and the basic
 // type; one with an opening brace, with the place past that and the basic type; or an offending byte.
-#[derive(Drop)]
+#[derive(Clone, Copy)]
 pub enum Beginning {
     Known(usize, usize),
     Leaf(usize, u8),
@@ -29,21 +29,21 @@ pub enum Beginning {
 }
 
 // A cardinality and a `:` with the place past them and whether the child is mandatory; or an offending byte.
-#[derive(Drop)]
+#[derive(Clone, Copy)]
 pub enum Colon {
     ColonAt(usize, bool),
     NoColon(usize),
 }
 
 // The place past what was read, and how many nodes and levels it has below its root, held at 257 and 5; or an offending byte.
-#[derive(Drop)]
+#[derive(Clone, Copy)]
 pub enum Got {
     Next(usize, u16, u16),
     Offends(usize),
 }
 
 // A declaration's beginning: the text's end; its name's place and the place past its `:`; or an offending byte.
-#[derive(Drop)]
+#[derive(Clone, Copy)]
 pub enum Start {
     Finished,
     TreeAt(usize, usize),
@@ -51,21 +51,21 @@ pub enum Start {
 }
 
 // All declarations read, and how many there are; or an offending byte.
-#[derive(Drop)]
+#[derive(Clone, Copy)]
 pub enum ReadAll {
     All(usize),
     OffendsAt(usize),
 }
 
 // Where a name stands in the table; or that it does not.
-#[derive(Drop)]
+#[derive(Clone, Copy)]
 pub enum Found {
     Entry(usize),
     Missing,
 }
 
 // A mark that is asked for, with the place past it; or that it does not stand there.
-#[derive(Drop)]
+#[derive(Clone, Copy)]
 pub enum Asked {
     Past(usize),
     Elsewhere,

@@ -93,9 +93,12 @@ module _ (b : ℕ) (s z : List ℕ) (d : ℕ) where
 
 -- ---- the bytes before an item
 
+carried-in-by : {i : Item} {o : List Item} {n : List Token} {l : List Item} {k : List Token} → CarriesTo (i ∷ o) n l k → ItemIn i l
+carried-in-by carried_here = item_first
+carried-in-by (carried_more c) = item_later (carried-in-by c)
+
 carried-in : {i : Item} {o l : List Item} {n k : List Token} → CarriesTo (i ∷ o) n l k → ItemIn i l
-carried-in carried_here = item_first
-carried-in (carried_more c) = item_later (carried-in c)
+carried-in c = carried-in-by c
 
 module _ (size p : ℕ) (z : List ℕ) (w : ends_word z ≡ true) {n : List Token} (x : Spelled z n) where
   -- No item after those at a place is before it.

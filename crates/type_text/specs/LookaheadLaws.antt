@@ -58,9 +58,13 @@ bracket-word l bracket_zero = refl
 bracket-word l bracket_one = refl
 bracket-word l (bracket_part h) = refl
 
+same-word-of : (i : Item) (l m : List Item) → next_word (i ∷ l) ≡ next_word (i ∷ m)
+same-word-of (token p k) l m = refl
+same-word-of (fault p q) l m = refl
+
 pub heads-word : Heads next_word
 heads-word p l m alike_end = refl
-heads-word p l m alike_same = refl
+heads-word p l m (alike_same {i = i} {l = l'} {m = m'}) = same-word-of i l' m'
 heads-word p l m (alike_bracket {l = l'} {m = m'} b c) = bracket-word l' b ∙ sym (bracket-word m' c)
 
 bracket-place : {p : ℕ} {i : Item} (size : ℕ) (l : List Item) → Bracket p i → next_place size (i ∷ l) ≡ p
@@ -68,9 +72,13 @@ bracket-place size l bracket_zero = refl
 bracket-place size l bracket_one = refl
 bracket-place size l (bracket_part h) = refl
 
+same-place-of : (size : ℕ) (i : Item) (l m : List Item) → next_place size (i ∷ l) ≡ next_place size (i ∷ m)
+same-place-of size (token p k) l m = refl
+same-place-of size (fault p q) l m = refl
+
 pub heads-place : (size : ℕ) → Heads (next_place size)
 heads-place size p l m alike_end = refl
-heads-place size p l m alike_same = refl
+heads-place size p l m (alike_same {i = i} {l = l'} {m = m'}) = same-place-of size i l' m'
 heads-place size p l m (alike_bracket {l = l'} {m = m'} b c) = bracket-place size l' b ∙ sym (bracket-place size m' c)
 
 pub heads-end : Heads at_end
@@ -84,13 +92,27 @@ module _ (k : Token) (e : eqb 6 (token_kind k) ≡ false) (f : eqb 7 (token_kind
   bracket-is l bracket_one = f
   bracket-is l (bracket_part h) = refl
 
+  same-is-of : (i : Item) (l m : List Item) → next_is k (i ∷ l) ≡ next_is k (i ∷ m)
+  same-is-of (token p j) l m = refl
+  same-is-of (fault p q) l m = refl
+
   -- Is the next item a mark that is no cardinality in brackets?
   pub heads-is : Heads (next_is k)
   heads-is p l m alike_end = refl
-  heads-is p l m alike_same = refl
+  heads-is p l m (alike_same {i = i} {l = l'} {m = m'}) = same-is-of i l' m'
   heads-is p l m (alike_bracket {l = l'} {m = m'} b c) = bracket-is l' b ∙ sym (bracket-is m' c)
 
 -- ---- a cardinality
+
+-- Brackets are an item of one of the last kinds.
+abbrev kind-of : Item → ℕ
+kind-of (token p k) = token_kind k
+kind-of (fault p q) = 6
+
+bracket-kind : {p : ℕ} {i : Item} → Bracket p i → 6 ≤ kind-of i
+bracket-kind bracket_zero = omega arith
+bracket-kind bracket_one = omega arith
+bracket-kind (bracket_part h) = omega arith
 
 bracket-part : {p a b : ℕ} → Bracket p (fault a b) → p < b
 bracket-part (bracket_part h) = h
@@ -200,11 +222,11 @@ module _ (size : ℕ) where
     where
       at-end : (p : ℕ) (r' : List Item) → Alike p [] r' → read_cardinality r' ≡ parsed true r'
       at-end p r' alike_end = refl
-  cardinality-at (token p (word w) ∷ l) = unmarked (token p (word w)) l (λ q b. elim b [ ]) (λ m. refl)
-  cardinality-at (token p colon ∷ l) = unmarked (token p colon) l (λ q b. elim b [ ]) (λ m. refl)
-  cardinality-at (token p opening ∷ l) = unmarked (token p opening) l (λ q b. elim b [ ]) (λ m. refl)
-  cardinality-at (token p closing ∷ l) = unmarked (token p closing) l (λ q b. elim b [ ]) (λ m. refl)
-  cardinality-at (token p dot ∷ l) = unmarked (token p dot) l (λ q b. elim b [ ]) (λ m. refl)
+  cardinality-at (token p (word w) ∷ l) = unmarked (token p (word w)) l (λ q b. let h = bracket-kind b in absurd (omega arith)) (λ m. refl)
+  cardinality-at (token p colon ∷ l) = unmarked (token p colon) l (λ q b. let h = bracket-kind b in absurd (omega arith)) (λ m. refl)
+  cardinality-at (token p opening ∷ l) = unmarked (token p opening) l (λ q b. let h = bracket-kind b in absurd (omega arith)) (λ m. refl)
+  cardinality-at (token p closing ∷ l) = unmarked (token p closing) l (λ q b. let h = bracket-kind b in absurd (omega arith)) (λ m. refl)
+  cardinality-at (token p dot ∷ l) = unmarked (token p dot) l (λ q b. let h = bracket-kind b in absurd (omega arith)) (λ m. refl)
   cardinality-at (token p question ∷ l) = (token p question ∷ [], refl, λ q r' a. refl)
   cardinality-at (token p zero_to_one ∷ l) = (token p zero_to_one ∷ [], refl, λ q r' a. refl)
   cardinality-at (token p one_to_one ∷ l) = (token p one_to_one ∷ [], refl, λ q r' a. refl)

@@ -245,18 +245,27 @@ pub data CarriesTo (r : List Item) (m : List Token) : List Item → List Token �
   carried_here : CarriesTo r m r m
   carried_more : {p : ℕ} {j : Token} {l : List Item} {k : List Token} → CarriesTo r m l k → CarriesTo r m (token p j ∷ l) (j ∷ k)
 
+carried-on-by : {r q : List Item} {m n : List Token} {l : List Item} {k : List Token} → CarriesTo q n l k → CarriesTo r m q n → CarriesTo r m l k
+carried-on-by carried_here d = d
+carried-on-by (carried_more c) d = carried_more (carried-on-by c d)
+
 pub carried_on : {r q l : List Item} {m n k : List Token} → CarriesTo q n l k → CarriesTo r m q n → CarriesTo r m l k
-carried_on carried_here d = d
-carried_on (carried_more c) d = carried_more (carried_on c d)
+carried_on c d = carried-on-by c d
+
+carries-from-by : {r : List Item} {m : List Token} {l : List Item} {k : List Token} → CarriesTo r m l k → Carries r m → Carries l k
+carries-from-by carried_here d = d
+carries-from-by (carried_more c) d = carries_more (carries-from-by c d)
 
 pub carries-from : {r l : List Item} {m k : List Token} → CarriesTo r m l k → Carries r m → Carries l k
-carries-from carried_here d = d
-carries-from (carried_more c) d = carries_more (carries-from c d)
+carries-from c d = carries-from-by c d
+
+carried-rest-by : {r : List Item} {m : List Token} {l : List Item} {n k : List Token} → CarriesTo r m l n → Carries l k → (j : List Token) × Carries r j
+carried-rest-by {k = k} carried_here a = (k, a)
+carried-rest-by (carried_more c) (carries_more a) = carried-rest-by c a
 
 -- What follows carries what is left.
 pub carried-rest : {r l : List Item} {m n k : List Token} → CarriesTo r m l n → Carries l k → (j : List Token) × Carries r j
-carried-rest {k = k} carried_here a = (k, a)
-carried-rest (carried_more c) (carries_more a) = carried-rest c a
+carried-rest c a = carried-rest-by c a
 
 pub carries-unique : {l : List Item} {k m : List Token} → Carries l k → Carries l m → k ≡ m
 carries-unique carries_none carries_none = refl

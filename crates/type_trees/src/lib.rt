@@ -13,7 +13,7 @@ use type_reading::{Asked, Beginning, Colon};
 use type_words::Item;
 
 // A type that was made, and the place past what it was made of.
-#[derive(Drop)]
+#[derive(Clone, Copy)]
 pub struct Built {
     pub at: usize,
     pub image: TypeImage,

@@ -9,7 +9,7 @@ ghost use Rattle.type_words.specs.Told.{mark_token, run_of, mark_item, ItemTold,
 
 // What stands next in a text: a word or a mark with its first byte's place and the place past it; bytes that begin neither, with their place
 // and that of the byte that departs; or the end.
-#[derive(Drop)]
+#[derive(Clone, Copy)]
 pub enum Item {
     Word(usize, usize),
     Mark(u8, usize, usize),
@@ -18,7 +18,7 @@ pub enum Item {
 }
 
 // The basic type that a word names; or that it names none.
-#[derive(Drop)]
+#[derive(Clone, Copy)]
 pub enum BasicWord {
     Of(u8),
     Other,

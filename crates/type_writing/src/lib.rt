@@ -10,7 +10,7 @@ use type_images::TypeImage;
 use type_reading::{ReadAll, Start};
 
 // The first row of a type that is too large; or that none is.
-#[derive(Drop)]
+#[derive(Clone, Copy)]
 pub enum Large {
     Row(usize),
     Fits,

@@ -51,6 +51,7 @@ rises n f fs e =
     record { from = leb-true _ _ l.0; room = leb-true _ _ l.1; next = k.1 }
 
 past : (n : ℕ) (fs : List Form) {f : Form} → rising n fs ≡ true → In f fs → n ≤ low f.first
+past n [] {f = f} e x'' = elim x'' [ ]
 past n (g ∷ fs) e here = (rises n g fs e).from
 past n (g ∷ fs) {f} e (later i) =
     let k = rises n g fs e in
@@ -60,6 +61,7 @@ past n (g ∷ fs) {f} e (later i) =
 -- What is told of an octet by a form that it begins.
 form-at : (n : ℕ) (fs : List Form) {f : Form} (a : ℕ) → rising n fs ≡ true → In f fs → in_range f.first a ≡ true →
     (begins fs a ≡ true) × (others_after fs a ≡ f.others)
+form-at n [] {f = f} a e x3 w = elim x3 [ ]
 form-at n (g ∷ fs) a e here w = (rw w refl, rw w refl)
 form-at n (g ∷ fs) {f} a e (later i) w =
     let k = rises n g fs e in

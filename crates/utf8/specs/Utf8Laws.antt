@@ -168,6 +168,7 @@ decoded (later (later (later (later (later (later here)))))) a bs w e =
     triple (range 0x90 0xBF) bs e (λ b c d p q r. four-decoded a b c d (omega arith) (omega arith) q r (omega arith) (omega arith))
 decoded (later (later (later (later (later (later (later here))))))) a bs w e =
     triple tail bs e (λ b c d p q r. four-decoded a b c d (omega arith) p q r (omega arith) (omega arith))
+decoded {f = f} (later (later (later (later (later (later (later (later (later x38))))))))) a bs w e = elim x38 [ ]
 decoded (later (later (later (later (later (later (later (later here)))))))) a bs w e =
     triple (range 0x80 0x8F) bs e (λ b c d p q r. four-decoded a b c d (omega arith) (omega arith) q r (omega arith) (omega arith))
 

@@ -1,4 +1,6 @@
 // Little-endian numbers in a slice of bytes. Readers are total: a byte past the end counts as 0.
+#![tactic(auto)]
+
 ghost use Rattle.std.specs.Prelude.{◌≡◌, [], ◌∷◌, ◌+◌, ◌≤◌, ◌<◌, length};
 ghost use Rattle.wire.specs.Wire.{byte_at, u16_at, u32_at, u64_at, put_u16, put_u32, put_u64, with_part};
 
