@@ -1,5 +1,6 @@
 // The checker, fresh state, the moves, the message reader, the reader of type declarations and the message that breaks it for C: numbers and
 // slices only. A slice is passed as a pointer and a length; include/pokhveti.h has the declarations.
+#![tactic(auto)]
 ghost use Rattle.std.specs.Prelude.{◌≡◌, [], ◌∷◌};
 ghost use Rattle.check_files.specs.FileChecker.{check_file};
 ghost use Rattle.check_listing.specs.Listed.{listed_number, listed_count, listed_bytes};
@@ -15,8 +16,7 @@ ghost use Rattle.host.specs.Reports.{Says, RunsCall, TellsText, TellsBreaking};
 use controller::{Move, Outcome};
 
 // Checks a network file: 0 for an accepted one, otherwise the refusal's number; the place is written to `place`.
-#[unsafe(no_mangle)]
-pub extern "C" fn pokhveti_check(file: &[u8], place: &mut usize) -> u32
+pub fn pokhveti_check(file: &[u8], place: &mut usize) -> u32
     ensures value { result ≡ refusal_number (check_file file.now) }
     ensures place_after { place.new ≡ refusal_place (check_file file.now) }
 {
@@ -32,8 +32,7 @@ pub extern "C" fn pokhveti_check(file: &[u8], place: &mut usize) -> u32
 
 // Writes a record of 18 bytes for each node of an accepted file's environments: 0, the refusal's number, or 1, with nothing written, where
 // there is no room for all of them; how many nodes there are is written to `count`.
-#[unsafe(no_mangle)]
-pub extern "C" fn pokhveti_environments(file: &[u8], nodes: &mut [u8], count: &mut usize) -> u32
+pub fn pokhveti_environments(file: &[u8], nodes: &mut [u8], count: &mut usize) -> u32
     ensures value { result ≡ listed_number (check_file file.now) nodes.old }
     ensures count_after { count.new ≡ listed_count (check_file file.now) }
     ensures nodes_after { nodes.new ≡ listed_bytes (check_file file.now) nodes.old }
@@ -44,8 +43,7 @@ pub extern "C" fn pokhveti_environments(file: &[u8], nodes: &mut [u8], count: &m
 }
 
 // Reads a part of a message: its length, 0 for the empty part; where it starts is written to `start`.
-#[unsafe(no_mangle)]
-pub extern "C" fn pokhveti_part(
+pub fn pokhveti_part(
     message: &[u8],
     first: u16,
     second: u16,
@@ -62,8 +60,7 @@ pub extern "C" fn pokhveti_part(
 }
 
 // Writes the fresh state of an accepted file: 0, or the refusal's number; the place is written to `place`.
-#[unsafe(no_mangle)]
-pub extern "C" fn pokhveti_fresh(file: &[u8], state: &mut [u8], place: &mut usize) -> u32
+pub fn pokhveti_fresh(file: &[u8], state: &mut [u8], place: &mut usize) -> u32
     ensures says { Says (fresh file.now state.old).outcome result place.new }
     ensures state_after { state.new ≡ (fresh file.now state.old).state }
 {
@@ -83,8 +80,7 @@ fn report(answer: Outcome, bytes: &mut usize, place: &mut usize) -> u32
 }
 
 // A ready assign, if or while. Of every move the result is 0 or the number of the refusal.
-#[unsafe(no_mangle)]
-pub extern "C" fn pokhveti_local(
+pub fn pokhveti_local(
     file: &[u8],
     state: &mut [u8],
     out: &mut [u8],
@@ -101,8 +97,7 @@ pub extern "C" fn pokhveti_local(
 }
 
 // A ready input takes the oldest message of its operation.
-#[unsafe(no_mangle)]
-pub extern "C" fn pokhveti_receive(
+pub fn pokhveti_receive(
     file: &[u8],
     state: &mut [u8],
     out: &mut [u8],
@@ -119,8 +114,7 @@ pub extern "C" fn pokhveti_receive(
 }
 
 // A ready output sends its message to the target session, or out.
-#[unsafe(no_mangle)]
-pub extern "C" fn pokhveti_send(
+pub fn pokhveti_send(
     file: &[u8],
     state: &mut [u8],
     out: &mut [u8],
@@ -138,8 +132,7 @@ pub extern "C" fn pokhveti_send(
 }
 
 // A request-response whose body is done answers.
-#[unsafe(no_mangle)]
-pub extern "C" fn pokhveti_reply(
+pub fn pokhveti_reply(
     file: &[u8],
     state: &mut [u8],
     out: &mut [u8],
@@ -156,8 +149,7 @@ pub extern "C" fn pokhveti_reply(
 }
 
 // A message from outside to the operation of that id.
-#[unsafe(no_mangle)]
-pub extern "C" fn pokhveti_outer_message(
+pub fn pokhveti_outer_message(
     file: &[u8],
     state: &mut [u8],
     out: &mut [u8],
@@ -176,8 +168,7 @@ pub extern "C" fn pokhveti_outer_message(
 }
 
 // A reply from outside to a waiting row.
-#[unsafe(no_mangle)]
-pub extern "C" fn pokhveti_outer_reply(
+pub fn pokhveti_outer_reply(
     file: &[u8],
     state: &mut [u8],
     out: &mut [u8],
@@ -195,8 +186,7 @@ pub extern "C" fn pokhveti_outer_reply(
 }
 
 // A done session becomes free.
-#[unsafe(no_mangle)]
-pub extern "C" fn pokhveti_close(
+pub fn pokhveti_close(
     file: &[u8],
     state: &mut [u8],
     out: &mut [u8],
@@ -212,8 +202,7 @@ pub extern "C" fn pokhveti_close(
 }
 
 // Reads a text of type declarations and writes its T rows: 0, or the number of the refusal.
-#[unsafe(no_mangle)]
-pub extern "C" fn pokhveti_types(
+pub fn pokhveti_types(
     text: &[u8],
     rows: &mut [u8],
     bytes: &mut usize,
@@ -225,8 +214,7 @@ pub extern "C" fn pokhveti_types(
 }
 
 // Writes the message that fits the first of two type rows and not the second: 0, or the number of the refusal.
-#[unsafe(no_mangle)]
-pub extern "C" fn pokhveti_counterexample(
+pub fn pokhveti_counterexample(
     file: &[u8],
     out: &mut [u8],
     first: u16,
