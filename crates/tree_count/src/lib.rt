@@ -1,4 +1,6 @@
 // How many nodes and levels the tree at the start of the bytes has below its root.
+#![tactic(auto)]
+
 ghost use Rattle.tree_count.specs.Counted.{NodesBelow, LevelsBelow};
 
 // The number of nodes below the root of the tree at the start of the bytes; 0 where none stands there.
