@@ -1,11 +1,11 @@
 -- Laws of refusal 6.
 use Prim.Native.Nat.{ℕ}
-use mathlib.Core.Path.{◌≡◌, refl, sym, ◌∙◌, ap}
+use mathlib.Core.Path.{◌≡◌, refl}
 use mathlib.Core.List.{List}
-use mathlib.Core.Bool.{Bool, true, false, not, ◌&&◌}
+use mathlib.Core.Bool.{Bool, true, false, ◌&&◌}
 use lib.Dec.{eqb}
 use Rattle.basics.specs.Choice.{pick}
-use Rattle.network_syntax.specs.Syntax.{Direction, input, output}
+use Rattle.network_syntax.specs.Syntax.{input, output}
 use Rattle.network.specs.Rows.{operation_service, operation_direction, operation_two_way}
 use Rattle.network.specs.Decode.{operation_of}
 use Rattle.check_typing.specs.Rules.{same_bool, same_direction, permits}

@@ -1,5 +1,7 @@
 // Operations, given by their O rows. Refusal 6: "The operation has another service, direction or kind". 01, Typing: "An output to a location
 // in the file meets an input there of the same id and kind". Exact on any bytes.
+#![tactic(auto)]
+
 ghost use Rattle.std.specs.Prelude.{◌≡◌, ◌+◌, ◌≤◌};
 ghost use Rattle.network.specs.Decode.{operation_of, service_of, rows_from, network_of};
 ghost use Rattle.network_syntax.specs.Meets.{location_of, some_at, in_file, meets, first_of, met_input};
