@@ -1,5 +1,7 @@
 // The form of a state's bytes (docs/STATE.md), which is part of refusal 14: what is used stands in its place, and every other byte is 0.
 // These tests look at the bytes alone, on any bytes; a byte past the end counts as 0.
+#![tactic(auto)]
+
 ghost use Rattle.std.specs.Prelude.{◌≡◌, ◌+◌, ◌*◌, ◌≤◌, min, length};
 ghost use Rattle.wire.specs.Wire.{u32_at, part};
 ghost use Rattle.state.specs.Places.{slot_size, head_size, entry_size, row_size, queue_place};
