@@ -1,5 +1,7 @@
 // Where a reply goes, in a state's bytes: its kind and four bytes (docs/STATE.md), read and written. Reading is total: it gives what the
 // bytes say, whatever they are.
+#![tactic(auto)]
+
 ghost use Rattle.std.specs.Prelude.{◌≡◌, ◌+◌, ◌≤◌, ◌<◌, length};
 ghost use Rattle.wire.specs.Wire.{with_part};
 ghost use Rattle.state.specs.Bytes.{destination_kind, destination_bytes, reply_kind, reply_bytes, read_destination, read_reply};
