@@ -20,7 +20,7 @@ use Rattle.check_typing.specs.NetworkChecker.{agrees, agrees_with, output_meets,
 use Rattle.network.specs.Form.{WellFormed}
 use Rattle.network.specs.Layout.{operation_count}
 use Rattle.network.specs.Rows.{operation_direction, operation_two_way, operation_location, request_type, reply_type}
-use Rattle.network.specs.RowLaws.{OperationKept, operation-kept}
+use Rattle.network.specs.RowLaws.{operation-kept}
 use Rattle.network.specs.Decode.{type_of, operation_of, rows_from, network_of}
 use Rattle.network.specs.DecodeLaws.{reply-row, rows_more, rows_none}
 use Rattle.network.specs.MeetsLaws.{met-input}

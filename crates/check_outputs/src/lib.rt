@@ -1,5 +1,7 @@
 // Refusal 13: "An output to a location in the file meets an input there of the same id and kind, its request type ≤ the input's, and the
 // input's reply type ≤ its own."
+#![tactic(auto)]
+
 ghost use Rattle.std.specs.Prelude.{◌≡◌, ◌+◌, ◌≤◌};
 ghost use Rattle.check_outputs.specs.Outputs.{OutputAgrees, OutputTells, OutputsFrom, Outputs};
 
