@@ -1,4 +1,6 @@
 // The progress of a row in a state's bytes, read and written. Reading is total: it gives what the bytes say, whatever they are.
+#![tactic(auto)]
+
 ghost use Rattle.std.specs.Prelude.{◌≡◌, ◌∷◌, ◌+◌, ◌≤◌, ◌<◌, length};
 ghost use Rattle.wire.specs.Wire.{with_part};
 ghost use Rattle.state.specs.Places.{slot_size, row_size};
