@@ -1,14 +1,13 @@
 -- Reading a node as a type and a T row, at each of the ways out of the code.
-use mathlib.Core.Path.{◌≡◌, refl, ap, sym, subst, ◌∙◌}
+use mathlib.Core.Path.{◌≡◌, refl, sym, subst, ◌∙◌}
 use mathlib.Core.List.{List}
-use mathlib.Core.Bool.{Bool, true, false, ◌&&◌}
+use mathlib.Core.Bool.{Bool, true, false}
 use Prim.Native.Nat.{ℕ, ◌+◌, ◌≤◌, ◌<◌}
 use lib.ListN.{get_or}
 use lib.Dec.{eqb, ltb}
 use borrow.Author.Tests.{eq-eqb, ne_eqb, lt-ltb, le-ltb}
-use Rattle.check_subtyping.specs.Subtype.{implies}
 use Rattle.tree.specs.Decode.{value_at, head_at}
-use Rattle.tree.specs.EncodeLaws.{Got, got, fault}
+use Rattle.tree.specs.EncodeLaws.{got, fault}
 use Rattle.tree.specs.declared.Head.{Head}
 use Rattle.network.specs.Layout.{type_count}
 use Rattle.network.specs.Rows.{type_id, cardinality, type_basic, first_child, child_count}
@@ -16,7 +15,6 @@ use Rattle.check_types.specs.Image.{type_head_at}
 use Rattle.check_types.specs.TypeRows.{line_of}
 use Rattle.check_types.specs.Tells.{accepts}
 use Rattle.check_types.specs.declared.TypeHead.{TypeHead}
-use Rattle.check_types.specs.declared.Line.{Line}
 use Rattle.check_types.specs.declared.Line.TheVariants.{Of, Outside}
 
 module _ (own : Bool) (s : List ℕ) (at : ℕ) (h : Head) (p : h ≡ head_at s at) where

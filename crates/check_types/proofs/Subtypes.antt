@@ -4,12 +4,11 @@ use mathlib.Core.List.{List}
 use mathlib.Core.Bool.{Bool, true, false, not, ◌&&◌}
 use Prim.Native.Nat.{ℕ, zero, suc, ◌+◌, ◌-◌, ◌≤◌, ◌<◌}
 use native.Mathlib.Omega.{arith}
-use lib.ListN.{length}
 use lib.Dec.{eqb}
 use borrow.Author.Tests.{eq-eqb, ne_eqb, not-true, not-false}
 use Rattle.basics.specs.TestLaws.{and_assoc}
 use Rattle.tree_forest.specs.Compare.{Compare, lt, eq, gt, compare}
-use Rattle.tree_forest.specs.Forest.{Forest, end, node, Tree, tree, node_of, Above, map_forest, nodes, measure}
+use Rattle.tree_forest.specs.Forest.{Forest, end, node, Tree, tree, node_of, Above, map_forest, measure}
 use Rattle.scalar.specs.Value.{Value, value}
 use Rattle.network_syntax.specs.Syntax.{Mark, mark, Types, MessageType}
 use Rattle.check_subtyping.specs.Subtype.{is_end, implies, are_subtypes_by, are_subtypes, is_subtype}
@@ -19,10 +18,10 @@ use Rattle.network.specs.Decode.{siblings, type_of}
 use Rattle.tree.specs.Encode.{root_count, encode}
 use Rattle.tree.specs.Standing.{Good, Row, Root, Ended}
 use Rattle.tree.specs.StandingLaws.{row-root, row-kids, row-rest, root-kids, row_moved}
-use Rattle.check_types.specs.Image.{mark_as, types_as, type_as, type_head_at}
+use Rattle.check_types.specs.Image.{types_as, type_as, type_head_at}
 use Rattle.check_types.specs.ImageLaws.{TypeSeen, type-seen, type-unseen, root-type-seen, root-type-unseen}
 use Rattle.check_types.specs.TypeRows.{row_types, line_of}
-use Rattle.check_types.specs.TypeRowsLaws.{RowMet, met, unmet, One, one-row, no-row}
+use Rattle.check_types.specs.TypeRowsLaws.{RowMet, met, unmet, one-row, no-row}
 use Rattle.check_types.specs.Tells.{accepts, RowsUnder, TreesUnder, RowUnder, TreeUnder, FitsRow, BasicUnder}
 use Rattle.check_types.specs.declared.TypeHead.{TypeHead}
 use Rattle.check_types.specs.declared.TypeHead.TheVariants.{Node, Fault}

@@ -3,22 +3,19 @@ use mathlib.Core.Path.{◌≡◌, refl, ap, sym, subst, ◌∙◌}
 use mathlib.Core.List.{List, [], ◌∷◌, ◌++◌, append-nil, append_assoc}
 use mathlib.Core.Bool.{Bool, true, false}
 use Prim.Native.Nat.{ℕ, zero, suc, ◌+◌, ◌-◌, ◌*◌, ◌/◌, ◌%◌, ◌≤◌, ◌<◌}
-use native.Mathlib.Nat.{add-zero}
 use native.Mathlib.Omega.{arith}
 use lib.ListN.{length, take, drop, take-append-drop}
 use Rattle.basics.specs.TestLaws.{of_t}
-use Rattle.tree_forest.specs.Forest.{Forest, end, node, Tree, tree, node_of, measure, nodes, map_forest}
+use Rattle.tree_forest.specs.Forest.{end, node, Tree, tree, node_of, measure, nodes, map_forest}
 use Rattle.network_syntax.specs.Syntax.{Mark, mark, Types}
-use Rattle.check_subtyping.specs.Subtype.{root_basic, root_children}
 use Rattle.network.specs.Form as form
 use Rattle.network.specs.Layout.{type_count}
 use Rattle.network.specs.Decode.{siblings, type_of}
 use Rattle.network.specs.Shapes.{TypeShape}
 use Rattle.network.specs.DecodeLaws.{type-shape}
-use Rattle.tree.specs.Encode.{root_count, encode, rooted, Octets, WellFormedTree, payload, children}
+use Rattle.tree.specs.Encode.{root_count, encode, rooted, Octets, WellFormedTree, children}
 use Rattle.tree.specs.Standing.{Root}
 use Rattle.tree.specs.EncodeLaws.{good_of, sound-above}
-use Rattle.tree_forest.specs.Forest.{map_tree}
 use Rattle.scalar.specs.Value.{Value}
 use Rattle.network_syntax.specs.Syntax.{MessageType}
 use Rattle.check_subtyping.specs.Subtype.{is_subtype}

@@ -2,18 +2,16 @@
 -- stands at a position says of its type.
 use Rattle.std.specs.Prelude.{◌≡◌, List, [], ◌∷◌, ◌++◌, Bool, true, false, length, get_or, eqb}
 use Rattle.std.proofs.Math.Path.{refl, ap}
-use Rattle.std.proofs.Common.{sym, subst, ◌∙◌, arith}
+use Rattle.std.proofs.Common.{sym, ◌∙◌, arith}
 use Prim.Native.Nat.{ℕ, zero, suc, max, ◌+◌, ◌*◌, ◌/◌, ◌%◌, ◌≤◌, ◌<◌}
-use Rattle.tree_forest.specs.Forest.{Forest, end, node, Tree, tree, node_of, Above, Rising, RisingTree, measure, nodes, levels, map_forest, map_tree}
+use Rattle.tree_forest.specs.Forest.{Forest, end, node, tree, Above, Rising, measure, nodes, levels, map_forest, map_tree}
 use Rattle.scalar.specs.Basic.{last_basic}
-use Rattle.scalar.specs.Value.{Value, value, basic_of, bytes_of}
-use Rattle.basics.specs.Choice.{pick}
+use Rattle.scalar.specs.Value.{Value, value, bytes_of}
 use Rattle.scalar.specs.ValueLaws.{raw-short}
 use Rattle.network_syntax.specs.Syntax.{Mark, mark, Types, MessageType}
-use Rattle.tree.specs.Encode.{root_count, encode, rooted, Octets, Proper, SoundValues, WellFormedTree, Encodes, payload, children}
-use Rattle.tree.specs.Decode.{id_at, basic_at, count_at, value_at, next_at, head_ok}
-use Rattle.tree.specs.Standing.{Good, Row, Root}
-use Rattle.tree.specs.EncodeLaws.{Fields, length-node, good_of, sound-above}
+use Rattle.tree.specs.Encode.{root_count, encode, Proper, SoundValues, WellFormedTree}
+use Rattle.tree.specs.Standing.{Row, Root}
+use Rattle.tree.specs.EncodeLaws.{Fields, length-node}
 use Rattle.tree.specs.StandingLaws.{row-fields, root-fields}
 use Rattle.check_types.specs.Image.{flag, mark_value, image, InRange, mark_in, mark_as, types_as, type_as, type_head_at}
 use Rattle.check_types.specs.declared.TypeHead.{TypeHead}

@@ -1,16 +1,16 @@
 -- Laws of T rows as types: in a file that none of 2 to 5 refuses a run of rows is its first row's type before the others.
 use Rattle.std.specs.Prelude.{◌≡◌, refl, List, Bool, true, false, ℕ, zero, suc, ◌+◌, ◌-◌, ◌≤◌, ◌<◌, eqb, ltb}
-use Rattle.std.proofs.Common.{ap, sym, subst, ◌∙◌, arith, eq-eqb, ne_eqb, lt-ltb, le-ltb, ltb-true, eqb-true}
+use Rattle.std.proofs.Common.{ap, sym, ◌∙◌, arith, lt-ltb, ltb-true, eqb-true}
 use Rattle.std.proofs.lemmas.Bool.{eqb-false}
-use Rattle.tree_forest.specs.Forest.{Forest, end, node, Tree, tree, node_of, RisingTree, nodes, levels}
+use Rattle.tree_forest.specs.Forest.{end, node, Tree, tree, node_of, RisingTree, nodes, levels}
 use Rattle.basics.specs.Choice.{pick}
 use Rattle.network_syntax.specs.Syntax.{Mark, mark, Types}
 use Rattle.network.specs.Form as form
 use Rattle.network.specs.Layout.{type_at, type_count}
 use Rattle.network.specs.Rows.{type_id, cardinality, type_basic, first_child, child_count}
-use Rattle.network.specs.RowLaws.{TypeKept, type-kept}
+use Rattle.network.specs.RowLaws.{type-kept}
 use Rattle.network.specs.Decode.{mark_of, siblings, written_out, type_of}
-use Rattle.network.specs.Shapes.{NodesShape, TreeNodesShape, TypeShape}
+use Rattle.network.specs.Shapes.{NodesShape, TypeShape}
 use Rattle.network.specs.DecodeLaws.{type-row, type-shape}
 use Rattle.wire.specs.Wire.{u16_at}
 use Rattle.tree.specs.Encode.{Octets, WellFormedTree}

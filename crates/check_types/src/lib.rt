@@ -1,4 +1,6 @@
 // Subtyping on bytes: between T rows and types that stand in an encoded tree, messages and T rows; T rows written out.
+#![tactic(auto)]
+
 ghost use Rattle.std.specs.Prelude.{◌≡◌, [], ◌∷◌, ℕ, ◌+◌, ◌*◌, ◌/◌, ◌%◌, ◌≤◌, ◌<◌, length};
 ghost use Rattle.tree_edit.specs.Wrote.{Wrote};
 ghost use Rattle.check_types.specs.Image.{flag, type_head_at};
