@@ -5,16 +5,16 @@ use mathlib.Core.List.{List}
 use mathlib.Core.Bool.{Bool, true, false, ◌||◌}
 use native.Mathlib.Omega.{arith}
 use lib.ListN.{length, replicate}
-use lib.Dec.{T, eqb, ltb}
+use lib.Dec.{T}
 use borrow.Author.Tests.{ne_eqb}
 use Rattle.basics.specs.TestLaws.{T_of, clash, lt_of, not-T-false, of_t, one_less, or_assoc, or-false}
 use Rattle.tree_forest.specs.Compare.{Compare, lt, eq, gt, compare}
-use Rattle.wire.specs.Wire.{byte_at, u16_at}
+use Rattle.wire.specs.Wire.{byte_at}
 use Rattle.network.specs.declared.ExpressionKind.{ExpressionKind}
 use Rattle.network.specs.declared.BehaviourKind.{BehaviourKind}
 use Rattle.network.specs.Form.{WellFormed}
 use Rattle.network.specs.Kinds.{behaviour_kind, expression_fields}
-use Rattle.network.specs.Layout.{path_count, expression_count, behaviour_count, path_at, expression_at, behaviour_at}
+use Rattle.network.specs.Layout.{path_count, expression_count, behaviour_count, expression_at, behaviour_at}
 use Rattle.network.specs.Rows.{field_a, field_b, field_c, field_d, field_fits, expression_kind_at, kind_at}
 use Rattle.network.specs.Decode.{path_of, expression_from, expression_of, branches_from, behaviour_from, behaviour_of}
 use Rattle.network.specs.DecodeLaws.{expression-kept, expression-row}
@@ -33,9 +33,9 @@ use Rattle.network_row_parts.specs.declared.Subs.{Subs}
 use Rattle.network_row_parts.specs.Parts.{subs_in, subs_of}
 use Rattle.network_row_parts.specs.PartLaws.{subs-of-row}
 use Rattle.check_roots.specs.Parts.{operands_in, operands_of, own_in, own_of}
-use Rattle.check_roots.specs.Sets.{in_set, root_at, path_root, expression_roots, behaviour_roots, branch_roots, operand_roots, own_roots, sub_roots}
+use Rattle.check_roots.specs.Sets.{root_at, path_root, expression_roots, behaviour_roots, branch_roots, operand_roots, own_roots, sub_roots}
 use Rattle.check_roots.specs.Sets.{row_for, Represented, Represents, SetOf, SetsOf, WithPath, Joined, Stored, ExpressionSet, ExpressionSets, OwnKept, OwnSet, LaterRow}
-use Rattle.check_roots.specs.Sets.{LaterBranches, SubsKept, LaterSets, WithBranches, WithSubs, BehaviourSet, BehaviourSets, AnyParallel, SetsApart, Separates, Fills}
+use Rattle.check_roots.specs.Sets.{LaterBranches, SubsKept, LaterSets, WithBranches, WithSubs, BehaviourSet, BehaviourSets, AnyParallel, SetsApart, Fills}
 use Rattle.check_roots.proofs.SetLaws.{set-of, set-none, join-set, store-row}
 
 -- ---- parts of a row

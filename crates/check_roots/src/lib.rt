@@ -1,6 +1,8 @@
 // Root ids that occur in expressions and behaviours, and refusal 11: "Parallel sides share a root". One table for the file has a set of
 // root ids for each B row, 32 bytes with a bit for each P row: one P row stands for all that have its root id. Rows are filled after those
 // that they name, so no row is walked twice.
+#![tactic(auto)]
+
 ghost use Rattle.std.specs.Prelude.{◌≡◌, ◌+◌, ◌*◌, ◌^◌, ◌<◌};
 ghost use Rattle.check_roots.specs.Parts.{operands_in, operands_of, own_in};
 ghost use Rattle.check_roots.specs.Sets.{Represents, WithPath, Joined, Stored, ExpressionSet, ExpressionSets, OwnSet, WithBranches, WithSubs, BehaviourSet, BehaviourSets, AnyParallel, SetsApart, Fills};
