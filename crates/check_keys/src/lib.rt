@@ -1,4 +1,6 @@
 // Refusal 23. 02: "In a keyed service the request type of each input has that id as a mandatory int child of its root."
+#![tactic(auto)]
+
 ghost use Rattle.std.specs.Prelude.{◌≡◌, ◌+◌, ◌≤◌};
 ghost use Rattle.tree_forest.specs.Forest.{present, find};
 ghost use Rattle.network.specs.Decode.{siblings, type_of, service_of, rows_from};
