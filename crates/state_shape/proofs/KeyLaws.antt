@@ -2,19 +2,19 @@
 use mathlib.Core.Path.{◌≡◌, refl, sym, ap, ◌∙◌}
 use mathlib.Core.List.{List}
 use mathlib.Core.Bool.{Bool, true, false, not, ◌&&◌}
-use Prim.Native.Nat.{ℕ, suc, ◌+◌, ◌-◌, ◌≤◌, ◌<◌}
+use Prim.Native.Nat.{ℕ, suc, ◌-◌, ◌≤◌, ◌<◌}
 use native.Mathlib.Omega.{arith}
 use lib.Dec.{eqb}
 use borrow.Author.Tests.{ne_eqb, lt-ltb, not-true, not-false}
-use Rattle.network_syntax.specs.Syntax.{Network, Optional, Service}
+use Rattle.network_syntax.specs.Syntax.{Optional, Service}
 use Rattle.network_syntax.specs.Keys.{key_id_of, is_keyed}
-use Rattle.wire.specs.Wire.{byte_at, u32_at}
+use Rattle.wire.specs.Wire.{byte_at}
 use Rattle.network.specs.Layout.{service_count}
 use Rattle.network.specs.Rows.{service_key}
 use Rattle.network.specs.Decode.{service_of, network_of}
 use Rattle.network.specs.NetworkLaws.{service-key}
-use Rattle.state.specs.Places.{key_place, slot_start}
-use Rattle.state.specs.Session.{Slot, free, live}
+use Rattle.state.specs.Places.{slot_start}
+use Rattle.state.specs.Session.{free, live}
 use Rattle.state.specs.Bytes.{read_key, read_session, read_slot, read_state}
 use Rattle.state.specs.Shape.{has_no_key, keys_differ, suits_keys, suits_all_keys}
 use Rattle.state_shape.proofs.StandLaws.{no-service}

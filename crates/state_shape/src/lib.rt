@@ -1,4 +1,6 @@
 // Refusal 14: "The state bytes stand for no state of this file's shape." `stands` decides it for every file that none of 2 to 5 refuses.
+#![tactic(auto)]
+
 ghost use Rattle.std.specs.Prelude.{◌≡◌, true, false, ◌+◌, ◌*◌, ◌≤◌, ◌<◌};
 ghost use Rattle.network_syntax.specs.Keys.{is_keyed};
 ghost use Rattle.network.specs.Layout.{behaviour_count};
