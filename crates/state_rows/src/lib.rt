@@ -1,5 +1,7 @@
 // The progress of a session's rows, which is part of refusal 14: "the progress of rows and where replies go". A row of what the session
 // runs has a progress of its kind, any other row none. Every function is exact on any bytes.
+#![tactic(auto)]
+
 ghost use Rattle.std.specs.Prelude.{◌≡◌, ◌+◌, ◌*◌, ◌≤◌, ◌<◌};
 ghost use Rattle.network.specs.Layout.{behaviour_count};
 ghost use Rattle.network.specs.Decode.{network_of};
