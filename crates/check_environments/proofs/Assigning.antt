@@ -2,25 +2,24 @@
 use mathlib.Core.Path.{◌≡◌, refl, ap, sym, subst, ◌∙◌}
 use mathlib.Core.List.{List}
 use mathlib.Core.Bool.{Bool, true, false, not, ◌&&◌, ◌||◌}
-use Prim.Native.Nat.{ℕ, ◌+◌, ◌-◌, ◌≤◌, ◌<◌}
+use Prim.Native.Nat.{ℕ, ◌-◌}
 use native.Mathlib.Omega.{arith}
-use lib.ListN.{length}
-use lib.Dec.{eqb, leb}
+use lib.Dec.{eqb}
 use borrow.Author.Tests.{eq-eqb, ne_eqb, le-leb}
 use Rattle.tree_forest.specs.Forest.{Forest, end, node, Tree, tree, present, nodes, levels, map_forest}
 use Rattle.tree_forest.specs.Path.{Path}
 use Rattle.refusal.specs.declared.Refusal.TheVariants.{PathNotFirm, TypeMisfit, EnvironmentTooLarge}
 use Rattle.refusal.specs.declared.Verdict.TheVariants.{Done}
 use Rattle.scalar.specs.Value.{Value, value}
-use Rattle.network_syntax.specs.Syntax.{Mark, mark, Types, MessageType}
-use Rattle.check_typing.specs.Result.{Attempt, yields, demand, and_then, Checked, refused, passed, with_row}
+use Rattle.network_syntax.specs.Syntax.{Mark, mark, Types}
+use Rattle.check_typing.specs.Result.{Attempt, yields, demand, Checked, refused, passed, with_row}
 use Rattle.check_typing.specs.Environment.{within, no_mandatory, assign_at}
 use Rattle.check_typing.specs.Checker.{limited}
 use Rattle.tree.specs.Encode.{root_count}
 use Rattle.tree.specs.Standing.{Row, Root, Ended}
 use Rattle.tree.specs.StandingLaws.{row-root, row-rest, root-kids, row_moved}
 use Rattle.check_types.specs.Image.{types_as, type_as, type_head_at}
-use Rattle.check_types.specs.ImageLaws.{TypeSeen, type-seen, type-unseen, root-type-seen, root-type-unseen}
+use Rattle.check_types.specs.ImageLaws.{type-seen, type-unseen, root-type-seen, root-type-unseen}
 use Rattle.check_types.specs.declared.TypeHead.{TypeHead}
 use Rattle.check_types.specs.declared.TypeHead.TheVariants.{Node, Fault}
 use Rattle.check_environments.specs.declared.Environment.{Environment}

@@ -1,8 +1,8 @@
 -- Environments compared, whole and root by root, at each of the ways out of the code.
 use mathlib.Core.Path.{◌≡◌, refl, ap, sym, subst, ◌∙◌}
-use mathlib.Core.List.{List, [], ◌∷◌, ◌++◌}
+use mathlib.Core.List.{List, [], ◌∷◌}
 use mathlib.Core.Bool.{Bool, true, false, not, ◌&&◌}
-use Prim.Native.Nat.{ℕ, zero, suc, ◌+◌, ◌-◌, ◌/◌, ◌%◌, ◌≤◌, ◌<◌}
+use Prim.Native.Nat.{ℕ, ◌+◌, ◌-◌, ◌≤◌, ◌<◌}
 use native.Mathlib.Omega.{arith}
 use native.Mathlib.Numerals.{add-one}
 use lib.ListN.{length, get_or, take, drop, length-take, length-drop}
@@ -19,12 +19,12 @@ use Rattle.check_typing.specs.Rules.{same_bool}
 use Rattle.check_typing.specs.Checker.{same_types}
 use Rattle.check_typing.specs.CheckerLaws.{same_bool-refl, same_types-eq, same_types-refl}
 use Rattle.check_typing.specs.NetworkChecker.{same_tree, one_type_at, one_type}
-use Rattle.tree.specs.Encode.{root_count, encode, rooted, WellFormedTree, payload, children}
+use Rattle.tree.specs.Encode.{root_count, encode, rooted, WellFormedTree, children}
 use Rattle.tree.specs.Decode.{head_at}
-use Rattle.tree.specs.EncodeLaws.{Fine, of-good}
+use Rattle.tree.specs.EncodeLaws.{of-good}
 use Rattle.tree.specs.DecodeLaws.{encode_injective}
-use Rattle.tree.specs.Standing.{Row, Root, Stood, Spot, Ended, Below}
-use Rattle.tree.specs.StandingLaws.{row-root, row-rest, root-kids, root-inside, root-part, Seen, seen, unseen, root-seen, root-unseen, row_moved}
+use Rattle.tree.specs.Standing.{Row, Root, Spot, Ended, Below}
+use Rattle.tree.specs.StandingLaws.{row-root, row-rest, root-kids, root-inside, root-part, seen, unseen, root-seen, root-unseen, row_moved}
 use Rattle.tree.specs.declared.Head.{Head}
 use Rattle.tree.specs.declared.Head.TheVariants.{Node, Fault}
 use Rattle.tree.specs.declared.Found.{Found}

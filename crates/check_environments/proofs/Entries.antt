@@ -1,28 +1,28 @@
 -- The nodes of an environment in preorder, at each of the ways out of the code.
 use mathlib.Core.Path.{◌≡◌, refl, ap, sym, ◌∙◌}
-use mathlib.Core.List.{List, [], ◌∷◌, ◌++◌, append_assoc}
+use mathlib.Core.List.{List, [], ◌∷◌, ◌++◌}
 use mathlib.Core.Bool.{Bool, true, false}
-use Prim.Native.Nat.{ℕ, zero, suc, max, ◌+◌, ◌-◌, ◌*◌, ◌/◌, ◌≤◌, ◌<◌}
+use Prim.Native.Nat.{ℕ, zero, suc, ◌+◌, ◌-◌, ◌*◌, ◌/◌, ◌≤◌, ◌<◌}
 use native.Mathlib.Omega.{arith}
 use lib.ListN.{length, get_or, set, replicate, length-append}
 use Rattle.basics.specs.TestLaws.{one_less}
-use Rattle.tree_forest.specs.Forest.{end, node, Tree, tree, measure, nodes, levels, map_forest, map_tree}
+use Rattle.tree_forest.specs.Forest.{end, node, tree, measure, nodes, levels, map_forest}
 use Rattle.scalar.specs.Basic.{void}
 use Rattle.scalar.specs.Value.{value}
-use Rattle.network_syntax.specs.Syntax.{Mark, mark, Types}
+use Rattle.network_syntax.specs.Syntax.{mark, Types}
 use Rattle.tree.specs.Encode.{root_count, encode}
 use Rattle.tree.specs.EncodeLaws.{length-node}
 use Rattle.tree.specs.Decode.{head_at}
-use Rattle.tree.specs.Standing.{Row, Root, Ended}
+use Rattle.tree.specs.Standing.{Row, Ended}
 use Rattle.tree.specs.StandingLaws.{row-root, row-kids, row-rest, root-kids, root-seen, root-unseen, row_moved}
 use Rattle.tree.specs.declared.Head.{Head}
-use Rattle.check_types.specs.Image.{flag, mark_value, image, type_head_at, mark_as}
-use Rattle.check_types.specs.ImageLaws.{TypeSeen, type-seen, type-unseen, length-image, mark-back}
+use Rattle.check_types.specs.Image.{flag, image, type_head_at}
+use Rattle.check_types.specs.ImageLaws.{type-seen, type-unseen, length-image, mark-back}
 use Rattle.check_types.specs.declared.TypeHead.{TypeHead}
 use Rattle.check_types.specs.declared.TypeHead.TheVariants.{Node, Fault}
 use Rattle.check_environments.specs.declared.Environment.{Environment}
 use Rattle.check_environments.specs.declared.Entry.{Entry}
-use Rattle.check_environments.specs.Environment.{tree_of, Shape, EnvironmentFor}
+use Rattle.check_environments.specs.Environment.{tree_of}
 use Rattle.check_environments.specs.EnvironmentLaws.{stands-root, length-preorder}
 use Rattle.check_environments.specs.Listing.{entry_at, no_entry, preorder, Lists, ListsFrom}
 

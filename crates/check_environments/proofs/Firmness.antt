@@ -2,14 +2,12 @@
 use mathlib.Core.Path.{◌≡◌, refl, ap, sym, subst, ◌∙◌}
 use mathlib.Core.List.{List, [], ◌∷◌}
 use mathlib.Core.Bool.{Bool, true, false, ◌&&◌}
-use Prim.Native.Nat.{ℕ, zero, suc, ◌≤◌, ◌<◌}
+use Prim.Native.Nat.{ℕ, ◌<◌}
 use native.Mathlib.Omega.{arith}
-use lib.ListN.{length}
 use Rattle.basics.specs.TestLaws.{and-of, true-false}
-use Rattle.tree_forest.specs.Forest.{Forest, end, node, Tree, tree, Lookup, absent, present, find, children_of, map_forest, map_tree, map_lookup}
+use Rattle.tree_forest.specs.Forest.{Forest, Tree, tree, Lookup, absent, present, find, children_of, map_forest, map_lookup}
 use Rattle.tree_forest.specs.ForestLaws.{find-map}
 use Rattle.tree_forest.specs.Path.{Path, path, read_steps, read}
-use Rattle.refusal.specs.declared.Refusal.{Refusal}
 use Rattle.refusal.specs.declared.Refusal.TheVariants.{PathNotFirm, TypeMisfit}
 use Rattle.refusal.specs.declared.Verdict.TheVariants.{Done}
 use Rattle.scalar.specs.Value.{Value, value}
@@ -18,19 +16,16 @@ use Rattle.check_subtyping.specs.Subtype.{root_basic, is_subtype}
 use Rattle.check_typing.specs.Result.{Attempt, fails, yields, demand, and_then, Checked, refused, passed, with_row}
 use Rattle.check_typing.specs.Environment.{is_in, firm_steps, stands_firm, the_type, read_firm, firm_above_steps, firm_above}
 use Rattle.tree_forest.specs.Forest.{is_present}
-use Rattle.check_typing.specs.Checker.{answers}
 use Rattle.network.specs.Form.{WellFormed}
 use Rattle.network.specs.Layout.{path_count, type_count}
-use Rattle.network.specs.Rows.{path_by}
-use Rattle.network.specs.Least.{rule}
 use Rattle.network.specs.Decode as network
 use Rattle.tree.specs.Ids.{is_path, path_from_ids, last_id}
-use Rattle.tree.specs.Standing.{Root, Stood, Spot, Followed}
+use Rattle.tree.specs.Standing.{Root, Spot, Followed}
 use Rattle.tree.specs.declared.Found.{Found}
 use Rattle.tree.specs.declared.Found.TheVariants.{At, Nothing}
 use Rattle.tree_edit.specs.ForestWrite.{read_none}
 use Rattle.check_types.specs.Image.{mark_value, image, types_as, type_as, type_head_at}
-use Rattle.check_types.specs.ImageLaws.{TypeSeen, root-type-seen, root-type-unseen}
+use Rattle.check_types.specs.ImageLaws.{root-type-seen, root-type-unseen}
 use Rattle.check_types.specs.Tells.{TreeUnder}
 use Rattle.check_types.specs.declared.TypeHead.{TypeHead}
 use Rattle.check_types.specs.declared.TypeHead.TheVariants.{Node, Fault}
@@ -44,8 +39,8 @@ use Rattle.check_environments.specs.declared.Reading.{Reading}
 use Rattle.check_environments.specs.declared.Reading.TheVariants.{Firm, NotFirm}
 use Rattle.check_environments.specs.Environment.{tree_of, EnvironmentFor, step_of, StepAnswers}
 use Rattle.check_environments.specs.EnvironmentLaws.{answers-as, answers-pass, answers-refuse, stands-root}
-use Rattle.check_environments.specs.Walk.{row_ids_of, SeenAt, Missing, Sees, WalkReached}
-use Rattle.check_environments.specs.Tells.{TypeAt, ReadAt, ReadsAs, ReadsFirm, TypeUnder, Asks, IsIn}
+use Rattle.check_environments.specs.Walk.{row_ids_of, Sees, WalkReached}
+use Rattle.check_environments.specs.Tells.{ReadAt, ReadsAs, ReadsFirm, TypeUnder, Asks, IsIn}
 use Rattle.check_environments.proofs.Looking.{path-is}
 
 -- ---- all edges, and the edges above the end

@@ -2,27 +2,26 @@
 use mathlib.Core.Path.{◌≡◌, refl, ap, sym, subst, ◌∙◌}
 use mathlib.Core.List.{List, [], ◌∷◌, ◌++◌}
 use mathlib.Core.Bool.{Bool, true, false, not, ◌&&◌}
-use Prim.Native.Nat.{ℕ, zero, suc, max, ◌+◌, ◌-◌, ◌*◌, ◌/◌, ◌%◌, ◌≤◌, ◌<◌}
+use Prim.Native.Nat.{ℕ, zero, suc, max, ◌+◌, ◌-◌, ◌/◌, ◌%◌, ◌≤◌, ◌<◌}
 use native.Mathlib.Omega.{arith}
 use lib.ListN.{length, get_or, take, drop, replicate, take-append-drop, length-take}
 use lib.Dec.{leb}
 use borrow.Author.Tests.{not-true, not-false, leb-true}
 use Rattle.tree_forest.specs.Compare.{Compare, lt, eq, gt, compare}
-use Rattle.tree_forest.specs.Forest.{Forest, end, node, Tree, tree, Lookup, absent, present, find, find_by, set_by, set, node_of, children_of, payload_of, Rising, RisingTree, measure, nodes, levels, map_forest, map_tree, map_lookup}
+use Rattle.tree_forest.specs.Forest.{Forest, end, node, Tree, tree, Lookup, absent, present, find, find_by, set_by, set, node_of, children_of, Rising, measure, nodes, levels, map_forest, map_tree, map_lookup}
 use Rattle.tree_forest.specs.ForestLaws.{find-map, map-set}
-use Rattle.tree_forest.specs.Path.{Path, path, read_steps, read, write_steps, write, replace_at}
+use Rattle.tree_forest.specs.Path.{Path, path, write_steps, replace_at}
 use Rattle.refusal.specs.declared.Refusal.TheVariants.{EnvironmentTooLarge}
 use Rattle.refusal.specs.declared.Verdict.TheVariants.{Done}
-use Rattle.scalar.specs.Basic.{void, last_basic}
-use Rattle.scalar.specs.Value.{Value, value}
+use Rattle.scalar.specs.Basic.{last_basic}
+use Rattle.scalar.specs.Value.{Value}
 use Rattle.network_syntax.specs.Syntax.{Mark, mark, Types, MessageType}
-use Rattle.check_subtyping.specs.Subtype.{root_basic, root_children}
-use Rattle.check_typing.specs.Result.{Attempt, fails, yields, demand, Checked, refused, passed, with_row}
+use Rattle.check_typing.specs.Result.{yields, demand, refused, with_row}
 use Rattle.check_typing.specs.Environment.{within, missing_step, as_mandatory, basic_leaf}
 use Rattle.check_typing.specs.EnvironmentLaws.{replace-rising}
 use Rattle.check_typing.specs.Checker.{limited}
 use Rattle.network.specs.Form as form
-use Rattle.network.specs.Layout.{path_count, type_count, path_at}
+use Rattle.network.specs.Layout.{path_count, path_at}
 use Rattle.network.specs.RowLaws.{path-kept}
 use Rattle.network.specs.Decode as network
 use Rattle.wire.specs.Wire.{u16_at}
@@ -42,8 +41,8 @@ use Rattle.check_types.specs.Tells.{TypeWritten}
 use Rattle.check_types.specs.TypeRowsLaws.{TypeKeeps, type-keeps}
 use Rattle.check_environments.specs.declared.Environment.{Environment}
 use Rattle.check_environments.specs.declared.Step.{Step}
-use Rattle.check_environments.specs.Environment.{tree_of, bytes_for, standing, Shape, EnvironmentFor, step_of, StepAnswers}
-use Rattle.check_environments.specs.EnvironmentLaws.{answers-as, answers-pass, answers-refuse, bytes-encode, bytes-length, stands-bytes, stands-len}
+use Rattle.check_environments.specs.Environment.{tree_of, bytes_for, standing, Shape, step_of}
+use Rattle.check_environments.specs.EnvironmentLaws.{answers-as, answers-refuse, bytes-encode, bytes-length, stands-bytes, stands-len}
 use Rattle.check_environments.specs.Walk.{row_ids_of, Placeable, PutsType, Grows, GrowsRow, GrowsLeaf}
 use Rattle.check_environments.proofs.Looking.{path-is}
 use Rattle.check_environments.proofs.Assigning.{pass-answers}

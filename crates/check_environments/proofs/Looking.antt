@@ -1,44 +1,43 @@
 -- The empty environment, paths of P rows, and where a path leads, at each of the ways out of the code.
 use mathlib.Core.Path.{◌≡◌, refl, ap, sym, subst, ◌∙◌}
-use mathlib.Core.List.{List, [], ◌∷◌, ◌++◌}
-use mathlib.Core.Bool.{Bool, true, false, not, ◌&&◌}
-use Prim.Native.Nat.{ℕ, zero, suc, ◌+◌, ◌-◌, ◌≤◌, ◌<◌}
+use mathlib.Core.List.{List, [], ◌∷◌}
+use mathlib.Core.Bool.{Bool, true, false, ◌&&◌}
+use Prim.Native.Nat.{ℕ, ◌+◌, ◌-◌, ◌≤◌, ◌<◌}
 use native.Mathlib.Omega.{arith}
 use lib.ListN.{length, get_or, drop, set, replicate}
 use Rattle.tree_forest.specs.Compare.{compare}
-use Rattle.tree_forest.specs.Forest.{Forest, end, node, Tree, tree, Lookup, absent, present, find, map_forest}
+use Rattle.tree_forest.specs.Forest.{Forest, end, node, tree, absent, present, find, map_forest}
 use Rattle.tree_forest.specs.ForestLaws.{find-eq, find-lt, find-gt}
-use Rattle.tree_forest.specs.Path.{Path, path, read_steps, read}
+use Rattle.tree_forest.specs.Path.{Path, path, read}
 use Rattle.refusal.specs.declared.Refusal.{Refusal}
 use Rattle.refusal.specs.declared.Verdict.TheVariants.{Refused}
 use Rattle.scalar.specs.Basic.{void}
 use Rattle.scalar.specs.Value.{Value, value}
-use Rattle.network_syntax.specs.Syntax.{Mark, mark, Types, MessageType}
+use Rattle.network_syntax.specs.Syntax.{Mark, mark, Types}
 use Rattle.check_typing.specs.Result.{refused}
 use Rattle.check_typing.specs.Environment.{firm_above_steps, firm_above}
 use Rattle.network.specs.Decode as network
 use Rattle.network.specs.Layout.{path_at}
 use Rattle.wire.specs.Wire.{u16_at}
-use Rattle.tree.specs.Encode.{root_count, encode, rooted, empty}
+use Rattle.tree.specs.Encode.{root_count, encode}
 use Rattle.tree.specs.Decode.{head_at}
 use Rattle.tree.specs.Ids.{steps, path_from_ids, is_none}
 use Rattle.tree.specs.IdsLaws.{none_is, steps_next, path-at}
 use Rattle.tree.specs.Standing.{Row, Root, Ended}
-use Rattle.tree.specs.StandingLaws.{row-root, row-kids, row-rest, root-kids, Seen, root-seen, root-unseen, row_moved}
+use Rattle.tree.specs.StandingLaws.{row-root, row-kids, row-rest, root-kids, root-seen, root-unseen, row_moved}
 use Rattle.tree.specs.declared.Head.{Head}
 use Rattle.tree_edit.specs.ForestWrite.{read_none, read-gap, read-on, read-hit, read-deep}
-use Rattle.check_types.specs.Image.{image, types_as, type_as, type_head_at}
+use Rattle.check_types.specs.Image.{image, types_as, type_head_at}
 use Rattle.check_types.specs.ImageLaws as types
 use Rattle.check_types.specs.declared.TypeHead.{TypeHead}
 use Rattle.check_types.specs.declared.TypeHead.TheVariants.{Node, Fault}
 use Rattle.network_row_parts.specs.PathLaws as paths
 use Rattle.network_rows.specs.Readers.{path_ids}
 use Rattle.check_environments.specs.declared.Environment.{Environment}
-use Rattle.check_environments.specs.declared.Step.{Step}
 use Rattle.check_environments.specs.declared.Reach.{Reach}
 use Rattle.check_environments.specs.declared.Reach.TheVariants.{Here, Gap, Loose}
 use Rattle.check_environments.specs.Environment.{tree_of, bytes_for, standing, step_of}
-use Rattle.check_environments.specs.Walk.{row_ids_of, SeenAt, Missing, Sees, Looked, WalkReached}
+use Rattle.check_environments.specs.Walk.{row_ids_of, SeenAt, Sees, Looked, WalkReached}
 
 -- ---- the empty environment, a refusal
 

@@ -1,20 +1,18 @@
 -- Placing and assigning, at each of the ways out of the code.
-use mathlib.Core.Path.{◌≡◌, refl, ap, sym, subst, ◌∙◌}
+use mathlib.Core.Path.{◌≡◌, ap, sym, subst, ◌∙◌}
 use mathlib.Core.List.{List}
 use mathlib.Core.Bool.{Bool, true, false}
-use Prim.Native.Nat.{ℕ, ◌≤◌, ◌<◌}
+use Prim.Native.Nat.{ℕ, ◌<◌}
 use Rattle.tree_forest.specs.Forest.{Lookup, absent, present}
 use Rattle.tree_forest.specs.Path.{Path, path, read}
 use Rattle.refusal.specs.declared.Refusal.TheVariants.{PathNotFirm, TypeMisfit}
 use Rattle.refusal.specs.declared.Verdict.TheVariants.{Done}
-use Rattle.scalar.specs.Basic.{last_basic}
 use Rattle.network_syntax.specs.Syntax.{Mark, Types, MessageType}
-use Rattle.check_subtyping.specs.Subtype.{is_subtype}
-use Rattle.check_typing.specs.Result.{Attempt, yields, demand, Checked, refused, passed, with_row}
+use Rattle.check_typing.specs.Result.{Attempt, yields, demand, Checked, refused, with_row}
 use Rattle.check_typing.specs.Environment.{firm_above, place_at, place, assign_at, assign_to}
 use Rattle.check_typing.specs.Checker.{limited}
 use Rattle.network.specs.Form.{WellFormed}
-use Rattle.network.specs.Layout.{path_count, type_count}
+use Rattle.network.specs.Layout.{type_count}
 use Rattle.network.specs.Decode as network
 use Rattle.check_types.specs.Image.{type_as}
 use Rattle.check_types.specs.Tells.{RowUnder}
@@ -22,9 +20,9 @@ use Rattle.check_environments.specs.declared.Environment.{Environment}
 use Rattle.check_environments.specs.declared.Step.{Step}
 use Rattle.check_environments.specs.declared.Reach.{Reach}
 use Rattle.check_environments.specs.declared.Reach.TheVariants.{Here, Gap, Loose}
-use Rattle.check_environments.specs.Environment.{EnvironmentFor, step_of, StepAnswers}
+use Rattle.check_environments.specs.Environment.{EnvironmentFor, step_of}
 use Rattle.check_environments.specs.EnvironmentLaws.{answers-as, answers-refuse, stands-root}
-use Rattle.check_environments.specs.Walk.{SeenAt, Missing, Sees, WalkReached, AssignsAt, GrowsRow, GrowsLeaf}
+use Rattle.check_environments.specs.Walk.{Sees, WalkReached, AssignsAt, GrowsRow, GrowsLeaf}
 use Rattle.check_environments.specs.Tells.{Places, Assigns}
 use Rattle.check_environments.proofs.Assigning.{pass-answers}
 

@@ -1,22 +1,22 @@
 -- The union of environments, root by root, at each of the ways out of the code.
 use mathlib.Core.Path.{◌≡◌, refl, ap, sym, subst, ◌∙◌}
-use mathlib.Core.List.{List, [], ◌∷◌, ◌++◌}
-use mathlib.Core.Bool.{Bool, true, false, not, ◌&&◌}
-use Prim.Native.Nat.{ℕ, zero, suc, max, ◌+◌, ◌-◌, ◌*◌, ◌/◌, ◌%◌, ◌≤◌, ◌<◌}
+use mathlib.Core.List.{List, [], ◌∷◌}
+use mathlib.Core.Bool.{Bool, true, false}
+use Prim.Native.Nat.{ℕ, suc, ◌+◌, ◌-◌, ◌*◌, ◌/◌, ◌%◌, ◌<◌}
 use native.Mathlib.Omega.{arith}
-use lib.ListN.{length, get_or, take, drop}
+use lib.ListN.{length, take, drop}
 use lib.Seq.{drop-drop}
 use Rattle.basics.specs.ListLaws.{take-later}
-use Rattle.tree_forest.specs.Forest.{end, node, Tree, tree, node_of, Lookup, absent, present, find, set, Above, Rising, measure, nodes, levels, map_forest, map_tree}
-use Rattle.tree_forest.specs.Path.{path, write_steps, replace_at}
+use Rattle.tree_forest.specs.Forest.{end, node, Tree, tree, node_of, find, set, Above, Rising, measure, nodes, map_forest, map_tree}
+use Rattle.tree_forest.specs.Path.{write_steps, replace_at}
 use Rattle.refusal.specs.declared.Refusal.{Refusal}
 use Rattle.refusal.specs.declared.Refusal.TheVariants.{EnvironmentTooLarge}
 use Rattle.refusal.specs.declared.Verdict.TheVariants.{Done, Refused}
-use Rattle.scalar.specs.Basic.{void, last_basic}
+use Rattle.scalar.specs.Basic.{void}
 use Rattle.scalar.specs.Value.{Value, value}
 use Rattle.network_syntax.specs.Syntax.{Mark, mark, Types, MessageType}
 use Rattle.check_subtyping.specs.Subtype.{root_children}
-use Rattle.check_typing.specs.Result.{Attempt, yields, demand, Checked, refused, passed, with_row}
+use Rattle.check_typing.specs.Result.{yields, demand, refused, passed, with_row}
 use Rattle.check_typing.specs.Environment.{within, missing_step}
 use Rattle.check_typing.specs.Checker.{limited}
 use Rattle.check_typing.specs.NetworkRules.{union}
@@ -26,7 +26,7 @@ use Rattle.tree.specs.Decode.{head_at}
 use Rattle.tree.specs.EncodeLaws.{length-node}
 use Rattle.tree.specs.Ids.{steps, path_from_ids}
 use Rattle.tree.specs.Standing.{Row, Root, Ended}
-use Rattle.tree.specs.StandingLaws.{row-root, row-rest, root-kids, root-inside, root-part, Seen, seen, unseen, root-seen, root-unseen, row_moved}
+use Rattle.tree.specs.StandingLaws.{row-root, row-rest, root-kids, root-inside, root-part, seen, unseen, root-seen, root-unseen, row_moved}
 use Rattle.tree.specs.declared.Head.{Head}
 use Rattle.tree.specs.declared.Head.TheVariants.{Node, Fault}
 use Rattle.tree_edit.specs.Wrote.{Wrote}
@@ -35,8 +35,8 @@ use Rattle.check_types.specs.Image.{flag, mark_value, image, InRange}
 use Rattle.check_types.specs.ImageLaws.{length-image}
 use Rattle.check_environments.specs.declared.Environment.{Environment}
 use Rattle.check_environments.specs.declared.Step.{Step}
-use Rattle.check_environments.specs.Environment.{tree_of, Shape, EnvironmentFor, step_of, StepAnswers}
-use Rattle.check_environments.specs.EnvironmentLaws.{answers-as, answers-done, answers-refused, answers-refuse, stands-root}
+use Rattle.check_environments.specs.Environment.{tree_of, Shape, EnvironmentFor, StepAnswers}
+use Rattle.check_environments.specs.EnvironmentLaws.{answers-as, answers-done, answers-refused, stands-root}
 use Rattle.check_environments.specs.UnionLaws.{one-parts, root-within}
 use Rattle.check_environments.specs.Walk.{Placeable, Grows, PutsRoot, UnitesFrom}
 use Rattle.check_environments.specs.Tells.{Unites}

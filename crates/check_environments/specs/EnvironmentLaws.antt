@@ -1,26 +1,24 @@
 -- Laws of environments in bytes and of what a step answers.
-use Rattle.std.specs.Prelude.{◌≡◌, refl, List, [], ◌∷◌, ◌++◌, Bool, true, false, ℕ, zero, suc, max, ◌+◌, ◌-◌, ◌*◌, ◌≤◌, length, take, drop, replicate}
-use Rattle.std.proofs.Common.{ap, sym, subst, ◌∙◌, append_assoc, arith, length-append}
-use Rattle.std.proofs.lemmas.List.{length-replicate}
+use Rattle.std.specs.Prelude.{◌≡◌, refl, List, [], ◌∷◌, ◌++◌, false, ℕ, suc, max, ◌+◌, ◌-◌, ◌*◌, ◌≤◌, length, take, replicate}
+use Rattle.std.proofs.Common.{ap, sym, subst, ◌∙◌, arith, length-append}
 use Rattle.std.proofs.Math.Seq.{take-append_seam}
-use Rattle.tree_forest.specs.Forest.{Forest, end, node, Tree, tree, Rising, measure, nodes, levels, map_forest}
+use Rattle.tree_forest.specs.Forest.{end, node, Rising, measure, nodes}
 use Rattle.refusal.specs.declared.Refusal.{Refusal}
 use Rattle.refusal.specs.declared.Verdict.{Verdict}
 use Rattle.refusal.specs.declared.Verdict.TheVariants.{Done, Refused}
-use Rattle.scalar.specs.Value.{Value, value}
 use Rattle.scalar.specs.Basic.{void}
 use Rattle.network_syntax.specs.Syntax.{Types, mark}
 use Rattle.check_typing.specs.Result.{Checked, refused, passed}
-use Rattle.tree.specs.Encode.{root_count, encode, rooted, Octets, SoundValues, WellFormedTree, Encodes}
+use Rattle.tree.specs.Encode.{root_count, encode, WellFormedTree, Encodes}
 use Rattle.tree_forest.specs.Limits.{session_levels, session_nodes}
-use Rattle.tree.specs.Standing.{Good, Row, Root}
-use Rattle.tree.specs.EncodeLaws.{Fields, good_of, sound-above, unique, length-node, empty-proper}
-use Rattle.tree.specs.StandingLaws.{root-fields, root-kids}
+use Rattle.tree.specs.Standing.{Root}
+use Rattle.tree.specs.EncodeLaws.{good_of, sound-above, unique, length-node, empty-proper}
+use Rattle.tree.specs.StandingLaws.{root-fields}
 use Rattle.check_types.specs.Image.{mark_value, image, InRange, types_as}
 use Rattle.check_types.specs.ImageLaws.{image-back, measure-map, length-image, image-sound, rising-map}
 use Rattle.check_environments.specs.declared.Environment.{Environment}
 use Rattle.check_environments.specs.declared.Step.{Step}
-use Rattle.check_environments.specs.Environment.{tree_of, bytes_for, standing, Shape, EnvironmentFor, step_of, ShapeIn, StepAnswers}
+use Rattle.check_environments.specs.Environment.{tree_of, bytes_for, standing, Shape, EnvironmentFor, step_of, StepAnswers}
 use Rattle.check_environments.specs.Listing.{preorder}
 
 -- ---- what a step answers

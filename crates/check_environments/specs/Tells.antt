@@ -1,13 +1,13 @@
 -- What the functions of this crate tell, each for every environment Γ that its argument stands for, every file that none of 2 to 5
 -- refuses and every row of it; on other bytes the functions end and say nothing.
-use Rattle.std.specs.Prelude.{◌≡◌, List, Bool, true, false, ℕ, ◌+◌, ◌<◌, ◌≤◌}
-use Rattle.tree_forest.specs.Forest.{Forest, Tree, Lookup, absent, present}
+use Rattle.std.specs.Prelude.{◌≡◌, List, Bool, true, false, ℕ, ◌<◌, ◌≤◌}
+use Rattle.tree_forest.specs.Forest.{Tree}
 use Rattle.refusal.specs.declared.Refusal.TheVariants.{PathNotFirm}
 use Rattle.scalar.specs.Basic.{last_basic}
 use Rattle.scalar.specs.Value.{Value}
 use Rattle.network_syntax.specs.Syntax.{Types, MessageType}
 use Rattle.check_subtyping.specs.Subtype.{root_basic, is_subtype}
-use Rattle.check_typing.specs.Result.{Attempt, fails, yields, demand, Checked, with_row}
+use Rattle.check_typing.specs.Result.{Attempt, fails, yields, with_row}
 use Rattle.check_typing.specs.Environment.{is_in, read_firm, place, assign_to}
 use Rattle.check_typing.specs.Checker.{same_types, limited, answers}
 use Rattle.check_typing.specs.NetworkRules.{union}

@@ -2,7 +2,7 @@
 use Rattle.std.specs.Prelude.{◌≡◌, List, [], ◌∷◌, Bool, true, ◌&&◌, ℕ, max, ◌+◌, ◌≤◌, T, eqb}
 use Rattle.std.proofs.Common.{ap, sym, subst, ◌∙◌, arith, eqb→eq}
 use Rattle.basics.specs.TestLaws.{T_of, and_l, and-of, and_r, of_t}
-use Rattle.tree_forest.specs.Forest.{end, node, tree, Lookup, absent, present, find, set, Above, Rising, measure, nodes, levels}
+use Rattle.tree_forest.specs.Forest.{end, node, tree, Lookup, absent, present, find, set, Above, Rising, measure}
 use Rattle.tree_forest.specs.ForestLaws.{Combining}
 use Rattle.network_syntax.specs.Syntax.{Mark, mark, Types, MessageType}
 use Rattle.check_subtyping.specs.SubtypeLaws.{find-above}

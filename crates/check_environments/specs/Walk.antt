@@ -1,6 +1,6 @@
 -- What the functions below the surface tell: where a path leads in the bytes of an environment, and a type put at a path.
 use Rattle.std.specs.Prelude.{◌≡◌, List, [], ◌∷◌, Bool, true, false, ℕ, ◌+◌, ◌-◌, ◌<◌, ◌≤◌, length, get_or, take, drop}
-use Rattle.tree_forest.specs.Forest.{Forest, end, Tree, tree, node_of, RisingTree, absent, present, find, set, nodes, levels, map_tree}
+use Rattle.tree_forest.specs.Forest.{Forest, end, Tree, node_of, RisingTree, absent, present, find, set, nodes, levels, map_tree}
 use Rattle.tree_forest.specs.Path.{Path, path, read, replace_at}
 use Rattle.scalar.specs.Basic.{last_basic}
 use Rattle.scalar.specs.Value.{Value}

@@ -1,4 +1,6 @@
 // Environments by value, in the byte form of trees: looking up, placing, assigning, comparing, uniting.
+#![tactic(auto)]
+
 ghost use Rattle.std.specs.Prelude.{◌≡◌, true, ℕ, ◌+◌, ◌≤◌, ◌<◌, length, get_or, take, drop};
 ghost use Rattle.tree_forest.specs.Forest.{end};
 ghost use Rattle.refusal.specs.declared.Verdict.TheVariants.{Done};
