@@ -1,6 +1,8 @@
 // Taking a while's body "sets every row below it to undone" (docs/DECISIONS.md, 40): the rows of a behaviour in the slot of the state that
 // starts at `slot`. Sub-behaviours are later rows: `left` counts the rows left, so the walk ends on any bytes. Every function is exact on any
 // bytes; in a file in which each row is used once every row is written once.
+#![tactic(auto)]
+
 ghost use Rattle.std.specs.Prelude.{◌≡◌, ◌+◌, ◌*◌, ◌≤◌, ◌<◌, length};
 ghost use Rattle.network_row_parts.specs.RowSets.{itself_row, rows_to};
 ghost use Rattle.state_reopening.specs.Reopening.{rows_below, with_undone, Clears, ClearsBranches};
