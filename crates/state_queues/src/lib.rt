@@ -1,5 +1,7 @@
 // The queue of a session in the bytes of a state: reading an entry, the oldest message of an operation, taking one out, queueing one more.
 // `slot` is where the session's slot starts. docs/STATE.md has the bytes.
+#![tactic(auto)]
+
 ghost use Rattle.std.specs.Prelude.{◌≡◌, ◌+◌, ◌*◌, ◌≤◌, ◌<◌, length};
 ghost use Rattle.wire.specs.Wire.{part, with_part};
 ghost use Rattle.state.specs.Places.{slot_size, message_room, entry_size, entry_start};
