@@ -1,5 +1,7 @@
 // Slots of a state's bytes: tree and key of a live session, a session that becomes new or free. Each function changes
 // the bytes that it names and no others; SlotLaws say which session the slot holds afterwards.
+#![tactic(auto)]
+
 ghost use Rattle.std.specs.Prelude.{◌≡◌, ◌+◌, ◌≤◌, ◌<◌, length};
 ghost use Rattle.state.specs.Places.{slot_size, tree_room};
 ghost use Rattle.state_slots.specs.Slots.{tree_in, begun, tree_stored, key_stored, freed};
