@@ -1,38 +1,36 @@
 -- Changed trees of sessions, at each of the ways out of the code.
 use mathlib.Core.Path.{◌≡◌, refl, sym, ap, subst, ◌∙◌}
 use mathlib.Core.Bool.{Bool, true, false, not, ◌&&◌}
-use mathlib.Core.List.{List, [], ◌∷◌}
-use Prim.Native.Nat.{ℕ, ◌+◌, ◌≤◌, ◌<◌}
+use mathlib.Core.List.{List}
+use Prim.Native.Nat.{ℕ, ◌≤◌, ◌<◌}
 use native.Mathlib.Omega.{arith}
-use lib.ListN.{length, take, length-take}
+use lib.ListN.{length, take}
 use lib.Dec.{leb}
 use borrow.Author.Tests.{le-leb}
-use Rattle.tree_forest.specs.Forest.{Forest, end, Tree, tree, Lookup, absent, present, nodes, levels}
+use Rattle.tree_forest.specs.Forest.{Forest, end, Tree, tree, Lookup, nodes, levels}
 use Rattle.tree_forest.specs.Path.{Path, replace_at, set_payload_at}
-use Rattle.scalar.specs.Value.{Value, value}
-use Rattle.basics.specs.Choice.{pick}
+use Rattle.scalar.specs.Value.{Value}
 use Rattle.basics.specs.TestLaws.{unequal}
-use Rattle.tree.specs.Encode.{encode, rooted, WellFormedTree, Encodes, empty}
+use Rattle.tree.specs.Encode.{Encodes, empty}
 use Rattle.tree_forest.specs.Limits.{message_levels_below, message_nodes_below, session_levels, session_nodes}
-use Rattle.tree.specs.Decode.{decode, is_tree}
+use Rattle.tree.specs.Decode.{is_tree}
 use Rattle.tree_forest.specs.Forest.{is_present}
 use Rattle.tree.specs.DecodeLaws.{decode-complete, encodes-up}
 use Rattle.tree.specs.Ids.{is_path, path_from_ids}
 use Rattle.tree_edit.specs.Limited as limited
 use Rattle.tree_edit.specs.declared.Grown.{Grown}
-use Rattle.check_typing.specs.Environment.{within}
 use Rattle.network_rows.specs.Readers.{path_ids}
 use Rattle.network_row_parts.specs.PathLaws.{ids-path, path-is}
 use Rattle.state.specs.Places.{tree_room}
-use Rattle.state.specs.Session.{Session, live}
-use Rattle.state.specs.Bytes.{tree_bytes, message_bytes}
+use Rattle.state.specs.Session.{Session}
+use Rattle.state.specs.Bytes.{tree_bytes}
 use Rattle.state.specs.SizeLaws.{message-size, session-tree-size}
 use Rattle.scalar.specs.Value.{void_value}
 use Rattle.state_slots.specs.Slots.{tree_in}
 use Rattle.state_slots.specs.SlotLaws.{living-tree}
 use Rattle.state_slots.specs.Living.{Living}
 use Rattle.state_trees.specs.declared.Change.{Change}
-use Rattle.state_trees.specs.Changing.{KeptTree, ChangedTo, kept_bytes, Replaces, ReplacesAt, SetsLeaf, change_of, KeptAs}
+use Rattle.state_trees.specs.Changing.{ChangedTo, kept_bytes, Replaces, ReplacesAt, SetsLeaf, change_of, KeptAs}
 
 -- ---- the writer's answer
 

@@ -1,6 +1,6 @@
 -- What the functions say of a session's changed tree, for every slot that holds a live session. 01, 18: "an assign, a receive or a message
 -- that passes 19 would take a tree past 48 nodes or 6 levels".
-use Rattle.std.specs.Prelude.{◌≡◌, Bool, true, false, List, ℕ, ◌≤◌, ◌<◌, length, take}
+use Rattle.std.specs.Prelude.{◌≡◌, true, false, List, ℕ, ◌≤◌, ◌<◌, length, take}
 use Rattle.tree_forest.specs.Forest.{Forest, end, Tree, tree}
 use Rattle.tree_forest.specs.Path.{replace_at, set_payload_at}
 use Rattle.scalar.specs.Value.{Value}

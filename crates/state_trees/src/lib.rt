@@ -1,5 +1,7 @@
 // A session's tree with a change, written to a scratch buffer, and whether it keeps to its limits. 01: "assign sets one root value and keeps
 // children. Writing makes missing steps void."; receive "replaces the subtree"; 18: "would take a tree past 48 nodes or 6 levels".
+#![tactic(auto)]
+
 ghost use Rattle.std.specs.Prelude.{◌+◌, ◌≤◌, length};
 ghost use Rattle.state_trees.specs.Changing.{Replaces, ReplacesAt, SetsLeaf, KeptAs};
 ghost use Rattle.state.specs.Places.{slot_size};
