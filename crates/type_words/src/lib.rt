@@ -1,4 +1,6 @@
 // Words and marks of a text of types: what stands at a place, and what a word says.
+#![tactic(auto)]
+
 ghost use Rattle.std.specs.Prelude.{◌≡◌, ◌+◌, ◌-◌, ◌≤◌, ◌<◌, length, get_or, drop};
 ghost use Rattle.wire.specs.Wire.{part};
 ghost use Rattle.scalar.specs.Value.{word_of};
