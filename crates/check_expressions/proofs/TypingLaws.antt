@@ -1,11 +1,9 @@
 -- Laws of typing expressions: one for each way out of the functions.
 use Prim.Native.Nat.{ℕ, ◌<◌, ◌≤◌}
 use mathlib.Core.Path.{◌≡◌, refl, sym, ◌∙◌, ap, subst}
-use mathlib.Core.List.{List, [], ◌∷◌}
+use mathlib.Core.List.{List}
 use lib.Dec.{eqb}
 use lib.ListN.{length}
-use types.Run.{OneOf, miss}
-use denote.Enum.Declared.{tag_of}
 use mathlib.Core.Bool.{Bool, true, false}
 use native.Mathlib.Omega.{arith}
 use borrow.Author.Tests.{ne_eqb, le-ltb}
@@ -15,7 +13,7 @@ use Rattle.scalar.specs.Basic.{bool, raw, last_basic}
 use Rattle.scalar.specs.Value.{value}
 use Rattle.basics.specs.Choice.{pick}
 use Rattle.basics.specs.TestLaws.{of_eq, of_lt, eq_of}
-use Rattle.network_syntax.specs.Syntax.{Types, MessageType, Unary, Binary}
+use Rattle.network_syntax.specs.Syntax.{Types, MessageType}
 use Rattle.network_syntax.specs.Syntax.{Expression, constant, value_at, presence, unary, binary}
 use Rattle.check_subtyping.specs.Subtype.{root_basic}
 use Rattle.check_typing.specs.Result.{Attempt, fails, yields, demand, and_then, with_row}
@@ -34,7 +32,6 @@ use Rattle.network_row_parts.specs.declared.UnaryOperator.{UnaryOperator}
 use Rattle.network_row_parts.specs.declared.BinaryOperator.{BinaryOperator}
 use Rattle.network_row_parts.specs.declared.Part.{Part}
 use Rattle.check_expressions.specs.declared.Typing.{Typing}
-use Rattle.check_expressions.specs.contracts.Typing as typings
 use Rattle.network_row_parts.specs.Parts.{unary_of, binary_of, expression_part}
 use Rattle.check_expressions.specs.Typings.{entry_typing, table_typing, is_refused, root_typed, with_basic}
 use Rattle.check_expressions.specs.Typings.{operator_typed, TypedAs, ValueTyped, PresenceTyped, TypingTells}
@@ -52,20 +49,20 @@ entry-none row o b f e = rw (sym f, of_eq _ none e) refl
 pub entry-some : (row o b : ℕ) {c : ℕ} → c ≡ column_of b → (table_at o c ≡ none → ⊥) → Typing.Leaf (table_at o c) ≡ entry_typing row (table_at o (column_of b))
 entry-some row o b {c} f h = rw (sym f, ne_eqb (table_at o c) none h) refl
 
-given : (x : Typing) → OneOf (0 ∷ 1 ∷ []) (tag_of typings.the_type x) → is_refused x ≡ false
+given : (x : Typing) → ((why : Refusal) → x ≡ Typing.Refused why → ⊥) → is_refused x ≡ false
 given (Typing.At at b) k = refl
 given (Typing.Leaf b) k = refl
-given (Typing.Refused why) k = absurd (miss (0 ∷ 1 ∷ []) 2 tt k)
+given (Typing.Refused why) k = absurd (k why refl)
 
-pub right-refused : (row o : ℕ) (x : Typing) {y : Typing} {why : Refusal} → OneOf (0 ∷ 1 ∷ []) (tag_of typings.the_type x) → y ≡ Typing.Refused why
+pub right-refused : (row o : ℕ) (x : Typing) {y : Typing} {why : Refusal} → ((why : Refusal) → x ≡ Typing.Refused why → ⊥) → y ≡ Typing.Refused why
     → y ≡ operator_typed row o x y
 right-refused row o x k e = rw (given x k, e) refl
 
-pub alone : (row o : ℕ) (x : Typing) {i b : ℕ} {z : Typing} → OneOf (0 ∷ 1 ∷ []) (tag_of typings.the_type x) → i ≡ o → b ≡ root_typed x
+pub alone : (row o : ℕ) (x : Typing) {i b : ℕ} {z : Typing} → ((why : Refusal) → x ≡ Typing.Refused why → ⊥) → i ≡ o → b ≡ root_typed x
     → z ≡ entry_typing row (table_at i (column_of b)) → z ≡ operator_typed row o x x
 alone row o x {i} {b} k f g h = rw (given x k, sym g, of_eq b b refl, sym f) h
 
-module _ (row o : ℕ) (x y : Typing) (k : OneOf (0 ∷ 1 ∷ []) (tag_of typings.the_type x)) (l : OneOf (0 ∷ 1 ∷ []) (tag_of typings.the_type y)) where
+module _ (row o : ℕ) (x y : Typing) (k : ((why : Refusal) → x ≡ Typing.Refused why → ⊥)) (l : ((why : Refusal) → y ≡ Typing.Refused why → ⊥)) where
   pub unlike : {b c : ℕ} → b ≡ root_typed x → c ≡ root_typed y → (b ≡ c → ⊥) → Typing.Refused (OperandType row) ≡ operator_typed row o x y
   unlike {b} {c} g h n = rw (given x k, given y l, sym g, sym h, ne_eqb b c n) refl
 

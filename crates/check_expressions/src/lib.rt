@@ -1,5 +1,7 @@
 // The type of an expression, given by its E row, in an environment. Operands are earlier rows: the row number falls, so the walk ends on
 // any bytes.
+#![tactic(auto)]
+
 ghost use Rattle.std.specs.Prelude.{◌≡◌, ◌<◌, length};
 ghost use Rattle.check_expressions.specs.Table.{operator_rules, table_at, unary_row, binary_row, column_of};
 ghost use Rattle.check_expressions.specs.Typings.{entry_typing, root_typed, operator_typed, ValueTyped, PresenceTyped, TypingTells};

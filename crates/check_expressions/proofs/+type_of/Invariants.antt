@@ -1,0 +1,4 @@
+use Rattle.check_expressions.proofs.+type_of.Given as goal
+
+abbrev pub decreases-type_of : goal.decreases-type_of
+decreases-type_of l = l.r
