@@ -1,28 +1,26 @@
 -- Laws of starters and clients: one for each way out of the functions.
-use Prim.Native.Nat.{ℕ, zero, suc, ◌+◌, ◌-◌, ◌<◌, ◌≤◌}
+use Prim.Native.Nat.{ℕ, zero, suc, ◌+◌, ◌-◌, ◌<◌}
 use mathlib.Core.Path.{◌≡◌, refl, sym, ◌∙◌, ap, subst}
 use mathlib.Core.List.{List, [], ◌∷◌}
 use mathlib.Core.Bool.{Bool, true, false, not, ◌&&◌}
 use native.Mathlib.Omega.{arith}
 use borrow.Author.Tests.{le-leb}
-use types.Run.{OneOf, miss}
-use denote.Enum.Declared.{tag_of}
 use Rattle.basics.specs.TestLaws.{T_of, both_true, not-false, not-true, one_less, positive}
 use Rattle.tree_forest.specs.Forest.{end, Rising}
 use Rattle.refusal.specs.declared.Refusal.{Refusal}
 use Rattle.refusal.specs.declared.Refusal.TheVariants.{EnvironmentsDiffer, EnvironmentTooLarge}
 use Rattle.refusal.specs.declared.Verdict.{Verdict}
 use Rattle.refusal.specs.declared.Verdict.TheVariants.{Done, Refused}
-use Rattle.network_syntax.specs.Syntax.{Types, Behaviour, sequence, choice}
+use Rattle.network_syntax.specs.Syntax.{Types, Behaviour, choice}
 use Rattle.network_syntax.specs.Rows.{row_of}
-use Rattle.check_typing.specs.Result.{Attempt, yields, demand, Checked, refused, passed, with_row, next, verdict_of}
+use Rattle.check_typing.specs.Result.{yields, demand, Checked, refused, passed, with_row, next, verdict_of}
 use Rattle.check_typing.specs.Environment.{within}
 use Rattle.check_typing.specs.Checker.{limited, check}
-use Rattle.check_typing.specs.NetworkRules.{OneTypeEach, sequences_of, branches_of, union, union_of}
+use Rattle.check_typing.specs.NetworkRules.{sequences_of, branches_of, union, union_of}
 use Rattle.check_typing.specs.NetworkLaws.{AllRising, each-one-sound}
 use Rattle.check_typing.specs.Branches.{union_from, one_type_from}
 use Rattle.check_typing.specs.BranchesLaws.{one_type-in-order, union-in-order}
-use Rattle.check_typing.specs.NetworkChecker.{check_each, one_type, one_type_with, one_type_each, check_starter, check_client}
+use Rattle.check_typing.specs.NetworkChecker.{check_each, one_type, one_type_with, one_type_each, check_starter}
 use Rattle.network.specs.declared.BehaviourKind.{BehaviourKind}
 use Rattle.network.specs.Form.{WellFormed}
 use Rattle.network.specs.Layout.{behaviour_count, behaviour_at}
@@ -32,14 +30,12 @@ use Rattle.network.specs.RowLaws.{next-at}
 use Rattle.network_rows.specs.declared.BehaviourRow.{BehaviourRow}
 use Rattle.network_rows.specs.declared.BranchRow.{BranchRow}
 use Rattle.network_rows.specs.Readers.{behaviour_row_as, behaviour_row_of, BranchAt}
-use Rattle.network_rows.specs.contracts.BehaviourRow as rows
 use Rattle.check_environments.specs.declared.Environment.{Environment}
 use Rattle.check_environments.specs.declared.Step.{Step}
 use Rattle.check_environments.specs.Environment.{standing, Shape, EnvironmentFor, step_of, StepAnswers}
 use Rattle.check_environments.specs.EnvironmentLaws.{answers-as, answers-done, answers-refused, answers-refuse, answers-pass, stands-empty}
-use Rattle.check_environments.specs.UnionLaws.{union_from-within, union-within, from_start}
+use Rattle.check_environments.specs.UnionLaws.{union_from-within, from_start}
 use Rattle.check_environments.specs.Tells.{OneTyped, Unites}
-use Rattle.network_row_parts.specs.Behaviours.{BranchSubs}
 use Rattle.check_behaviours.specs.Checks.{Checks, Sequences}
 use Rattle.network_row_parts.specs.KindLaws.{row_is}
 use Rattle.check_starters.specs.Starters.{branch_of_row, branch_list, BranchRun, BranchGives, Each, Against, OneEach, UnitesAll, Joins, Gathers, StarterChecks, Clients}
@@ -390,10 +386,6 @@ pub ruleset gather-laws = (gathers-none, gathers-refused, gathers-more, gathers-
 
 -- ---- starters and clients
 
--- The kinds that are no choice.
-abbrev others : List ℕ
-others = 0 ∷ 1 ∷ 2 ∷ 3 ∷ 4 ∷ 5 ∷ 6 ∷ 7 ∷ 8 ∷ 9 ∷ 11 ∷ 12 ∷ []
-
 -- A row whose kind is a choice is read as one.
 choice-row : (file : List ℕ) (r : ℕ) → kind_at file r ≡ BehaviourKind.Choice
     → behaviour_row_of file r ≡ BehaviourRow.Choice (field_a file (behaviour_at file r)) (field_b file (behaviour_at file r))
@@ -414,10 +406,8 @@ branches-listed q r first n file =
     (sequences-listed file n first)
 
 -- The row is no choice.
-pub starts_other : (file : List ℕ) (q r : ℕ) {x : BehaviourRow} {s : Step} → x ≡ behaviour_row_of file r → OneOf others (tag_of rows.the_type x) → StarterChecks file q r s
-starts_other file q r {x} e h = record {
-  tells = λ w l i. absurd (miss others 10 tt (subst (λ (y : BehaviourRow). OneOf others (tag_of rows.the_type y)) (e ∙ choice-row file r i) h));
-}
+pub starts_other : (file : List ℕ) (q r : ℕ) {x : BehaviourRow} {s : Step} → x ≡ behaviour_row_of file r → ((first n : ℕ) → x ≡ BehaviourRow.Choice first n → ⊥) → StarterChecks file q r s
+starts_other file q r {x} e h = record { tells = λ w l i. absurd (h _ _ (e ∙ choice-row file r i)) }
 
 module _ (file : List ℕ) (q r : ℕ) {left at first n : ℕ} {x : BehaviourRow} (a : left ≡ behaviour_count file) (b : x ≡ behaviour_row_of file r)
     (c : x ≡ BehaviourRow.Choice first n) (e : at ≡ behaviour_at file first) where

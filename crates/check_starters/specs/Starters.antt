@@ -3,7 +3,7 @@ use Rattle.std.specs.Prelude.{◌≡◌, List, [], ◌∷◌, Bool, true, ℕ, z
 use Rattle.refusal.specs.declared.Verdict.{Verdict}
 use Rattle.tree_forest.specs.Forest.{end}
 use Rattle.network_syntax.specs.Syntax.{Types, Behaviour, sequence}
-use Rattle.check_typing.specs.Result.{yields, demand, Checked, passed, with_row, next, verdict_of}
+use Rattle.check_typing.specs.Result.{yields, demand, passed, with_row, next, verdict_of}
 use Rattle.check_typing.specs.Checker.{limited, check}
 use Rattle.check_typing.specs.NetworkRules.{union_of}
 use Rattle.check_typing.specs.NetworkLaws.{AllRising}

@@ -1,6 +1,8 @@
 // Starters and clients: "Starter branches and clients start from empty Γ; a root bound by two branches has one type, else 10; the starter's
 // environment is their union." Each branch is checked once, and its environment united with those before it. Only where a root has two types
 // or the union passes the limit are the branches checked again and compared two by two, for 10 comes before 12.
+#![tactic(auto)]
+
 ghost use Rattle.std.specs.Prelude.{ℕ, ◌+◌, ◌*◌, ◌<◌};
 ghost use Rattle.check_roots.specs.Sets.{Separates};
 ghost use Rattle.check_starters.specs.Starters.{BranchGives, Each, Against, OneEach, UnitesAll, Joins, Gathers, StarterChecks, Clients};

@@ -1,0 +1,4 @@
+use Rattle.check_starters.proofs.+against.Given as goal
+
+abbrev pub decreases-against : goal.decreases-against
+decreases-against l = l.n

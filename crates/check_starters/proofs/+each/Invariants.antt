@@ -1,0 +1,4 @@
+use Rattle.check_starters.proofs.+each.Given as goal
+
+abbrev pub decreases-each : goal.decreases-each
+decreases-each l = l.n
