@@ -1,5 +1,7 @@
 // The value of an expression, given by its E row, in a session's tree. Operands are earlier rows: the row number falls, so the walk ends
 // on any bytes.
+#![tactic(auto)]
+
 ghost use Rattle.std.specs.Prelude.{◌≡◌, ◌&&◌, ◌≤◌, length};
 ghost use Rattle.scalar.specs.Value.{SoundText};
 ghost use Rattle.scalar.specs.Scalar.{answer_of, value_of, kind_of};

@@ -1,0 +1,4 @@
+use Rattle.move_evaluation.proofs.+evaluate.Given as goal
+
+abbrev pub decreases-evaluate : goal.decreases-evaluate
+decreases-evaluate l = l.r
