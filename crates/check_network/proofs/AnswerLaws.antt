@@ -13,20 +13,20 @@ use Rattle.refusal.specs.declared.Verdict.{Verdict}
 use Rattle.refusal.specs.declared.Verdict.TheVariants.{Done, Refused}
 use Rattle.basics.specs.Choice.{pick}
 use Rattle.basics.specs.TestLaws.{one_less, true-false}
-use Rattle.network_syntax.specs.Syntax.{Types, Behaviour, Optional, none, some, Service, Network}
+use Rattle.network_syntax.specs.Syntax.{Types, Behaviour, Optional, none, some, Network}
 use Rattle.check_typing.specs.Result.{Checked, refused, passed, next, verdict_of}
 use Rattle.check_typing.specs.NetworkRules.{Environments}
 use Rattle.check_typing.specs.NetworkChecker.{check_starter, check_client, if_there, check_services, check_outputs, check_keys, check_network}
 use Rattle.network.specs.declared.BehaviourKind.{BehaviourKind}
 use Rattle.network.specs.Form.{form_of, WellFormed}
-use Rattle.network.specs.Layout.{behaviour_count, operation_count, service_count}
+use Rattle.network.specs.Layout.{behaviour_count, service_count}
 use Rattle.network.specs.Rows.{kind_at, is_choice_kind, is_branch_kind, starter_row, client_row, no_row, starter_fits, client_fits}
 use Rattle.network.specs.RowLaws.{service-kept}
 use Rattle.network.specs.Decode.{behaviour_of, service_of, rows_from, network_of}
 use Rattle.network.specs.UseLaws.{choice-kind}
 use Rattle.check_environments.specs.declared.Environment.{Environment}
 use Rattle.check_environments.specs.declared.Step.{Step}
-use Rattle.check_environments.specs.Environment.{standing, step_of, ShapeIn, StepAnswers}
+use Rattle.check_environments.specs.Environment.{standing, step_of, ShapeIn}
 use Rattle.check_starters.specs.Starters.{StarterChecks, Clients}
 use Rattle.check_outputs.specs.Outputs.{Outputs}
 use Rattle.check_keys.specs.Keys.{Keys}

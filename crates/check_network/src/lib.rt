@@ -1,4 +1,6 @@
 // The checker of network files: refusals 2 to 13 and 23, or the environments of every service.
+#![tactic(auto)]
+
 ghost use Rattle.std.specs.Prelude.{◌≡◌, ℕ, ◌+◌, ◌≤◌};
 ghost use Rattle.network.specs.Layout.{service_count};
 ghost use Rattle.check_files.specs.FileChecker.{check_file};

@@ -1,0 +1,5 @@
+use Rattle.check_network.proofs.AnswerLaws.{empty-laws}
+use Rattle.check_network.proofs.verdict_only.Goals as goal
+
+pub returns : goal.returns
+returns c = search empty-laws depth 12
