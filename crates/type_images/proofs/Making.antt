@@ -19,7 +19,7 @@ use Rattle.tree_edit.specs.Wrote.{Wrote}
 use Rattle.tree_edit.specs.WroteLaws.{wrote-more}
 use Rattle.tree_edit.specs.Change.{replaced}
 use Rattle.network_syntax.specs.Syntax.{Mark, mark, Types}
-use Rattle.check_types.specs.Image.{flag, mark_value, image}
+use Rattle.check_types.specs.Image.{flag, mark_value}
 use Rattle.check_types.specs.TypeRowsLaws.{TypeKeeps}
 use Rattle.type_text.specs.Meaning.{as_child}
 use Rattle.type_images.specs.declared.TypeImage.{TypeImage}

@@ -1,4 +1,6 @@
 // Types as encoded trees, by value: a basic type alone, a copy of a type that was made before, and a type with one child more.
+#![tactic(auto)]
+
 ghost use Rattle.std.specs.Prelude.{◌≡◌, true, ◌≤◌, length};
 ghost use Rattle.tree.specs.Decode.{is_tree};
 ghost use Rattle.type_images.specs.TypeImages.{LeafMade, TypeCopied, BytesPut, ChildPut};
