@@ -1,14 +1,12 @@
 -- Records of nodes: one after another, and those of an environment, at each of the ways out of the code.
 use mathlib.Core.Path.{◌≡◌, refl, sym, ap, subst, ◌∙◌}
-use mathlib.Core.List.{List, [], ◌∷◌, ◌++◌, append_assoc}
-use mathlib.Core.Bool.{Bool, true, false}
-use Prim.Native.Nat.{ℕ, zero, suc, max, ◌+◌, ◌-◌, ◌*◌, ◌/◌, ◌%◌, ◌≤◌, ◌<◌}
-use native.Mathlib.Nat.{add-zero}
+use mathlib.Core.List.{List, [], ◌∷◌, ◌++◌}
+use mathlib.Core.Bool.{Bool}
+use Prim.Native.Nat.{ℕ, zero, suc, ◌+◌, ◌-◌, ◌*◌, ◌/◌, ◌%◌, ◌≤◌, ◌<◌}
 use native.Mathlib.Numerals.{add-one}
 use native.Mathlib.Omega.{arith}
 use lib.ListN.{length, get_or, drop, length-append}
 use lib.Seq.{drop-cons, drop-length}
-use lib.Dec.{ltb}
 use borrow.Author.Tests.{lt-ltb, le-ltb}
 use Rattle.tree_forest.specs.Forest.{end, node, measure, nodes, levels}
 use Rattle.basics.specs.Choice.{pick}
@@ -18,9 +16,9 @@ use Rattle.tree_edit.specs.Wrote.{Wrote}
 use Rattle.tree_edit.specs.WroteLaws.{wrote_none, wrote-more, wrote_as}
 use Rattle.check_environments.specs.declared.Environment.{Environment}
 use Rattle.check_environments.specs.declared.Entry.{Entry}
-use Rattle.check_environments.specs.Environment.{bytes_for, standing, EnvironmentFor}
+use Rattle.check_environments.specs.Environment.{standing, EnvironmentFor}
 use Rattle.check_environments.specs.EnvironmentLaws.{bytes-length, length-preorder}
-use Rattle.check_environments.specs.Listing.{entry_at, no_entry, preorder, Lists}
+use Rattle.check_environments.specs.Listing.{no_entry, preorder, Lists}
 use Rattle.check_listing.specs.Listed.{id_bytes, node_bytes, nodes_bytes}
 use Rattle.check_listing.specs.Writing.{nodes_by, NodesWritten, EnvironmentWritten}
 

@@ -1,5 +1,5 @@
 -- What the functions that write the records say, for every environment that stands in the bytes.
-use Rattle.std.specs.Prelude.{◌≡◌, List, [], ◌++◌, ℕ, suc, ◌+◌, ◌-◌, ◌*◌, ◌/◌, ◌≤◌, length, drop, ltb}
+use Rattle.std.specs.Prelude.{◌≡◌, List, [], ℕ, ◌+◌, ◌-◌, ◌*◌, ◌/◌, ◌≤◌, drop, ltb}
 use Rattle.tree_forest.specs.Forest.{nodes}
 use Rattle.basics.specs.Choice.{pick}
 use Rattle.network_syntax.specs.Syntax.{Types}
@@ -10,8 +10,8 @@ use Rattle.check_environments.specs.Environment.{EnvironmentFor}
 use Rattle.check_environments.specs.Listing.{preorder}
 use Rattle.check_network.specs.declared.Pair.{Pair}
 use Rattle.check_network.specs.declared.Answer.{Answer}
-use Rattle.check_network.specs.Answer.{pair_of, pair_at, ShapedPair, ShapedAll}
-use Rattle.check_listing.specs.Listed.{nodes_bytes, pair_bytes, environments_bytes, environments_nodes}
+use Rattle.check_network.specs.Answer.{pair_of, ShapedPair}
+use Rattle.check_listing.specs.Listed.{nodes_bytes, pair_bytes}
 
 -- The nodes that an environment's length tells: a node has 7 bytes, the root 5.
 abbrev pub nodes_by : Environment → ℕ

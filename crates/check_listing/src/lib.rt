@@ -1,4 +1,6 @@
 // The environments of an accepted file as bytes, 18 for each node, for callers in other languages.
+#![tactic(auto)]
+
 ghost use Rattle.std.specs.Prelude.{◌≡◌, ◌+◌, ◌*◌, ◌≤◌, ◌<◌, length};
 ghost use Rattle.basics.specs.Choice.{pick};
 ghost use Rattle.check_files.specs.FileChecker.{check_file};
