@@ -12,7 +12,7 @@ use Rattle.wire.specs.Wire.{byte_at, u16_at}
 use Rattle.basics.specs.Choice.{pick}
 use Rattle.basics.specs.TestLaws.{not-false, not-true, one_less, true-false}
 use Rattle.network_syntax.specs.Rows.{Input, input_of, choice_of}
-use Rattle.network_syntax.specs.Syntax.{input, Behaviour, Optional, none, some, Service}
+use Rattle.network_syntax.specs.Syntax.{Behaviour, Optional, none, some, Service}
 use Rattle.check_typing.specs.Rules.{permits}
 use Rattle.network.specs.declared.BehaviourKind.{BehaviourKind}
 use Rattle.network.specs.Form.{WellFormed}

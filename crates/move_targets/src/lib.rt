@@ -1,5 +1,7 @@
 // Whom a message meets. 01, Moves: "send, with a target session: to the input it meets, queued at a live one, or starting a free 1 to 3, whose
 // first starter branch of that operation receives it."
+#![tactic(auto)]
+
 ghost use Rattle.std.specs.Prelude.{◌≡◌, ◌+◌, ◌*◌, ◌≤◌, ◌<◌, length};
 ghost use Rattle.network.specs.Decode.{operation_of, rows_from, network_of};
 ghost use Rattle.network_syntax.specs.Meets.{first_of};
