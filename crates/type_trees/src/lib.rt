@@ -1,4 +1,6 @@
 // The second pass over a text of types: the ids of its child names, and each declaration's type as an encoded tree.
+#![tactic(auto)]
+
 ghost use Rattle.std.specs.Prelude.{◌≡◌, [], ◌⊎◌, false, suc, ◌+◌, ◌*◌, ◌≤◌, ◌<◌, length};
 ghost use Rattle.wire.specs.Wire.{u16_at};
 ghost use Rattle.type_text.specs.Meaning.{first_uses, id_of};
