@@ -10,8 +10,8 @@ use lib.Dec.{leb}
 use lib.ListN.{length, drop, get_or}
 use borrow.Author.Tests.{le-leb}
 use Rattle.basics.specs.TestLaws.{both_true, not-false}
-use Rattle.utf8.specs.Utf8.{range, in_range, tail, is_utf8}
-use Rattle.utf8.specs.Octets.{least_after, most_after, word, Fitting, Whole}
+use Rattle.utf8.specs.Utf8.{in_range, tail, is_utf8}
+use Rattle.utf8.specs.Octets.{word, Fitting, Whole}
 use Rattle.utf8.proofs.OctetLaws.{count-two, count-three, second-E0, second-ED, second-any, second-last, third_last, whole}
 
 -- ---- bits of four octets

@@ -1,6 +1,8 @@
 // Is a sequence of octets UTF-8, as RFC 3629 defines it? Octets below 80 at the start are passed over by eights, then characters of three
 // octets by fours or of two octets by twos; the rest is read character by character: the first octet tells how many it has, and in which range
 // the second lies.
+#![tactic(auto)]
+
 ghost use Rattle.std.specs.Prelude.{◌≡◌, true, ◌+◌, ◌≤◌, eqb, length, drop, get_or};
 ghost use Rattle.utf8.specs.Utf8.{range, in_range, tail, is_utf8};
 ghost use Rattle.utf8.specs.Octets.{count_after, least_after, most_after, high_bits, word, Fitting, Whole};
