@@ -1,5 +1,7 @@
 // Which rows are done and which are reached: 01, Moves, "A row is *ready* when ..", "A nil is done, and so is ..". A row's progress is read
 // from the slot of the state that starts at `slot`. Sub-behaviours are later rows: `left` counts the rows left, so the walks end on any bytes.
+#![tactic(auto)]
+
 ghost use Rattle.std.specs.Prelude.{◌≡◌, ◌+◌, ◌*◌, ◌<◌, ◌≤◌, true, false};
 ghost use Rattle.network.specs.Decode.{behaviour_to, behaviour_of};
 ghost use Rattle.network_rows.specs.declared.BehaviourRow.{BehaviourRow};

@@ -1,0 +1,41 @@
+use Rattle.move_readiness.proofs.MarkLaws.{ways-laws}
+use Rattle.move_readiness.proofs.ways_of.Goals as goal
+
+pub returns-in-Nil : goal.returns-in-Nil
+returns-in-Nil c = search ways-laws depth 12
+
+pub returns-in-OneWay : goal.returns-in-OneWay
+returns-in-OneWay c = search ways-laws depth 12
+
+pub returns-in-RequestResponse : goal.returns-in-RequestResponse
+returns-in-RequestResponse c = search ways-laws depth 12
+
+pub returns-in-Notification : goal.returns-in-Notification
+returns-in-Notification c = search ways-laws depth 12
+
+pub returns-in-SolicitResponse : goal.returns-in-SolicitResponse
+returns-in-SolicitResponse c = search ways-laws depth 12
+
+pub returns-in-If : goal.returns-in-If
+returns-in-If c = search ways-laws depth 12
+
+pub returns-in-While : goal.returns-in-While
+returns-in-While c = search ways-laws depth 12
+
+pub returns-in-Sequence : goal.returns-in-Sequence
+returns-in-Sequence c = search ways-laws depth 12
+
+pub returns-in-Parallel : goal.returns-in-Parallel
+returns-in-Parallel c = search ways-laws depth 12
+
+pub returns-in-Assign : goal.returns-in-Assign
+returns-in-Assign c = search ways-laws depth 12
+
+pub returns-in-Choice : goal.returns-in-Choice
+returns-in-Choice c = search ways-laws depth 12
+
+pub returns-in-Branch : goal.returns-in-Branch
+returns-in-Branch c = search ways-laws depth 12
+
+pub returns-in-Unknown : goal.returns-in-Unknown
+returns-in-Unknown c = search ways-laws depth 12
