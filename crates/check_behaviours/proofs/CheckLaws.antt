@@ -6,15 +6,13 @@ use mathlib.Core.Bool.{Bool, true, false, not, ◌&&◌}
 use native.Mathlib.Omega.{arith}
 use lib.Dec.{eqb}
 use borrow.Author.Tests.{eq-eqb, ne_eqb}
-use Rattle.tree_forest.specs.Path.{Path}
 use Rattle.refusal.specs.declared.Refusal.{Refusal}
 use Rattle.refusal.specs.declared.Refusal.TheVariants.{WrongOperation, OperandType, TypeMisfit, EnvironmentsDiffer, SharedRoot}
-use Rattle.refusal.specs.declared.Verdict.{Verdict}
 use Rattle.refusal.specs.declared.Verdict.TheVariants.{Done, Refused}
 use Rattle.scalar.specs.Basic.{bool, last_basic}
 use Rattle.basics.specs.Choice.{pick}
 use Rattle.basics.specs.TestLaws.{not-false, not-true, one_less}
-use Rattle.network_syntax.specs.Syntax.{Types, MessageType, Expression, input, output, Behaviour, nil, sequence, parallel, choice}
+use Rattle.network_syntax.specs.Syntax.{Types, MessageType, input, output, Behaviour, nil, sequence, parallel, choice}
 use Rattle.check_expressions.specs.TypingsLaws.{refused-first}
 use Rattle.check_subtyping.specs.Subtype.{root_basic, is_subtype}
 use Rattle.check_typing.specs.Result.{Attempt, yields, demand, and_then, Checked, refused, passed, with_row, next}
@@ -22,13 +20,12 @@ use Rattle.check_typing.specs.Environment.{basic_leaf, place, assign_to}
 use Rattle.check_typing.specs.ExpressionTyping as typed
 use Rattle.check_typing.specs.Occurs.{no_shared_root}
 use Rattle.check_typing.specs.Rules.{permits}
-use Rattle.check_typing.specs.Checker.{same_types, limited, sends, answers, condition, agreeing, check, check_branches}
-use Rattle.check_typing.specs.Branches.{conclude_choice}
+use Rattle.check_typing.specs.Checker.{same_types, limited, sends, answers, condition, check}
 use Rattle.check_typing.specs.BranchesLaws.{first-branch, next-branch, last-branch}
 use Rattle.network.specs.Form.{WellFormed}
 use Rattle.network.specs.Layout.{path_count, type_count, expression_count, behaviour_count, operation_count, behaviour_at}
 use Rattle.network.specs.Rows.{field_a, field_b, request_type, reply_type}
-use Rattle.network.specs.RowLaws.{RootKept, OperationKept, operation-kept, next-at}
+use Rattle.network.specs.RowLaws.{operation-kept, next-at}
 use Rattle.network.specs.Decode.{path_of, type_of, expression_of, operation_of, branches_from, behaviour_of}
 use Rattle.network.specs.DecodeLaws.{reply-row}
 use Rattle.network_rows.specs.declared.BehaviourRow.{BehaviourRow}
@@ -38,7 +35,7 @@ use Rattle.check_types.specs.Tells.{BasicUnder}
 use Rattle.check_environments.specs.declared.Environment.{Environment}
 use Rattle.check_environments.specs.declared.Step.{Step}
 use Rattle.check_environments.specs.Environment.{EnvironmentFor, step_of, StepAnswers}
-use Rattle.check_environments.specs.EnvironmentLaws.{answers-as, answers-done, answers-refused, answers-refuse, answers-pass, stands-once}
+use Rattle.check_environments.specs.EnvironmentLaws.{answers-as, answers-done, answers-refused, answers-refuse, answers-pass}
 use Rattle.check_environments.specs.Tells.{Places, Assigns, Asks, ReadAt, TypeUnder, SameEnvironments}
 use Rattle.check_expressions.specs.declared.Typing.{Typing}
 use Rattle.check_expressions.specs.Typings.{TypedAs, TypingTells}
@@ -46,7 +43,7 @@ use Rattle.check_expressions.specs.SmallLaws.{small-typing}
 use Rattle.check_roots.specs.Sets.{SetsApart, Separates}
 use Rattle.check_operations.specs.Directions.{direction_of}
 use Rattle.check_operations.specs.PermitsLaws.{two-way}
-use Rattle.network_row_parts.specs.Behaviours.{behaviour_by, Sub, BranchSubs, KeptBy}
+use Rattle.network_row_parts.specs.Behaviours.{behaviour_by, Sub, BranchSubs}
 use Rattle.check_behaviours.specs.Checks.{SendsType, SendChecks, Receives, condition_step, Conditions, BranchesAgree, LeafChecks, RowChecks, ParallelChecks, Checks, Sequences, Settles, go_on, ChecksBranches}
 use Rattle.network_row_parts.specs.KindLaws.{row_is}
 

@@ -1,6 +1,6 @@
 -- What the functions of this crate tell: each for every environment Γ that its argument stands for and every file that none of 2 to 5
 -- refuses; on other bytes the functions end and say nothing.
-use Rattle.std.specs.Prelude.{◌≡◌, List, Bool, true, false, ℕ, zero, suc, ◌+◌, ◌<◌, ◌≤◌, eqb}
+use Rattle.std.specs.Prelude.{◌≡◌, List, Bool, ℕ, zero, suc, ◌+◌, ◌<◌, ◌≤◌, eqb}
 use Rattle.refusal.specs.declared.Refusal.TheVariants.{WrongOperation, OperandType, EnvironmentsDiffer}
 use Rattle.refusal.specs.declared.Verdict.TheVariants.{Done}
 use Rattle.scalar.specs.Basic.{bool}

@@ -1,5 +1,7 @@
 // The checker of behaviours, given by B rows: from an environment the environment that a row leaves, or the first refusal of 6 to 12.
 // Sub-behaviours are later rows: `left` counts the rows left, so the walk ends on any bytes. `sets` are the root ids of the B rows.
+#![tactic(auto)]
+
 ghost use Rattle.std.specs.Prelude.{◌≡◌, ℕ, ◌+◌, ◌*◌, ◌<◌};
 ghost use Rattle.network_rows.specs.declared.BehaviourRow.{BehaviourRow};
 ghost use Rattle.check_roots.specs.Sets.{Separates};
