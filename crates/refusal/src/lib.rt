@@ -1,4 +1,6 @@
 // What a check, a move or the reading of a text answers: how many bytes it wrote out, and that it is done or why it is refused.
+#![tactic(auto)]
+
 ghost use Rattle.std.specs.Prelude.{◌≡◌};
 ghost use Rattle.refusal.specs.Refusal.{number_of, place_of, outcome_number, outcome_place, done_with, refused_by};
 
