@@ -1,5 +1,7 @@
 // Whether bytes that come as a message, or as a reply, may pass. 01, 17: "Outside bytes are no message."; 19: "A message doesn't fit its input's
 // request type, a reply its waiting row's reply type, or either, outbound, the sender's."
+#![tactic(auto)]
+
 ghost use Rattle.move_fitting.specs.Fitting.{Passes};
 
 use refusal::{Refusal, Verdict};
