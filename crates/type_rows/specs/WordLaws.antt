@@ -1,8 +1,8 @@
 -- Words, lists of words, and the ids that they give.
-use Rattle.std.specs.Prelude.{ℕ, suc, ◌+◌, ◌≤◌, ◌<◌, ◌≡◌, refl, List, [], ◌∷◌, ◌++◌, Bool, true, false, ◌||◌, length, eqb}
+use Rattle.std.specs.Prelude.{ℕ, suc, ◌+◌, ◌≤◌, ◌<◌, ◌≡◌, refl, List, [], ◌∷◌, ◌++◌, Bool, true, false, ◌||◌, length}
 use Rattle.std.proofs.Common.{sym, ◌∙◌, ap, arith}
 use Rattle.basics.specs.Choice.{pick}
-use Rattle.basics.specs.TestLaws.{apart, true-false, clash, and-of, both_true, or_left, or_right, eq_of, of_eq}
+use Rattle.basics.specs.TestLaws.{apart, true-false, clash, or_left, or_right}
 use Rattle.type_text.specs.Grammar.{same_word, among}
 use Rattle.type_text.specs.ReaderLaws.{same-word-is, same-word-self}
 use Rattle.type_text.specs.Meaning.{first_uses, id_of}

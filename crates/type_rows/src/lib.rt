@@ -1,1 +1,2 @@
 // The rows of declared types.
+#![tactic(auto)]
