@@ -1,17 +1,16 @@
 -- A session's slot and what it runs, at each of the ways out of the code.
 use mathlib.Core.Path.{◌≡◌, refl, sym, ap, subst, ◌∙◌}
-use mathlib.Core.Bool.{Bool, true, false}
+use mathlib.Core.Bool.{Bool}
 use mathlib.Core.Logic.{inl, inr}
 use mathlib.Core.List.{List}
-use Prim.Native.Nat.{ℕ, ◌+◌, ◌*◌, ◌≤◌, ◌<◌}
+use Prim.Native.Nat.{ℕ, ◌+◌, ◌≤◌, ◌<◌}
 use native.Mathlib.Omega.{arith}
 use lib.Dec.{eqb}
 use borrow.Author.Tests.{eq-eqb, ne_eqb}
 use Rattle.basics.specs.Choice.{pick}
 use Rattle.wire.specs.Wire.{byte_at}
 use Rattle.network_syntax.specs.Syntax.{Behaviour, Optional, none, some}
-use Rattle.network.specs.Form.{WellFormed}
-use Rattle.network.specs.Decode.{behaviour_of, network_of}
+use Rattle.network.specs.Decode.{network_of}
 use Rattle.state.specs.Places.{slot_size, slot_start}
 use Rattle.state.specs.Session.{Session, Slot, free, live, State}
 use Rattle.state.specs.Bytes.{read_session, read_slot}
@@ -22,7 +21,7 @@ use Rattle.move_targets.specs.declared.Runs as targets
 use Rattle.move_targets.specs.Answers.{behaviour_run, RowExists, RunsIn}
 use Rattle.state_slots.specs.SlotLaws.{stands-living}
 use Rattle.move_frame.specs.declared.Running.{Running}
-use Rattle.move_frame.specs.Made.{StateOf, InSession, Runs, RunsAt}
+use Rattle.move_frame.specs.Made.{StateOf, InSession, RunsAt}
 
 -- A free session, and one that runs nothing, allow no move.
 free-session : (file : List ℕ) (G : State) (q n : ℕ) → G q n ≡ free → (f : Behaviour → Session → Result) → in_session (network_of file) G q n f ≡ not_allowed

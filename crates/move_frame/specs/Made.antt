@@ -1,14 +1,14 @@
 -- What the code of a move promises: for a file that none of 2 to 5 refuses and bytes that stand for the state G, its outcome and the final
 -- bytes of the lent buffers are those of the move's definition (`finish` of move_rules/Step). 01: "A move's result is a number and the bytes
 -- written out. Out bytes past that count stay." On other files and bytes a move ends and this says nothing; `step` refuses them first.
-use Rattle.std.specs.Prelude.{◌≡◌, List, ℕ, ◌+◌, ◌*◌, ◌<◌, ◌≤◌, length}
+use Rattle.std.specs.Prelude.{◌≡◌, List, ℕ, ◌+◌, ◌<◌, ◌≤◌, length}
 use Rattle.refusal.specs.declared.Outcome.{Outcome}
-use Rattle.network_syntax.specs.Syntax.{Network, Behaviour, Optional, some}
+use Rattle.network_syntax.specs.Syntax.{Network, Behaviour, some}
 use Rattle.network.specs.Form.{WellFormed}
 use Rattle.network.specs.Layout.{behaviour_count}
 use Rattle.network.specs.Decode.{behaviour_of, network_of}
 use Rattle.state.specs.Places.{slot_size, slot_start, state_size, out_room}
-use Rattle.state.specs.Session.{Session, Slot, live, State}
+use Rattle.state.specs.Session.{Session, live, State}
 use Rattle.state.specs.Bytes.{read_session}
 use Rattle.state.specs.Shape.{behaviour_in, Stands}
 use Rattle.move_rules.specs.Moves.{Result, not_allowed, in_session}

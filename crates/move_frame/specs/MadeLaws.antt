@@ -1,20 +1,19 @@
 -- Laws of moves in code: refused, and made in one session; the session that runs, and the target of a message.
-use Rattle.std.specs.Prelude.{◌≡◌, refl, List, [], ◌∷◌, ◌++◌, ℕ, ◌+◌, ◌*◌, ◌<◌, ◌≤◌, length, drop}
-use Rattle.std.proofs.Common.{sym, ap, subst, ◌∙◌, arith}
+use Rattle.std.specs.Prelude.{◌≡◌, List, [], ℕ, ◌+◌, ◌<◌, ◌≤◌}
+use Rattle.std.proofs.Common.{sym, ap, subst, ◌∙◌}
 use Rattle.refusal.specs.declared.Refusal.{Refusal}
 use Rattle.refusal.specs.declared.Outcome.{Outcome}
 use Rattle.refusal.specs.Refusal.{done_with, refused_by}
 use Rattle.wire.specs.Wire.{with_part}
-use Rattle.network_syntax.specs.Syntax.{Network, Behaviour, Optional, none, some}
+use Rattle.network_syntax.specs.Syntax.{Network, Behaviour, Optional}
 use Rattle.network.specs.Form.{WellFormed}
-use Rattle.network.specs.Layout.{behaviour_count}
 use Rattle.network.specs.Decode.{behaviour_of, network_of, operation_of}
 use Rattle.state.specs.Places.{slot_size, slot_start}
-use Rattle.state.specs.Session.{Session, Slot, free, live, State, set_slot}
+use Rattle.state.specs.Session.{Session, Slot, State, set_slot}
 use Rattle.state.specs.Bytes.{slot_bytes, state_bytes, read_state}
-use Rattle.state.specs.Shape.{behaviour_in, MadeSlot, Stands}
+use Rattle.state.specs.Shape.{MadeSlot}
 use Rattle.state.specs.ReadLaws.{read-state}
-use Rattle.move_rules.specs.Moves.{Result, refused, moved, not_allowed, on_live, on_behaviour, in_session}
+use Rattle.move_rules.specs.Moves.{Result, refused, moved, on_live, on_behaviour, in_session}
 use Rattle.move_rules.specs.Step.{Step, finish}
 use Rattle.move_rules.specs.Targets as definition
 use Rattle.state_slots.specs.SlotLaws.{stands_set}

@@ -1,12 +1,12 @@
 -- Laws of the stepper, one for each way out: refused by 1, 2 to 5 or 14, or as the move's code says.
-use Rattle.std.specs.Prelude.{◌≡◌, refl, Bool, true, false, ◌&&◌, List, ℕ, ◌≤◌, ◌<◌, length, eqb, leb}
+use Rattle.std.specs.Prelude.{◌≡◌, Bool, true, false, ◌&&◌, List, ℕ, ◌≤◌, ◌<◌, length, leb}
 use Rattle.std.proofs.Common.{sym, ◌∙◌, eq-eqb, ne_eqb, le-leb}
 use Rattle.std.proofs.Math.Path.{ap}
 use Rattle.std.proofs.lemmas.Bool.{lt-leb}
 use Rattle.refusal.specs.declared.Refusal.{Refusal}
 use Rattle.refusal.specs.declared.Refusal.TheVariants.{BufferSize, NoState}
 use Rattle.refusal.specs.declared.Verdict.{Verdict}
-use Rattle.refusal.specs.declared.Verdict.TheVariants.{Done, Refused}
+use Rattle.refusal.specs.declared.Verdict.TheVariants.{Refused}
 use Rattle.refusal.specs.declared.Outcome.{Outcome}
 use Rattle.refusal.specs.Refusal.{refused_by}
 use Rattle.basics.specs.Choice.{pick}
@@ -18,7 +18,7 @@ use Rattle.network.specs.Decode.{network_of}
 use Rattle.state.specs.Places.{state_size, out_room}
 use Rattle.state.specs.Session.{State}
 use Rattle.state.specs.Bytes.{read_state}
-use Rattle.state.specs.Shape.{decode_state, Stands}
+use Rattle.state.specs.Shape.{decode_state}
 use Rattle.state.specs.ShapeLaws.{decode-state-sound}
 use Rattle.move_rules.specs.Moves.{Move, move}
 use Rattle.move_rules.specs.Step.{Step, refuse, finish, on_form, on_state, buffers_fit, step}

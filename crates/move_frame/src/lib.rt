@@ -1,4 +1,6 @@
 // What every move in a session begins with: the session's slot and what it runs.
+#![tactic(auto)]
+
 ghost use Rattle.move_frame.specs.Made.{RunsAt};
 
 use move_targets::Runs;
