@@ -1,1 +1,2 @@
 // The checker of network files as a definition: specs/ alone.
+#![tactic(auto)]

@@ -1,1 +1,2 @@
 // Subtyping of message types: definitions and laws only (specs/).
+#![tactic(auto)]

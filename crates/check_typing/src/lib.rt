@@ -1,1 +1,2 @@
 // Typing of networks: definitions and laws only (specs/).
+#![tactic(auto)]

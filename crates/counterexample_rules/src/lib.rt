@@ -1,1 +1,2 @@
 // A message that breaks it: definitions and laws only (specs/).
+#![tactic(auto)]

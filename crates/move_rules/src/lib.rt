@@ -1,1 +1,2 @@
 // The moves of a running network.
+#![tactic(auto)]

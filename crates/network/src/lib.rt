@@ -1,4 +1,5 @@
 // The network file: the answers that its readers share. Definitions and laws are in specs/.
+#![tactic(auto)]
 
 // The place of a broken rule, a byte offset in the file, or none.
 #[derive(Clone, Copy)]

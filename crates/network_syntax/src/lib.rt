@@ -1,1 +1,2 @@
 // The abstract syntax of networks: definitions only (specs/).
+#![tactic(auto)]

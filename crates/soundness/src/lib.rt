@@ -1,1 +1,2 @@
 // Property 3: type soundness of the moves, over the definitions alone.
+#![tactic(auto)]

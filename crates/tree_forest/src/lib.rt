@@ -1,1 +1,2 @@
 // The generic forest: definitions and laws only (specs/).
+#![tactic(auto)]

@@ -1,1 +1,2 @@
 // A text of types: its words and marks.
+#![tactic(auto)]
