@@ -1,7 +1,7 @@
 -- The operators of expressions on values. 01, Typing: "Not, and: bool; both operands are worked out. Negate, add, subtract,
 -- less: int, long or double, both alike. Equal: alike, not void; doubles by IEEE equality .. a double sum is rounded once." 02: "Int and
 -- long add, subtract and negate no longer wrap". Operands of another kind are wrong; a move then refuses with 18.
-use Rattle.std.specs.Prelude.{List, [], ◌∷◌, Bool, true, false, not, ◌&&◌, ℕ, zero, ◌/◌, eqb, ℤ, neg_ℤ, ◌+ℤ◌, ◌-ℤ◌, Float}
+use Rattle.std.specs.Prelude.{List, [], ◌∷◌, Bool, true, false, not, ◌&&◌, ℕ, ◌/◌, eqb, ℤ, neg_ℤ, ◌+ℤ◌, ◌-ℤ◌, Float}
 use Rattle.std.specs.Int.Signed.{lt_z}
 use Rattle.std.specs.Float.{binary64}
 use Rattle.std.specs.Float.Ieee.{of_bits, to_bits}
