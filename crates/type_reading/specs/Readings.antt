@@ -1,5 +1,5 @@
 -- What the reading functions tell, in terms of the reader's definition.
-use Rattle.std.specs.Prelude.{◌≡◌, List, [], ◌∷◌, Bool, true, false, ℕ, suc, ◌+◌, ◌-◌, ◌*◌, ◌≤◌, ◌<◌, length, take, ◌⊎◌}
+use Rattle.std.specs.Prelude.{◌≡◌, List, [], ◌∷◌, Bool, true, false, ℕ, suc, ◌+◌, ◌*◌, ◌≤◌, ◌<◌, length, take, ◌⊎◌}
 use Rattle.network_syntax.specs.Syntax.{none, some}
 use Rattle.type_words.specs.Told.{mark_token}
 use Rattle.type_text.specs.Spelling.{colon, opening, closing, dot}

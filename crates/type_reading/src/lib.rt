@@ -1,5 +1,7 @@
 // Reading a text of types: are its bytes of the grammar, and how large is each type? A table keeps the types declared so far, a stack the child
 // names of the lists that are open; both hold places of names in the text.
+#![tactic(auto)]
+
 ghost use Rattle.std.specs.Prelude.{◌≡◌, ◌⊎◌, suc, ◌+◌, ◌-◌, ◌*◌, ◌≤◌, ◌<◌, max, length};
 ghost use Rattle.wire.specs.Wire.{u16_at};
 ghost use Rattle.type_text.specs.Grammar.{same_word, among};

@@ -1,0 +1,4 @@
+use Rattle.type_reading.proofs.known.Goals as goal
+
+pub returns : goal.returns
+returns c = cc

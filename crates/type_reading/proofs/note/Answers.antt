@@ -1,0 +1,4 @@
+use Rattle.type_reading.proofs.note.Goals as goal
+
+pub returns : goal.returns
+returns c = cc
