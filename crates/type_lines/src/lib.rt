@@ -1,4 +1,6 @@
 // The T rows of a type that stands in bytes as a tree of marks, written level by level.
+#![tactic(auto)]
+
 ghost use Rattle.std.specs.Prelude.{◌≡◌, [], ◌∷◌, ◌+◌, ◌*◌, ◌≤◌, length, eqb};
 ghost use Rattle.basics.specs.Choice.{pick};
 ghost use Rattle.network_syntax.specs.Syntax.{mark};
