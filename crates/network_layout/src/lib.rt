@@ -1,4 +1,6 @@
 // The network file's sections; refusals 2 and 3; the lowest of places. Readers are total: a byte past the end counts as 0.
+#![tactic(auto)]
+
 ghost use Rattle.std.specs.Prelude.{◌≡◌, ◌&&◌, ◌||◌, ◌+◌, ◌<◌, eqb, ltb};
 ghost use Rattle.basics.specs.Choice.{pick};
 ghost use Rattle.network_layout.specs.Loops.{clip};
