@@ -15,7 +15,7 @@ use Rattle.wire.specs.Wire.{byte_at, u32_at, part, unsigned_of}
 use Rattle.scalar.specs.Basic.{int}
 use Rattle.scalar.specs.Value.{Value, value}
 use Rattle.scalar.specs.ValueLaws.{integer-bytes, number-32}
-use Rattle.tree_forest.specs.Forest.{Tree, tree, Lookup, present, find}
+use Rattle.tree_forest.specs.Forest.{Tree, tree, present, find}
 use Rattle.tree_forest.specs.Limits.{message_levels_below, message_nodes_below}
 use Rattle.tree.specs.declared.Head.{Head}
 use Rattle.tree.specs.declared.Found.{Found}
@@ -34,16 +34,15 @@ use Rattle.network.specs.Decode.{behaviour_of, network_of}
 use Rattle.network.specs.RowLaws.{counts-kept}
 use Rattle.network.specs.NetworkLaws.{service-key}
 use Rattle.state.specs.Places.{slot_start}
-use Rattle.state.specs.Session.{Slot, free, live}
 use Rattle.state.specs.Bytes.{read_key, read_session, read_slot, read_state}
 use Rattle.move_rules.specs.Targets as definition
-use Rattle.move_rules.specs.Keys.{int_of, key_of, key_or_zero, key_to_keep, live_with, finds_by_key, finds_by, finds_session}
+use Rattle.move_rules.specs.Keys.{int_of, key_of, key_or_zero, key_to_keep, finds_by_key, finds_by, finds_session}
 use Rattle.move_targets.specs.declared.Target.{Target}
 use Rattle.move_targets.specs.Answers.{start_with, target_as}
 use Rattle.move_targets.specs.SessionLaws.{slot_read, target-far}
 use Rattle.move_keys.specs.declared.Key.{Key}
 use Rattle.move_keys.specs.declared.Finding.{Finding}
-use Rattle.move_keys.specs.Finding.{key_found, IntAt, MessageKey, HoldsKey, IsHeld, IsTarget, GoesTo, FoundAs, Finds}
+use Rattle.move_keys.specs.Finding.{key_found, IntAt, MessageKey, HoldsKey, IsHeld, IsTarget, GoesTo, Finds}
 
 -- ---- the key of a message
 

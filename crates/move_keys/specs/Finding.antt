@@ -9,7 +9,7 @@ use Rattle.network_syntax.specs.Syntax.{Optional, none, some, Network, Operation
 use Rattle.network.specs.Form.{WellFormed}
 use Rattle.network.specs.Layout.{service_count}
 use Rattle.network.specs.Decode.{network_of}
-use Rattle.state.specs.Session.{Slot, State}
+use Rattle.state.specs.Session.{State}
 use Rattle.state.specs.Bytes.{read_state}
 use Rattle.move_rules.specs.Targets as definition
 use Rattle.move_rules.specs.Keys.{int_of, key_of, key_to_keep, live_with, finds_by_key, finds_session}

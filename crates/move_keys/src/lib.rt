@@ -1,5 +1,7 @@
 // Sessions by key. 02: "A message goes only to the live session 1 to 3 with its key, or starts one where no live session has it; another target,
 // and any target of a message without that int, is 15".
+#![tactic(auto)]
+
 ghost use Rattle.std.specs.Prelude.{◌≡◌};
 ghost use Rattle.move_keys.specs.Finding.{IntAt, MessageKey, HoldsKey, IsHeld, GoesTo, Finds};
 
