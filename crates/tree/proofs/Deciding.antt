@@ -1,11 +1,11 @@
 -- What `is_tree`, `is_session_tree` and `within` find, one law for each way out.
 use mathlib.Core.Path.{◌≡◌, refl, ap, sym, subst, ◌∙◌}
-use mathlib.Core.List.{List, [], ◌∷◌, ◌++◌}
+use mathlib.Core.List.{List, ◌++◌}
 use mathlib.Core.Bool.{Bool, true, false, not, ◌&&◌}
-use Prim.Native.Nat.{ℕ, zero, suc, max, ◌+◌, ◌-◌, ◌≤◌, ◌<◌}
+use Prim.Native.Nat.{ℕ, ◌+◌, ◌-◌, ◌≤◌, ◌<◌}
 use native.Mathlib.Omega.{arith}
 use native.Mathlib.Decide.{dec_lt}
-use lib.ListN.{length, get_or, take, drop}
+use lib.ListN.{length, get_or, drop}
 use lib.Dec.{eqb, leb}
 use borrow.Author.Tests.{eq-eqb, ne_eqb, le-leb, lt-leb, not-true, not-false}
 use Rattle.tree_forest.specs.Forest.{Forest, end, node, Tree, tree, Lookup, absent, present, Rising, nodes, levels}
@@ -16,8 +16,8 @@ use Rattle.basics.specs.TestLaws.{both_true}
 use Rattle.tree.specs.Encode.{root_count, payload, children, encode, rooted, Octets, Proper, SoundValues}
 use Rattle.tree.specs.Decode.{id_at, basic_at, count_at, value_at, next_at, head_ok, head_at, Parse, bad, past, test, parse, scan, whole_of, decode, is_tree, empty_root, is_session_tree}
 use Rattle.tree_forest.specs.Forest.{is_present}
-use Rattle.tree.specs.Standing.{Good, Within}
-use Rattle.tree.specs.EncodeLaws.{Got, got, fault, Fields, node-fields, encode-node, parse-complete, parse-sound, scanned, unscanned, good_of, of-good, sound-above, unique}
+use Rattle.tree.specs.Standing.{Within}
+use Rattle.tree.specs.EncodeLaws.{got, fault, Fields, node-fields, encode-node, parse-complete, parse-sound, scanned, unscanned, good_of, of-good, sound-above, unique}
 use Rattle.tree.specs.StandingLaws.{no-fault, no-bad}
 use Rattle.tree.specs.declared.Head.{Head}
 use Rattle.tree.specs.declared.Head.TheVariants.{Node, Fault}

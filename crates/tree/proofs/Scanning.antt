@@ -1,15 +1,15 @@
 -- What `head_at` and `kids` find, one law for each way out.
-use mathlib.Core.Path.{◌≡◌, refl, ap, sym, ◌∙◌}
-use mathlib.Core.List.{List, [], ◌∷◌}
+use mathlib.Core.Path.{◌≡◌, refl, sym, ◌∙◌}
+use mathlib.Core.List.{List}
 use mathlib.Core.Bool.{Bool, true, false, not, ◌&&◌}
-use Prim.Native.Nat.{ℕ, zero, suc, ◌+◌, ◌-◌, ◌*◌, ◌≤◌, ◌<◌}
+use Prim.Native.Nat.{ℕ, zero, suc, ◌+◌, ◌-◌, ◌≤◌, ◌<◌}
 use native.Mathlib.Omega.{arith}
 use lib.ListN.{length, get_or, take, drop, length-take, length-drop, get_or-eq_default}
 use lib.Seq.{get_or-take, get_or-drop}
-use lib.Dec.{eqb, leb, ltb}
+use lib.Dec.{ltb}
 use borrow.Author.Tests.{le-leb, lt-leb, lt-ltb, le-ltb, ltb-true, not-true, not-false}
 use Rattle.basics.specs.TestLaws.{apart, and-of}
-use Rattle.tree_forest.specs.Forest.{Forest, end, node}
+use Rattle.tree_forest.specs.Forest.{Forest, end}
 use Rattle.wire.specs.Wire.{u16_at}
 use Rattle.scalar.specs.Value.{Value, value, is_value}
 use Rattle.tree.specs.Decode.{id_at, basic_at, count_at, len_at, value_at, next_at, head_ok, head_at, Parse, bad, past, test, then_parse, join, parse_siblings, parse, erase, scan}

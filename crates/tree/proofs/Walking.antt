@@ -1,18 +1,16 @@
 -- What the functions that walk over a tree find, one law for each way out.
 use mathlib.Core.Path.{◌≡◌, refl, ap, sym, subst, ◌∙◌}
-use mathlib.Core.List.{List, [], ◌∷◌, ◌++◌}
+use mathlib.Core.List.{List, [], ◌∷◌}
 use mathlib.Core.Bool.{Bool, true, false, and-true}
-use Prim.Native.Nat.{ℕ, zero, suc, ◌+◌, ◌-◌, ◌≤◌, ◌<◌}
+use Prim.Native.Nat.{ℕ, ◌+◌, ◌-◌, ◌≤◌, ◌<◌}
 use native.Mathlib.Omega.{arith}
-use native.Mathlib.Numerals.{add-one}
-use lib.ListN.{length, get_or, take, drop, drop_of_length-le}
-use lib.Seq.{drop-cons}
+use lib.ListN.{length, get_or, drop, drop_of_length-le}
 use lib.Dec.{eqb}
 use borrow.Author.Tests.{eq-eqb, ne_eqb}
 use Rattle.tree_forest.specs.Compare.{compare}
-use Rattle.tree_forest.specs.Forest.{Forest, end, node, Tree, tree, node_of, Lookup, absent, present, find, children_of}
+use Rattle.tree_forest.specs.Forest.{Forest, end, node, Tree, tree, absent, present, find}
 use Rattle.tree_forest.specs.ForestLaws.{find-eq, find-lt, find-gt}
-use Rattle.tree_forest.specs.Path.{Path, path, read, read_steps}
+use Rattle.tree_forest.specs.Path.{read, read_steps}
 use Rattle.scalar.specs.Value.{Value, value}
 use Rattle.basics.specs.Choice.{pick}
 use Rattle.tree.specs.Encode.{root_count, children, encode}
@@ -20,7 +18,7 @@ use Rattle.tree.specs.Decode.{head_at}
 use Rattle.tree.specs.Ids.{steps, path_from_ids, all_zeros, ends_in_zeros, is_path, last_of, last_id}
 use Rattle.tree.specs.IdsLaws.{steps-stop, steps_on}
 use Rattle.tree.specs.Standing.{Row, Root, Stood, Spot, Ended, Sought, Below, Followed}
-use Rattle.tree.specs.StandingLaws.{row-root, row-rest, row-fields, root-kids, seen, unseen, root-seen, root-unseen}
+use Rattle.tree.specs.StandingLaws.{row-root, row-rest, root-kids, seen, unseen, root-seen, root-unseen}
 use Rattle.tree.specs.declared.Head.{Head}
 use Rattle.tree.specs.declared.Head.TheVariants.{Node, Fault}
 use Rattle.tree.specs.declared.Found.{Found}

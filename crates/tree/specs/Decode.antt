@@ -1,9 +1,9 @@
 -- Decoding: reading the byte form of a tree from the front, with the limits as parameters. `decode` is total; EncodeLaws and DecodeLaws
 -- prove that it gives the tree of every byte form, and nothing for any other bytes.
-use Rattle.std.specs.Prelude.{◌≡◌, List, [], Bool, true, false, ◌&&◌, ℕ, zero, suc, ◌+◌, ◌-◌, ◌*◌, length, get_or, take, drop, eqb, leb, ltb}
+use Rattle.std.specs.Prelude.{List, Bool, true, false, ◌&&◌, ℕ, zero, suc, ◌+◌, ◌-◌, length, get_or, take, drop, eqb, leb, ltb}
 use Rattle.wire.specs.Wire.{u16_at}
 use Rattle.tree_forest.specs.Forest.{is_present}
-use Rattle.tree_forest.specs.Forest.{Forest, end, node, Tree, tree, Lookup, absent, present}
+use Rattle.tree_forest.specs.Forest.{Forest, end, node, tree, Lookup, absent, present}
 use Rattle.scalar.specs.Value.{Value, value, is_value}
 use Rattle.basics.specs.Choice.{pick}
 use Rattle.scalar.specs.Basic.{void}

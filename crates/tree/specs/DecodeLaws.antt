@@ -1,21 +1,21 @@
 -- Decoding gives the tree of every byte form (`decode-complete`) and of nothing else (`decode-sound`); so the byte form is injective on
 -- well-formed trees (`encode_injective`). A larger limit changes nothing for what passes the smaller one (`decode-up`).
-use Rattle.std.specs.Prelude.{◌≡◌, refl, List, [], ◌∷◌, ◌++◌, Bool, true, false, ◌&&◌, ℕ, zero, suc, max, ◌+◌, ◌-◌, ◌≤◌, ◌<◌, length, get_or, take, drop, eqb}
-use Rattle.std.proofs.Common.{ap, sym, subst, ◌∙◌, append-nil, add-zero, arith, eq-eqb, ne_eqb, eqb-true}
+use Rattle.std.specs.Prelude.{◌≡◌, refl, List, [], ◌∷◌, ◌++◌, Bool, true, false, ℕ, suc, max, ◌+◌, ◌-◌, ◌≤◌, length, drop, eqb}
+use Rattle.std.proofs.Common.{ap, sym, subst, ◌∙◌, append-nil, arith, eq-eqb, eqb-true}
 use Rattle.std.proofs.Math.Seq.{drop-length}
-use Rattle.tree_forest.specs.Forest.{Forest, end, node, Tree, tree, node_of, Lookup, absent, present, measure, nodes, levels}
+use Rattle.tree_forest.specs.Forest.{Forest, end, node, Tree, tree, Lookup, absent, present, measure, nodes, levels}
 use Rattle.scalar.specs.Value.{Value, value, is_value}
 use Rattle.basics.specs.Choice.{pick}
 use Rattle.scalar.specs.Basic.{void}
 use Rattle.scalar.specs.ValueLaws.{void-empty}
-use Rattle.tree.specs.Encode.{empty, Message, root_count, payload, children, encode, rooted, Octets, Encodes, WellFormedTree}
+use Rattle.tree.specs.Encode.{empty, Message, root_count, children, encode, rooted, Octets, Encodes, WellFormedTree}
 use Rattle.tree_forest.specs.Limits.{message_levels_below, message_nodes_below}
 use Rattle.tree_forest.specs.Limits.{session_levels, session_nodes}
-use Rattle.tree.specs.Decode.{id_at, basic_at, count_at, len_at, value_at, next_at, head_ok, Parse, bad, past, test, parse, whole_of, decode}
+use Rattle.tree.specs.Decode.{id_at, basic_at, count_at, value_at, next_at, head_ok, Parse, bad, past, test, parse, whole_of, decode}
 use Rattle.tree_forest.specs.Forest.{is_present}
-use Rattle.tree.specs.Decode.{is_tree, is_message, empty_root, is_session_tree}
-use Rattle.tree.specs.Standing.{Good, Root}
-use Rattle.tree.specs.EncodeLaws.{NodeSized, sized, Fields, node-fields, encode-node, length-node, node-bytes, proper-at, parse-complete, parse-sound}
+use Rattle.tree.specs.Decode.{is_message, empty_root, is_session_tree}
+use Rattle.tree.specs.Standing.{Root}
+use Rattle.tree.specs.EncodeLaws.{sized, node-fields, encode-node, length-node, node-bytes, proper-at, parse-complete, parse-sound}
 use Rattle.tree.specs.EncodeLaws.{test-past, good_of, of-good, sound-above}
 use Rattle.tree.specs.StandingLaws.{encodes-root}
 

@@ -1,7 +1,7 @@
 -- Laws of the byte form: the fields that are read where a node's bytes stand, parsing what stands there (`parse-complete`) and standing of
 -- what is parsed (`parse-sound`), and well-formedness by parts.
-use Rattle.std.specs.Prelude.{◌≡◌, refl, List, [], ◌∷◌, ◌++◌, Bool, true, false, ◌&&◌, ℕ, zero, suc, max, ◌+◌, ◌-◌, ◌*◌, ◌/◌, ◌%◌, ◌≤◌, ◌<◌, length, get_or, take, drop, leb, ltb}
-use Rattle.std.proofs.Common.{ap, sym, subst, ◌∙◌, append_assoc, add-zero, add-suc, arith, length-take, length-drop, length-append, take-append-drop, drop-cons, get_or-drop, get_or-take, drop-drop, le-leb, lt-ltb, ltb-true, leb-true}
+use Rattle.std.specs.Prelude.{◌≡◌, refl, List, [], ◌∷◌, ◌++◌, Bool, true, false, ℕ, zero, suc, max, ◌+◌, ◌-◌, ◌/◌, ◌%◌, ◌≤◌, ◌<◌, length, get_or, take, drop, leb}
+use Rattle.std.proofs.Common.{ap, sym, ◌∙◌, append_assoc, add-zero, add-suc, arith, length-take, length-drop, length-append, take-append-drop, drop-cons, get_or-drop, get_or-take, drop-drop, le-leb, lt-ltb, ltb-true, leb-true}
 use Rattle.std.proofs.Math.Nat.{sub-zero}
 use Rattle.std.proofs.Math.Decide.{dec_lt}
 use Rattle.std.proofs.Math.ListN.{get_or-eq_default}
@@ -18,7 +18,6 @@ use Rattle.tree.specs.Decode.{parse, erase, scan}
 use Rattle.tree.specs.Standing.{Good}
 use Rattle.tree.specs.declared.Head.{Head}
 use Rattle.tree.specs.declared.Head.TheVariants.{Node, Fault}
-use Rattle.tree.specs.declared.Scan.{Scan}
 use Rattle.tree.specs.declared.Scan.TheVariants.{Past, Bad}
 
 pub part_length : (s : List ℕ) (at n : ℕ) → at + n ≤ length s → length (take n (drop at s)) ≡ n

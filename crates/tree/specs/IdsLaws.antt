@@ -1,10 +1,10 @@
 -- Laws of paths as ids: where the steps end, and what the next step is.
 use Rattle.std.specs.Prelude.{◌≡◌, refl, List, [], ◌∷◌, Bool, true, false, ℕ, zero, suc, ◌+◌, ◌≤◌, ◌<◌, length, get_or, drop, eqb}
-use Rattle.std.proofs.Common.{ap, sym, ◌∙◌, add-one, arith, drop_of_length-le, drop-cons, get_or-drop, eq-eqb, ne_eqb}
+use Rattle.std.proofs.Common.{ap, ◌∙◌, add-one, arith, drop_of_length-le, drop-cons, get_or-drop, eq-eqb, ne_eqb}
 use Rattle.std.proofs.Math.Decide.{dec_lt}
 use Rattle.std.proofs.Math.ListN.{get_or-eq_default}
 use Rattle.std.proofs.lemmas.Bool.{eqb-false}
-use Rattle.tree_forest.specs.Path.{Path, path}
+use Rattle.tree_forest.specs.Path.{path}
 use Rattle.basics.specs.Choice.{pick}
 use Rattle.tree.specs.Ids.{steps, path_from_ids, is_path, ends_in_zeros, is_none, Words}
 

@@ -1,6 +1,6 @@
 -- Forests and trees that stand at a position of a list of bytes: what the functions that walk over bytes say "for every tree that stands
 -- here". The limits are the largest, those of session trees and environments; a message keeps to them too.
-use Rattle.std.specs.Prelude.{◌≡◌, List, ◌++◌, Bool, true, ◌&&◌, ℕ, zero, suc, ◌+◌, ◌<◌, ◌≤◌, length, get_or, drop, leb}
+use Rattle.std.specs.Prelude.{◌≡◌, List, ◌++◌, Bool, true, ◌&&◌, ℕ, zero, suc, ◌+◌, ◌<◌, ◌≤◌, length, drop, leb}
 use Rattle.tree_forest.specs.Forest.{Forest, end, node, Tree, node_of, Lookup, absent, present, find, Rising, nodes, levels}
 use Rattle.tree_forest.specs.Path.{read}
 use Rattle.scalar.specs.Value.{Value}

@@ -1,20 +1,19 @@
 -- Laws of forests and trees that stand at a position: their headers, children and later siblings, and where they end.
-use Rattle.std.specs.Prelude.{◌≡◌, refl, List, [], ◌∷◌, ◌++◌, Bool, true, false, ℕ, zero, suc, ◌+◌, ◌-◌, ◌≤◌, ◌<◌, get_or, take}
+use Rattle.std.specs.Prelude.{◌≡◌, refl, List, [], ◌++◌, Bool, true, false, ℕ, ◌+◌, ◌-◌, ◌≤◌, take}
 use Rattle.std.proofs.Common.{ap, subst, ◌∙◌, append-nil, arith, length-drop, length-append}
 use Rattle.std.proofs.Math.Path.{sym}
 use Rattle.std.proofs.Math.ListN.{length, drop}
 use Rattle.std.proofs.Math.Seq.{drop-append_seam, take-append_seam}
 use Rattle.tree_forest.specs.Forest.{Forest, end, node, Tree, tree, node_of, measure, nodes}
-use Rattle.scalar.specs.Value.{Value, value, is_value}
-use Rattle.tree.specs.Encode.{root_count, payload, children, encode, rooted, Octets, Proper, Encodes, WellFormedTree}
+use Rattle.scalar.specs.Value.{Value, value}
+use Rattle.tree.specs.Encode.{root_count, children, encode, rooted, Encodes, WellFormedTree}
 use Rattle.tree_forest.specs.Limits.{session_levels, session_nodes}
-use Rattle.tree.specs.Decode.{id_at, basic_at, count_at, value_at, next_at, head_ok, head_at, Parse, bad, past, parse, erase, scan}
+use Rattle.tree.specs.Decode.{value_at, head_at, scan}
 use Rattle.tree.specs.Standing.{Good, Row, Root, Ended}
 use Rattle.tree.specs.EncodeLaws.{Got, got, fault, Fine, of-good, Fields, node-fields, encode-node, length-node, split-node, later, parse-complete}
 use Rattle.tree.specs.EncodeLaws.{good_of, good-up, sound-above}
 use Rattle.tree.specs.declared.Head.{Head}
 use Rattle.tree.specs.declared.Head.TheVariants.{Node, Fault}
-use Rattle.tree.specs.declared.Scan.{Scan}
 use Rattle.tree.specs.declared.Scan.TheVariants.{Past, Bad}
 
 pub no-fault : {b : Bool} {A : Type 0} → b ≡ true → b ≡ false → A

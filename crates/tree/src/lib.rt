@@ -1,4 +1,6 @@
 // Trees in bytes: messages, session trees and environments; validity and walking.
+#![tactic(auto)]
+
 ghost use Rattle.std.specs.Prelude.{◌≡◌, ◌&&◌, ◌+◌, ◌<◌, ltb, drop, get_or};
 ghost use Rattle.tree.specs.Encode.{Octets};
 ghost use Rattle.tree.specs.Decode.{head_at, scan, is_tree, is_message, is_session_tree, value_at};
