@@ -1,16 +1,16 @@
 -- One type written, at each of the ways out of the code.
 use mathlib.Core.Path.{◌≡◌, refl, sym, ◌∙◌, ap}
 use mathlib.Core.List.{List, [], ◌∷◌}
-use Prim.Native.Nat.{ℕ, suc, ◌+◌, ◌-◌, ◌*◌, ◌/◌, ◌≤◌, ◌<◌}
+use Prim.Native.Nat.{ℕ, ◌+◌, ◌*◌, ◌/◌, ◌≤◌, ◌<◌}
 use native.Mathlib.Omega.{arith}
 use lib.ListN.{length, take, drop, length-take}
-use Rattle.tree_forest.specs.Forest.{tree, Rising, RisingTree, nodes}
+use Rattle.tree_forest.specs.Forest.{tree, Rising, RisingTree}
 use Rattle.tree_edit.specs.Wrote.{Wrote}
 use Rattle.tree_edit.specs.WroteLaws.{wrote_as}
 use Rattle.check_subtyping.specs.Subtype.{root_children}
 use Rattle.network_syntax.specs.Syntax.{MessageType}
 use Rattle.type_text.specs.TypeRows.{by_levels, row_bytes, rows_in}
-use Rattle.type_images.specs.TypeImages.{image_of, image_size, HoldsType}
+use Rattle.type_images.specs.TypeImages.{image_of, image_size}
 use Rattle.type_images.specs.declared.TypeImage.{TypeImage}
 use Rattle.type_lines.specs.Emits.{TreeEmitted}
 use Rattle.type_lines.specs.EmitsLaws.{tree-emitted}

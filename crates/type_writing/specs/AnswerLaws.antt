@@ -1,9 +1,8 @@
 -- What a refused text leaves, and what stays past the rows.
-use Rattle.std.specs.Prelude.{◌≡◌, refl, List, [], ◌∷◌, ◌++◌, Bool, true, false, ℕ, ◌+◌, ◌*◌, length, take, drop, ltb}
-use Rattle.std.proofs.Common.{sym, ◌∙◌, ap, arith, drop_at}
+use Rattle.std.specs.Prelude.{◌≡◌, refl, List, Bool, true, false, ℕ, ◌+◌, ◌*◌, length, drop, ltb}
+use Rattle.std.proofs.Common.{◌∙◌, ap, arith, drop_at}
 use Rattle.basics.specs.Choice.{pick}
 use Rattle.refusal.specs.Refusal.{outcome_number}
-use Rattle.wire.specs.Wire.{with_part}
 use Rattle.network_syntax.specs.Syntax.{MessageType, Optional, none, some}
 use Rattle.type_text.specs.Grammar.{Declaration}
 use Rattle.type_text.specs.Reader.{Reading, parsed, offends, read_text}

@@ -1,12 +1,12 @@
 -- What was read of the parts, where the whole was read.
-use Rattle.std.specs.Prelude.{◌≡◌, refl, List, [], ◌∷◌, Bool, true, false, ℕ, suc}
+use Rattle.std.specs.Prelude.{◌≡◌, refl, List, [], ◌∷◌, Bool, true, false, ℕ}
 use Rattle.std.proofs.Math.Path.{sym}
-use Rattle.std.proofs.Common.{◌∙◌, ap, subst}
+use Rattle.std.proofs.Common.{◌∙◌, ap}
 use Rattle.basics.specs.Choice.{pick}
 use Rattle.network_syntax.specs.Syntax.{Optional, none, some}
 use Rattle.type_text.specs.Spelling.{opening, closing, dot}
 use Rattle.type_text.specs.Grammar.{Children, no_more, Declaration}
-use Rattle.type_text.specs.Reader.{Item, Reading, parsed, offends, read_then, expect, next_is, next_word, next_place, after_next, Side, inline, declaration_of}
+use Rattle.type_text.specs.Reader.{Item, Reading, parsed, offends, read_then, expect, next_is, next_word, after_next, Side, inline, declaration_of}
 use Rattle.type_text.specs.Reader.{basic_named, read_braces, read_type_tree_by, read_type_tree, read_children, read_declarations}
 use Rattle.type_reading.specs.Readings.{after_name}
 use Rattle.type_trees.specs.BuildLaws.{no-parse}

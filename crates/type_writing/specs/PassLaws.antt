@@ -1,36 +1,34 @@
 -- The second pass, declaration by declaration.
 use Rattle.std.specs.Prelude.{◌≡◌, Bool, true, false, ◌||◌, ◌⊎◌, take, drop, ltb}
 use Rattle.std.proofs.Math.Path.{refl, sym, ap}
-use Rattle.std.proofs.Common.{◌∙◌, subst, inl, inr, ⊎_elim, drop_at, take_at, length-take-le}
+use Rattle.std.proofs.Common.{◌∙◌, inl, inr, ⊎_elim, drop_at, take_at, length-take-le}
 use native.Mathlib.Omega.{arith}
 use mathlib.Core.List.{List, [], ◌∷◌, ◌++◌}
-use Prim.Native.Nat.{ℕ, zero, suc, ◌+◌, ◌-◌, ◌*◌, ◌≤◌, ◌<◌}
+use Prim.Native.Nat.{ℕ, zero, suc, ◌+◌, ◌*◌, ◌≤◌, ◌<◌}
 use Rattle.std.proofs.Math.ListN.{length}
 use Rattle.basics.specs.TestLaws.{lt_not, true-false}
 use Rattle.wire.specs.Wire.{u16_at, put_u16, part}
 use Rattle.wire.specs.WireLaws.{same-16, other-16, agree-16}
-use Rattle.tree_forest.specs.Forest.{end, tree, nodes, levels}
+use Rattle.tree_forest.specs.Forest.{tree, nodes, levels}
 use Rattle.tree_forest.specs.Limits.{message_nodes_below, message_levels_below}
 use Rattle.tree.specs.Encode.{children}
 use Rattle.tree_edit.specs.Wrote.{Wrote}
-use Rattle.tree_edit.specs.WroteLaws.{wrote_none, wrote-more, wrote_as, wrote-all}
-use Rattle.check_subtyping.specs.Subtype.{root_children}
-use Rattle.network_syntax.specs.Syntax.{Types, MessageType}
+use Rattle.tree_edit.specs.WroteLaws.{wrote_none, wrote-more, wrote-all}
+use Rattle.network_syntax.specs.Syntax.{MessageType}
 use Rattle.type_text.specs.Grammar.{Children, Declaration, declaration}
 use Rattle.type_text.specs.Reader.{Item, items_at, Reading, parsed, offends, inline, read_children, read_type_tree, read_declarations}
-use Rattle.type_text.specs.Meaning.{NamedType, named_type, type_from, types_from, forest_from}
+use Rattle.type_text.specs.Meaning.{NamedType, named_type, type_from, types_from}
 use Rattle.type_text.specs.TypeRows.{by_levels, row_bytes, rows_in, row_count, type_rows_from, is_too_large}
 use Rattle.type_reading.specs.Tables.{word_from, declared_names}
-use Rattle.type_reading.specs.TableLaws.{names-kept, first-kept, u16-kept}
-use Rattle.type_reading.specs.Readings.{Onward, NameGiven, after_name, StartTold}
+use Rattle.type_reading.specs.TableLaws.{names-kept, first-kept}
+use Rattle.type_reading.specs.Readings.{NameGiven, StartTold}
 use Rattle.type_reading.specs.declared.Start.TheVariants.{Finished, BadStart}
 use Rattle.type_rows.specs.Ranged.{Small, EachType}
 use Rattle.type_rows.specs.MeaningLaws.{ProperAll}
 use Rattle.type_images.specs.TypeImages.{image_of, image_size, HoldsType}
-use Rattle.type_images.specs.TypeImageLaws.{image-length}
 use Rattle.type_trees.specs.Names.{names_up_to}
 use Rattle.type_trees.specs.BuildLaws.{no-parse}
-use Rattle.type_trees.specs.Builds.{ImageAt, KnownImages, LimitsKept, TreeBuilt}
+use Rattle.type_trees.specs.Builds.{KnownImages, LimitsKept, TreeBuilt}
 use Rattle.type_trees.specs.declared.Built.{Built}
 use Rattle.type_writing.specs.Sums.{rows-children}
 use Rattle.type_writing.specs.Passes.{ImagesBelow, EntriesAre, TypeWrote, RestGiven, RestWritten}

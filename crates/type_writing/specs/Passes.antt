@@ -1,6 +1,6 @@
 -- What the second pass over a text tells: one type written, then the declarations from a place on, then the rows of a text.
-use Rattle.std.specs.Prelude.{◌≡◌, List, [], ◌∷◌, true, ℕ, zero, suc, ◌+◌, ◌*◌, ◌≤◌, length}
-use Rattle.wire.specs.Wire.{u16_at, put_u16}
+use Rattle.std.specs.Prelude.{◌≡◌, List, [], ◌∷◌, ℕ, zero, suc, ◌+◌, ◌*◌, ◌≤◌, length}
+use Rattle.wire.specs.Wire.{u16_at}
 use Rattle.refusal.specs.declared.Outcome.{Outcome}
 use Rattle.tree_forest.specs.Forest.{nodes}
 use Rattle.tree.specs.Encode.{children}

@@ -1,5 +1,5 @@
 -- The sizes that reading a text notes are those of its types, held at their limits.
-use Rattle.std.specs.Prelude.{◌≡◌, refl, Bool, ◌||◌, ℕ, zero, suc, ◌+◌, ◌*◌, ◌≤◌, ◌<◌, max, length, ltb}
+use Rattle.std.specs.Prelude.{◌≡◌, refl, Bool, ℕ, suc, ◌+◌, ◌*◌, max}
 use Rattle.std.proofs.Common.{sym, ◌∙◌}
 use Rattle.std.proofs.Math.Path.{ap}
 use native.Mathlib.Omega.{arith}
@@ -7,15 +7,14 @@ use mathlib.Core.List.{List, [], ◌∷◌}
 use Rattle.std.proofs.Math.Bool.{true, false}
 use Rattle.basics.specs.Choice.{pick}
 use Rattle.wire.specs.Wire.{u16_at}
-use Rattle.tree_forest.specs.Forest.{end, measure, nodes, levels}
+use Rattle.tree_forest.specs.Forest.{measure, nodes, levels}
 use Rattle.tree.specs.Encode.{children}
-use Rattle.network_syntax.specs.Syntax.{MessageType, Optional, none, some}
+use Rattle.network_syntax.specs.Syntax.{MessageType}
 use Rattle.type_text.specs.Grammar.{same_word, Children, no_more, written, named, Declaration, declaration}
 use Rattle.type_text.specs.Sizes.{nodes_in, levels_in}
 use Rattle.type_text.specs.Meaning.{NamedType, named_type, type_named, type_from, types_from}
-use Rattle.type_text.specs.TypeRows.{rows_in, row_count, is_too_large}
 use Rattle.type_reading.specs.Tables.{word_from, held, known_at, known_nodes, known_levels, Noted}
-use Rattle.type_rows.specs.MeaningLaws.{ProperAll, ProperList, nodes_named, levels_named, nodes-known, levels-known, nodes-forest, levels-forest}
+use Rattle.type_rows.specs.MeaningLaws.{ProperAll, nodes_named, levels_named, nodes-known, levels-known, nodes-forest, levels-forest}
 
 held_more : (m a b c d : ℕ) → held m a ≡ held m b → held m c ≡ held m d → held m (suc a + c) ≡ held m (suc b + d)
 held_more m a b c d x y = omega (arith, x, y)

@@ -1,7 +1,7 @@
 -- Sums over the table of declared types, and that they are those of the types.
 use Rattle.std.specs.Prelude.{◌≡◌, refl, List, [], ◌∷◌, Bool, true, false, ◌||◌, ℕ, zero, suc, ◌+◌, ◌-◌, ◌*◌, ◌≤◌, ◌<◌, length, ltb}
 use Rattle.std.proofs.Math.Path.{sym}
-use Rattle.std.proofs.Common.{◌∙◌, ap, subst, arith, le-ltb}
+use Rattle.std.proofs.Common.{◌∙◌, ap, arith, le-ltb}
 use Rattle.basics.specs.Choice.{pick}
 use Rattle.basics.specs.TestLaws.{agree, lt_of, of_lt}
 use Rattle.wire.specs.Wire.{u16_at}

@@ -1,7 +1,7 @@
 -- The second pass over a whole text, and the answer by what the passes tell.
-use Rattle.std.specs.Prelude.{◌≡◌, Bool, true, false, ℕ, zero, suc, ◌+◌, ◌*◌, ◌≤◌, ◌<◌, take, drop}
+use Rattle.std.specs.Prelude.{◌≡◌, Bool, true, false, ℕ, suc, ◌+◌, ◌*◌, ◌≤◌, ◌<◌, drop}
 use Rattle.std.proofs.Math.Path.{refl}
-use Rattle.std.proofs.Common.{sym, ◌∙◌, ap, subst, arith}
+use Rattle.std.proofs.Common.{sym, ◌∙◌, ap, arith}
 use mathlib.Core.List.{List, [], ◌∷◌, ◌++◌}
 use Rattle.std.proofs.Math.ListN.{length}
 use borrow.Author.Tests.{lt-ltb, le-ltb}
@@ -10,22 +10,21 @@ use Rattle.wire.specs.Wire.{u16_at, with_part}
 use Rattle.refusal.specs.declared.Outcome.{Outcome}
 use Rattle.refusal.specs.declared.Refusal.TheVariants.{BufferSize, FileLayout, SectionCount, TooLarge}
 use Rattle.refusal.specs.Refusal.{done_with, refused_by}
-use Rattle.tree_forest.specs.Forest.{tree, nodes, levels}
+use Rattle.tree_forest.specs.Forest.{nodes}
 use Rattle.tree.specs.Encode.{children}
 use Rattle.tree_edit.specs.Wrote.{Wrote}
 use Rattle.tree_edit.specs.WroteLaws.{wrote-all}
 use Rattle.network_syntax.specs.ViewLaws.{none-some}
-use Rattle.network_syntax.specs.Syntax.{MessageType, Optional, none, some}
+use Rattle.network_syntax.specs.Syntax.{MessageType, none, some}
 use Rattle.type_text.specs.Spelling.{Token}
 use Rattle.type_text.specs.Grammar.{Declaration, declaration, TypeText}
-use Rattle.type_text.specs.Reader.{Item, items_from, items_at, Reading, parsed, offends, read_declarations, read_text}
+use Rattle.type_text.specs.Reader.{Item, items_at, Reading, parsed, offends, read_text}
 use Rattle.type_text.specs.SpellingLaws.{Carries, carries_none, carries_more, spelled-items, items-shorter}
 use Rattle.type_text.specs.TextLaws.{read-sound, read-complete}
 use Rattle.type_text.specs.Meaning.{NamedType, named_type, id_names, first_uses, type_from, types_from, types_of}
 use Rattle.type_text.specs.TypeRows.{rows_in, row_count, type_rows_from, is_too_large}
-use Rattle.type_reading.specs.Tables.{word_from, held, declared_names, known_nodes, known_levels, Noted}
+use Rattle.type_reading.specs.Tables.{held, declared_names, Noted}
 use Rattle.type_rows.specs.Ranged.{Small, EachType}
-use Rattle.type_rows.specs.RowLaws.{rows-length}
 use Rattle.type_rows.specs.MeaningLaws.{ProperAll, proper-text, names-few}
 use Rattle.type_trees.specs.Names.{names_up_to, tokens_in, dot_names}
 use Rattle.type_trees.specs.NameLaws.{dot-ids, length-names}

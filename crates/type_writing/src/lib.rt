@@ -1,4 +1,6 @@
 // Writing the T rows of a text of types.
+#![tactic(auto)]
+
 ghost use Rattle.std.specs.Prelude.{◌≡◌, ◌*◌, ◌≤◌, ◌<◌, length};
 ghost use Rattle.type_reading.specs.Tables.{held, Named};
 ghost use Rattle.type_writing.specs.Answer.{is_used_byte, text_offence, write_types};
