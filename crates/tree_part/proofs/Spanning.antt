@@ -9,7 +9,7 @@ use borrow.Author.Tests.{not-true, not-false}
 use Rattle.tree_forest.specs.Forest.{Forest, end, Tree, tree, node_of, Lookup, absent, present, find}
 use Rattle.tree_forest.specs.Path.{read_steps}
 use Rattle.scalar.specs.Value.{Value, value}
-use Rattle.tree.specs.Encode.{root_count, encode, Octets}
+use Rattle.tree.specs.Encode.{encode, Octets}
 use Rattle.tree.specs.Decode.{head_at, decode, is_message}
 use Rattle.tree.specs.DecodeLaws.{present-is, absent-is, decode-sound}
 use Rattle.tree.specs.Ids.{steps, is_path, last_of}

@@ -5,7 +5,7 @@ use Rattle.tree_forest.specs.Forest.{end, tree, node_of, Lookup, absent, present
 use Rattle.tree_forest.specs.Path.{Path, read}
 use Rattle.scalar.specs.Value.{Value}
 use Rattle.basics.specs.Choice.{pick}
-use Rattle.tree.specs.Encode.{encode, rooted}
+use Rattle.tree.specs.Encode.{encode}
 use Rattle.tree.specs.Decode.{decode_message}
 use Rattle.tree.specs.Ids.{is_path, path_from_ids, last_id}
 

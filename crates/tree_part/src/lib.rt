@@ -1,4 +1,6 @@
 // The message reader's answer as numbers: where the child's encoding starts in the message, and how long it is.
+#![tactic(auto)]
+
 ghost use Rattle.std.specs.Prelude.{◌≡◌, ◌+◌, ◌<◌, get_or, drop};
 ghost use Rattle.tree.specs.Ids.{steps};
 ghost use Rattle.tree_part.specs.Span.{span_of};

@@ -1,0 +1,33 @@
+use mathlib.Core.Path.{◌≡◌}
+use lib.ListN.{length}
+use Rattle.tree_part.proofs.Locating.{locate-laws, next-step}
+use borrow.Author.Rules.{rules}
+use native.Mathlib.Omega.{arith}
+use Rattle.tree_part.proofs.+locate.Goals as goal
+
+pub returns-then-n-eq0 : goal.returns-then-n-eq0
+returns-then-n-eq0 t c = search locate-laws depth 12
+
+pub returns-in_default : goal.returns-in_default
+returns-in_default t c = search locate-laws depth 12
+
+pub returns-then-id-j : goal.returns-then-id-j
+returns-then-id-j t c = search locate-laws depth 12
+
+pub locate-requires : goal.locate-requires
+locate-requires t c = (omega arith, omega arith)
+
+pub returns-then-j-id : goal.returns-then-j-id
+returns-then-j-id t c = search locate-laws depth 12
+
+pub returns-then-is_last : goal.returns-then-is_last
+returns-then-is_last t c = search locate-laws depth 12
+
+pub locate-requires-2 : goal.locate-requires-2
+locate-requires-2 t c =
+    let l : length c.args.ids ≡ 4 = search rules in
+    let p = next-step c.args.ids c.args.k _ l c.is_last.ensures c.if-is_last.false in
+    (omega (arith, p), p)
+
+pub returns : goal.returns
+returns t c = search locate-laws depth 12
