@@ -33,7 +33,7 @@ use Rattle.network_rows.specs.RowSyntax.{input_with}
 use Rattle.network_row_parts.specs.Behaviours.{InputKeptBy}
 use Rattle.network_row_parts.specs.KindLaws.{row-input-is}
 use Rattle.state.specs.Places.{slot_size, tree_room, slot_start}
-use Rattle.state.specs.Session.{Destination, Progress, taken, advance, Queued, Session, with_tree, with_queue, with_progress, with_key, Slot, free, live, State}
+use Rattle.state.specs.Session.{Destination, Progress, taken, advance, Queued, Session, with_tree, with_queue, with_progress, Slot, free, live, State}
 use Rattle.state.specs.Session.{set_slot, new_session}
 use Rattle.state.specs.Bytes.{zeros, slot_bytes, state_bytes, read_state}
 use Rattle.state.specs.Shape.{WellMade, MadeSlot}

@@ -1,5 +1,7 @@
 // A message at its target session. 01, Moves: "queued at a live one, or starting a free 1 to 3, whose first starter branch of that operation
 // receives it". `admit` decides all of it and stores nothing; `store` cannot fail, so a refusal leaves the state as it was.
+#![tactic(auto)]
+
 ghost use Rattle.std.specs.Prelude.{◌≡◌, ◌+◌, ◌≤◌, ◌<◌, length};
 ghost use Rattle.network.specs.Rows.{operation_service};
 ghost use Rattle.state.specs.Places.{slot_size, tree_room};
