@@ -14,8 +14,8 @@ use Rattle.tree_forest.specs.Limits.{message_levels_below, message_nodes_below, 
 use Rattle.state.specs.Session.{Progress, undone, Progresses, advance, reopen, Queued, Session}
 use Rattle.state.specs.Session.{with_tree, with_queue, with_progress, with_key, Slot, free, live, State, set_slot}
 use Rattle.state.specs.Shape.{is_undone, suits, quiet_elsewhere, suits_operation, suits_queue, operation_of_row}
-use Rattle.state.specs.Shape.{behaviour_in, suits_behaviour, suits_slot, AllMessages, WellMade, MadeSlot, HasShape}
-use Rattle.state.specs.RowShape.{suits_row, PartOf, BranchRowOf, PartSuits}
+use Rattle.state.specs.Shape.{behaviour_in, suits_behaviour, suits_slot, AllMessages, WellMade, MadeSlot}
+use Rattle.state.specs.RowShape.{suits_row, PartOf, BranchRowOf}
 use Rattle.state.specs.RowLaws.{undone-row, suits-row, rows-suit}
 use Rattle.state.specs.ChangeLaws.{slot_same, set_other, advance-other}
 

@@ -1,12 +1,12 @@
 -- The keys of a state: the tests of `suits_all_keys` and the rules `NoKeyElsewhere` and `KeysApart` say the same, and what keeps the rules
 -- when a slot is changed.
-use Rattle.std.specs.Prelude.{◌≡◌, Bool, false, not, ◌&&◌, ◌⊎◌, T, eqb, leb}
+use Rattle.std.specs.Prelude.{◌≡◌, Bool, false, not, ◌&&◌, ◌⊎◌, T, leb}
 use Rattle.std.proofs.Math.Path.{refl}
 use Rattle.std.proofs.Common.{sym, ap, ◌∙◌, inl, inr, arith, eqb-true, eq-eqb, ne_eqb}
 use Rattle.std.proofs.Math.Bool.{true}
 use Prim.Native.Nat.{ℕ, zero, suc, ◌≤◌, ◌<◌}
 use Rattle.std.proofs.Math.Decide.{dec_lt, ℕ_discrete}
-use Rattle.basics.specs.TestLaws.{T_of, of_t, and_l, and_r, and_left, and_right, le_of, of_le, ne_of, true-false, clash}
+use Rattle.basics.specs.TestLaws.{T_of, of_t, and_l, and_r, and_left, and_right, le_of, of_le, ne_of, clash}
 use Rattle.network_syntax.specs.Syntax.{Network}
 use Rattle.network_syntax.specs.Keys.{is_keyed, holds_key}
 use Rattle.state.specs.Session.{Session, Slot, free, live, State, set_slot}

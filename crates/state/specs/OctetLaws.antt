@@ -30,7 +30,7 @@ use Rattle.state.specs.Shape.{undone_or_taken, undone_done_or_body, branches, su
 use Rattle.state.specs.Shape.{operation_of_row, behaviour_in, suits_behaviour, suits_slot, AllMessages, WellMade, MadeSlot, HasShape}
 use Rattle.state.specs.PartLaws.{byte-zeros}
 use Rattle.state.specs.SizeLaws.{message-size, session-tree-size}
-use Rattle.state.specs.RowShape.{suits_row, PartOf, InBranch, PartSuits}
+use Rattle.state.specs.RowShape.{suits_row, PartOf, InBranch}
 use Rattle.state.specs.RowLaws.{suits-row, at-row, row-found, quiet_each}
 
 -- ---- lists of bytes

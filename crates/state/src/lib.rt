@@ -1,4 +1,6 @@
 // The state of a running network: sessions and their byte form. Here the sizes and places of docs/STATE.md, as code reads and writes them.
+#![tactic(auto)]
+
 ghost use Rattle.std.specs.Prelude.{◌≡◌, ◌+◌, ◌<◌};
 ghost use Rattle.state.specs.Places.{slot_size, slot_start, entry_start, row_start};
 
