@@ -1,5 +1,7 @@
 // The rows of a network file, read by value: one field, or a whole row as a struct or an enum. Every reader is total: on any bytes
 // and any row number it gives what stands there, 0 past the end.
+#![tactic(auto)]
+
 ghost use Rattle.std.specs.Prelude.{◌≡◌, ◌<◌};
 ghost use Rattle.network.specs.Kinds.{expression_kind, behaviour_kind};
 ghost use Rattle.network.specs.Rows.{is_branch_kind, is_choice_kind, is_input_kind, type_id, cardinality, type_basic, first_child, child_count, expression_kind_at, kind_at};
