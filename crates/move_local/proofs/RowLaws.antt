@@ -41,7 +41,7 @@ use Rattle.state.specs.PartLaws.{replace-within}
 use Rattle.state.specs.ReadLaws.{slot-parts}
 use Rattle.state.specs.ChangeLaws.{change-rows}
 use Rattle.state.specs.KeepLaws.{reopen-past, made-tree, made_row, made-progress}
-use Rattle.move_rules.specs.Readiness.{is_done, Reached, reach}
+use Rattle.move_rules.specs.Readiness.{is_done, reach}
 use Rattle.move_rules.specs.Evaluation.{leaf, evaluate}
 use Rattle.move_rules.specs.Moves.{Result, refused, moved, not_allowed, out_of_range, require, on_evaluation, on_truth, assigned, unassigned, decided, repeated}
 use Rattle.move_rules.specs.AssignLaws.{within-payload}

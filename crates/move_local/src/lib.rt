@@ -1,5 +1,7 @@
 // Local moves. 01, Moves: "local: a ready assign, if or while; assign sets one root value and keeps children." Every test comes before the
 // first store, and an assigned tree is made in a scratch buffer, so a refusal leaves the state as it was.
+#![tactic(auto)]
+
 ghost use Rattle.std.specs.Prelude.{◌≡◌, ◌+◌, ◌≤◌, ◌<◌, length};
 ghost use Rattle.scalar.specs.Value.{SoundText};
 ghost use Rattle.scalar.specs.Scalar.{value_of};
