@@ -1,30 +1,30 @@
 -- What `plan_of` says lies within the bytes and agrees with what the path leads to; the ways out of `route`.
 use mathlib.Core.Path.{◌≡◌, refl, ap, sym, subst, ◌∙◌}
-use mathlib.Core.List.{List, [], ◌∷◌, ◌++◌, append_assoc, append-nil}
-use mathlib.Core.Bool.{Bool, true, false}
-use Prim.Native.Nat.{ℕ, zero, suc, ◌+◌, ◌-◌, ◌*◌, ◌/◌, ◌%◌, ◌≤◌, ◌<◌}
+use mathlib.Core.List.{List, [], ◌∷◌, ◌++◌, append_assoc}
+use mathlib.Core.Bool.{true}
+use Prim.Native.Nat.{ℕ, suc, ◌+◌, ◌-◌, ◌/◌, ◌%◌, ◌≤◌, ◌<◌}
 use native.Mathlib.Omega.{arith}
-use lib.ListN.{length, get_or, take, drop, length-append, length-drop}
+use lib.ListN.{length, get_or, drop, length-append, length-drop}
 use lib.Seq.{get_or_at, drop_at, drop-append_seam}
 use Rattle.tree_forest.specs.Compare.{Compare, lt, eq, gt, compare}
-use Rattle.tree_forest.specs.Forest.{Forest, end, node, Tree, tree, Lookup, absent, present, measure, nodes}
-use Rattle.tree_forest.specs.Path.{Path, path, read, write}
+use Rattle.tree_forest.specs.Forest.{Forest, end, node, Tree, tree, present, measure, nodes}
+use Rattle.tree_forest.specs.Path.{path, read}
 use Rattle.scalar.specs.Value.{Value, value}
-use Rattle.tree.specs.Encode.{root_count, encode, rooted, Octets, Encodes, WellFormedTree}
+use Rattle.tree.specs.Encode.{root_count, encode, Octets}
 use Rattle.tree_forest.specs.Limits.{session_levels, session_nodes}
 use Rattle.tree.specs.EncodeLaws.{encode-node, length-node, split-node, count-nodes, later}
 use Rattle.tree.specs.Decode.{head_at, decode, is_tree}
 use Rattle.tree.specs.DecodeLaws.{present-is, decode-sound, decoded-root}
-use Rattle.tree.specs.Ids.{steps, path_from_ids}
+use Rattle.tree.specs.Ids.{steps}
 use Rattle.tree.specs.IdsLaws.{path-at, steps-length}
-use Rattle.tree.specs.Standing.{Row, Root}
+use Rattle.tree.specs.Standing.{Row}
 use Rattle.tree.specs.StandingLaws.{root-seen, root-unseen, root-kids}
 use Rattle.tree.specs.declared.Head.{Head}
 use Rattle.tree.specs.declared.Head.TheVariants.{Node, Fault}
 use Rattle.tree_edit.specs.ForestWrite.{read-gap, read-on, read-hit, read-deep}
-use Rattle.tree_edit.specs.Plan.{plan_of, body, spliced, Led, Gap, Hit, ChildrenAt, Inside, Planned}
+use Rattle.tree_edit.specs.Plan.{plan_of, Led, Gap, Hit, ChildrenAt, Inside, Planned}
 use Rattle.tree_edit.specs.declared.Plan.{Plan}
-use Rattle.tree_edit.specs.declared.Plan.TheVariants.{Insert, Replace, Fail}
+use Rattle.tree_edit.specs.declared.Plan.TheVariants.{Fail}
 use Rattle.tree_edit.proofs.Locating.{plan-gap, plan-on, plan-hit, plan-deep}
 use Rattle.tree_edit.proofs.Splicing.{read-end, plan-end, front, front-encode, edit-root}
 

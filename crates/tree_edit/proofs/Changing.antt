@@ -2,26 +2,26 @@
 use mathlib.Core.Path.{◌≡◌, refl, ap, sym, subst, ◌∙◌}
 use mathlib.Core.List.{List, [], ◌∷◌, ◌++◌, append-nil, append_assoc}
 use mathlib.Core.Bool.{Bool, true, false}
-use Prim.Native.Nat.{ℕ, zero, suc, ◌+◌, ◌-◌, ◌/◌, ◌%◌, ◌≤◌, ◌<◌}
+use Prim.Native.Nat.{ℕ, ◌+◌, ◌-◌, ◌/◌, ◌%◌, ◌≤◌}
 use native.Mathlib.Omega.{arith}
-use lib.ListN.{length, get_or, take, drop, set, length-drop}
+use lib.ListN.{length, get_or, take, drop, set}
 use lib.Seq.{drop-drop, take-append_seam}
-use Rattle.tree_forest.specs.Forest.{Forest, end, node, Tree, tree, node_of, Lookup, absent, present, children_of, nodes, levels, measure}
-use Rattle.tree_forest.specs.Path.{Path, read, write, replace_at, set_payload_at}
+use Rattle.tree_forest.specs.Forest.{Forest, end, node, Tree, tree, Lookup, present, children_of, nodes, measure}
+use Rattle.tree_forest.specs.Path.{Path, read, replace_at, set_payload_at}
 use Rattle.scalar.specs.Value.{Value, value}
-use Rattle.tree.specs.Encode.{root_count, children, encode, rooted, Octets, Encodes}
-use Rattle.tree.specs.EncodeLaws.{length-node, encode-node, split-node}
+use Rattle.tree.specs.Encode.{root_count, children, encode, rooted, Octets}
+use Rattle.tree.specs.EncodeLaws.{length-node}
 use Rattle.tree.specs.Decode.{decode, is_tree}
 use Rattle.tree.specs.DecodeLaws.{present-is, decode-sound, decoded-root}
 use Rattle.tree.specs.Ids.{is_path, path_from_ids, steps, last_id}
-use Rattle.tree.specs.Standing.{Root, Stood, Spot, Ended, Followed}
+use Rattle.tree.specs.Standing.{Root, Spot, Ended, Followed}
 use Rattle.tree.specs.StandingLaws.{root-inside}
 use Rattle.tree.specs.declared.Found.{Found}
 use Rattle.tree.specs.declared.Found.TheVariants.{At, Nothing}
 use Rattle.tree_edit.specs.Wrote.{Wrote}
 use Rattle.tree_edit.specs.WroteLaws.{wrote_as, wrote-more, wrote_none, wrote-all-of}
-use Rattle.tree_edit.specs.Change.{missing_value, changed_bytes, replaced, assigned_bytes, alone, subtree_of}
-use Rattle.tree_edit.specs.Plan.{body, prefix, spliced, Gap, Hit, ChildrenAt, Inside, Planned}
+use Rattle.tree_edit.specs.Change.{missing_value, replaced, assigned_bytes, alone, subtree_of}
+use Rattle.tree_edit.specs.Plan.{body, prefix, spliced, Gap, Hit, Inside, Planned}
 use Rattle.tree_edit.specs.declared.Plan.{Plan}
 use Rattle.tree_edit.specs.declared.Plan.TheVariants.{Insert, Replace, Fail}
 use Rattle.tree_edit.proofs.Splicing.{node-body}

@@ -1,8 +1,8 @@
 -- What the functions that write leave in the buffer.
-use mathlib.Core.Path.{◌≡◌, refl, ap, sym, subst, ◌∙◌}
+use mathlib.Core.Path.{◌≡◌, refl, ap, sym, ◌∙◌}
 use mathlib.Core.List.{List, [], ◌∷◌, ◌++◌, append_assoc, append-nil}
 use mathlib.Core.Bool.{Bool, true, false}
-use Prim.Native.Nat.{ℕ, zero, suc, ◌+◌, ◌-◌, ◌*◌, ◌/◌, ◌%◌, ◌≤◌, ◌<◌}
+use Prim.Native.Nat.{ℕ, ◌+◌, ◌-◌, ◌*◌, ◌/◌, ◌%◌, ◌≤◌, ◌<◌}
 use native.Mathlib.Nat.{add-suc, add-zero}
 use native.Mathlib.Numerals.{add-one}
 use native.Mathlib.Omega.{arith}
@@ -13,8 +13,8 @@ use Rattle.tree_forest.specs.Forest.{end, tree}
 use Rattle.scalar.specs.Value.{Value, value, basic_of, bytes_of}
 use Rattle.tree.specs.Encode.{encode, rooted, root_count}
 use Rattle.tree.specs.EncodeLaws.{part_length}
-use Rattle.tree.specs.Ids.{steps, is_none}
-use Rattle.tree.specs.IdsLaws.{none_is, steps_next}
+use Rattle.tree.specs.Ids.{is_none}
+use Rattle.tree.specs.IdsLaws.{none_is}
 use Rattle.wire.specs.Wire.{with_part}
 use Rattle.tree_edit.specs.Wrote.{Wrote, padded_with, stored}
 use Rattle.tree_edit.specs.WroteLaws.{wrote-more, wrote_as, wrote-all-of, wrote-over}

@@ -15,9 +15,8 @@ use Rattle.tree.specs.Standing.{Within as WithinLimits}
 use Rattle.tree_edit.specs.Wrote.{Wrote}
 use Rattle.tree_edit.specs.WroteLaws.{wrote_as}
 use Rattle.tree_edit.specs.Change.{missing_value, replaced, assigned_bytes}
-use Rattle.tree_edit.specs.ChangeLaws.{Right, replace-right, set-right, within-is, within-encodes}
+use Rattle.tree_edit.specs.ChangeLaws.{replace-right, set-right, within-is, within-encodes}
 use Rattle.tree_edit.specs.Limited.{PutOutcome, SetOutcome}
-use Rattle.tree_edit.specs.declared.Grown.{Grown}
 use Rattle.tree_edit.specs.declared.Grown.TheVariants.{Within, Past}
 
 replaced-of : (ty : Bool) (ids : List ℕ) (l k : Lookup Value) (a : Value) (f : Forest Value) (t : Tree Value) → k ≡ present (tree a f) → l ≡ present t →

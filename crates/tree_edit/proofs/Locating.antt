@@ -1,20 +1,18 @@
 -- Where a path leads, at each of the ways out of `locate`.
 use mathlib.Core.Path.{◌≡◌, refl, ap, sym, subst, ◌∙◌}
-use mathlib.Core.List.{List, [], ◌∷◌, ◌++◌, append_assoc}
+use mathlib.Core.List.{List, [], ◌∷◌}
 use mathlib.Core.Bool.{Bool, true, false}
-use Prim.Native.Nat.{ℕ, zero, suc, ◌+◌, ◌-◌, ◌≤◌, ◌<◌}
+use Prim.Native.Nat.{ℕ, ◌+◌, ◌-◌, ◌≤◌, ◌<◌}
 use native.Mathlib.Omega.{arith}
-use lib.ListN.{length, get_or, take, drop}
-use lib.Dec.{eqb, ltb}
+use lib.ListN.{length, get_or, drop}
 use borrow.Author.Tests.{lt-ltb, le-ltb}
-use Rattle.tree_forest.specs.Forest.{Forest, end, node, Tree, tree}
+use Rattle.tree_forest.specs.Forest.{Forest, end, node, tree}
 use Rattle.scalar.specs.Value.{Value, value}
-use Rattle.basics.specs.Choice.{pick}
 use Rattle.tree.specs.Encode.{root_count, encode}
 use Rattle.tree.specs.Decode.{head_at}
 use Rattle.tree.specs.Ids.{steps, is_none}
 use Rattle.tree.specs.IdsLaws.{none_is, steps_next}
-use Rattle.tree.specs.Standing.{Row, Root, Ended}
+use Rattle.tree.specs.Standing.{Row, Ended}
 use Rattle.tree.specs.StandingLaws.{row-root, row-kids, row-rest, seen, unseen}
 use Rattle.tree.specs.declared.Head.{Head}
 use Rattle.tree.specs.declared.Head.TheVariants.{Node, Fault}

@@ -1,9 +1,9 @@
 -- Splicing the bytes of a tree as `plan_of` says gives the bytes of the changed tree.
-use mathlib.Core.Path.{◌≡◌, refl, ap, sym, subst, ◌∙◌}
+use mathlib.Core.Path.{◌≡◌, refl, ap, sym, ◌∙◌}
 use mathlib.Core.List.{List, [], ◌∷◌, ◌++◌, append_assoc, append-nil}
 use mathlib.Core.Bool.{Bool, true, false}
-use Prim.Native.Nat.{ℕ, zero, suc, ◌+◌, ◌-◌, ◌*◌, ◌/◌, ◌%◌, ◌≤◌, ◌<◌}
-use native.Mathlib.Nat.{add-zero, sub_self}
+use Prim.Native.Nat.{ℕ, suc, ◌+◌, ◌-◌, ◌/◌, ◌%◌, ◌≤◌, ◌<◌}
+use native.Mathlib.Nat.{add-zero}
 use native.Mathlib.Decide.{dec_lt}
 use native.Mathlib.Omega.{arith}
 use native.Mathlib.Numerals.{add-one}
@@ -12,16 +12,15 @@ use lib.Seq.{drop-cons, drop-append_seam, take_at, drop_at, set_at, get_or_at, s
 use lib.Dec.{eqb}
 use Rattle.tree_forest.specs.Compare.{Compare, lt, eq, gt, compare}
 use Rattle.tree_forest.specs.Forest.{Forest, end, node, Tree, tree, node_of, Lookup, absent, present, find}
-use Rattle.tree_forest.specs.Path.{Path, path, read, write, write_steps}
+use Rattle.tree_forest.specs.Path.{path, read, write, write_steps}
 use Rattle.scalar.specs.Value.{Value, value}
 use Rattle.basics.specs.Choice.{pick}
 use Rattle.tree.specs.Encode.{root_count, encode}
-use Rattle.tree.specs.EncodeLaws.{encode-node, length-node, split-node}
+use Rattle.tree.specs.EncodeLaws.{encode-node, split-node}
 use Rattle.tree.specs.Ids.{steps}
 use Rattle.tree_edit.specs.ForestWrite.{read_none, read-gap, read-on, read-hit, read-deep, fresh_steps, fresh-more, write-end, write-gap, write-on, write-hit, write-deep}
 use Rattle.tree_edit.specs.Plan.{plan_of, body, prefix, spliced}
-use Rattle.tree_edit.specs.declared.Plan.{Plan}
-use Rattle.tree_edit.specs.declared.Plan.TheVariants.{Insert, Replace, Fail}
+use Rattle.tree_edit.specs.declared.Plan.TheVariants.{Insert, Replace}
 use Rattle.tree_edit.proofs.Locating.{plan-gap, plan-on, plan-hit, plan-deep}
 
 -- the steps i, is are those of the path from k on

@@ -1,13 +1,11 @@
 -- The byte form of a tree after a change. 01, Moves: "assign sets one root value and keeps children. Writing makes missing steps void.";
 -- receive "replaces the subtree". Typing: "missing steps become mandatory void nodes".
 use Rattle.std.specs.Prelude.{List, [], ◌∷◌, Bool, true, false, ℕ}
-use Rattle.tree_forest.specs.Forest.{Forest, Tree, tree, Lookup, absent, present}
+use Rattle.tree_forest.specs.Forest.{Forest, tree, Lookup, absent, present}
 use Rattle.tree_forest.specs.Path.{Path, read, replace_at, set_payload_at}
 use Rattle.scalar.specs.Basic.{raw, void}
 use Rattle.scalar.specs.Value.{Value, value}
 use Rattle.tree.specs.Encode.{encode, rooted}
-use Rattle.tree.specs.Decode.{decode}
-use Rattle.tree.specs.Ids.{path_from_ids}
 
 -- What a missing step carries: in an environment the mark of a mandatory void type, else a void value.
 abbrev pub missing_value : Bool → Value

@@ -1,21 +1,21 @@
 -- Laws of changes: a change keeps ids rising and every id and value right; so after a change a tree can only fail by its limits, which
 -- `within` tests, and what keeps to them is the byte form of the changed tree.
-use Rattle.std.specs.Prelude.{◌≡◌, refl, Bool, true, false, ◌&&◌, ℕ, zero, suc, ◌+◌, ◌≤◌, ◌<◌, length, get_or, take, drop, leb}
+use Rattle.std.specs.Prelude.{◌≡◌, refl, Bool, true, false, ◌&&◌, ℕ, zero, suc, ◌<◌, length, get_or, take, drop, leb}
 use Rattle.std.proofs.Common.{ap, sym, subst, ◌∙◌, arith, take-append-drop, leb-true}
 use mathlib.Core.List.{List, [], ◌∷◌, ◌++◌}
 use Rattle.basics.specs.TestLaws.{and_left, and_right}
 use Rattle.tree_forest.specs.Compare.{Compare, lt, eq, gt, compare}
-use Rattle.tree_forest.specs.Forest.{Forest, end, node, Tree, tree, node_of, Lookup, absent, present, find_by, find, set_by, set, children_of, payload_of}
+use Rattle.tree_forest.specs.Forest.{Forest, end, node, Tree, tree, Lookup, absent, present, find_by, find, set_by, set, children_of, payload_of}
 use Rattle.tree_forest.specs.Forest.{Rising, RisingTree, RisingLookup, measure, nodes, levels}
 use Rattle.tree_forest.specs.ForestLaws.{rising-set, rising-find}
 use Rattle.tree_forest.specs.Path.{Path, path, write, write_steps, replace_at, set_payload_at}
 use Rattle.scalar.specs.Value.{Value, value}
 use Rattle.scalar.specs.Basic.{void}
 use Rattle.scalar.specs.ValueLaws.{empty-void, raw-short}
-use Rattle.tree.specs.Encode.{payload, children, encode, rooted, root_count, Octets, Proper, SoundValues, WellFormedTree, Encodes}
+use Rattle.tree.specs.Encode.{children, encode, rooted, Proper, SoundValues, WellFormedTree, Encodes}
 use Rattle.tree.specs.Decode.{decode, is_tree}
 use Rattle.tree_forest.specs.Forest.{is_present}
-use Rattle.tree.specs.DecodeLaws.{decode-complete, decode-sound}
+use Rattle.tree.specs.DecodeLaws.{decode-complete}
 use Rattle.tree.specs.Ids.{is_path, path_from_ids, steps, Words}
 use Rattle.tree.specs.IdsLaws.{Ids, steps-ids, path-first, path-at, words-drop}
 use Rattle.tree.specs.Standing.{Within}

@@ -1,12 +1,12 @@
 -- Laws of `read` and `write` at the first node of a forest, whose id is larger than the path's first, smaller, or the same.
 use Rattle.std.specs.Prelude.{◌≡◌, ℕ, ◌<◌}
 use Rattle.std.proofs.Math.Path.{refl, ap}
-use Rattle.std.proofs.Common.{sym, subst, ◌∙◌, arith}
+use Rattle.std.proofs.Common.{◌∙◌, arith}
 use mathlib.Core.List.{List, [], ◌∷◌}
 use Rattle.tree_forest.specs.Compare.{Compare, lt, eq, gt, compare}
 use Rattle.tree_forest.specs.Forest.{Forest, end, node, Tree, tree, Lookup, absent, present, find, node_of, set_by, set}
 use Rattle.tree_forest.specs.ForestLaws.{find-eq, find-lt, find-gt}
-use Rattle.tree_forest.specs.Path.{Path, path, read, read_steps, write, write_steps}
+use Rattle.tree_forest.specs.Path.{path, read, read_steps, write, write_steps}
 
 module _ {A : Type 0} where
   set-lt : {i j : ℕ} (c : Compare i j) → i < j → (n : Tree A) (a : A) (k r s : Forest A) → set_by c n a k r s ≡ node_of i n (node j a k r)

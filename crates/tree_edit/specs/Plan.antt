@@ -1,6 +1,6 @@
 -- Where a path leads in the bytes of a tree, and the bytes spliced there: the code's way to the changes of Change.antt. proofs/Splicing
 -- proves that splicing as planned gives the byte form of the changed tree.
-use Rattle.std.specs.Prelude.{◌≡◌, List, [], ◌∷◌, ◌++◌, Bool, true, false, ℕ, ◌+◌, ◌/◌, ◌%◌, ◌<◌, ◌≤◌, length, get_or, take, drop, set, ltb}
+use Rattle.std.specs.Prelude.{◌≡◌, List, [], ◌∷◌, ◌++◌, ℕ, ◌+◌, ◌/◌, ◌%◌, ◌<◌, ◌≤◌, length, get_or, take, drop, set, ltb}
 use Rattle.tree_forest.specs.Forest.{Forest, end, node, Tree, tree, Lookup, absent, present}
 use Rattle.tree_forest.specs.Path.{read, write}
 use Rattle.scalar.specs.Value.{Value, value}

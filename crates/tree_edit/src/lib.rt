@@ -1,4 +1,6 @@
 // Changing trees in bytes: replacing a subtree, setting a value, copying a subtree out, and storing bytes in a region.
+#![tactic(auto)]
+
 ghost use Rattle.std.specs.Prelude.{◌≡◌, true, ◌++◌, [], ◌∷◌, ℕ, ◌+◌, ◌-◌, ◌*◌, ◌/◌, ◌%◌, ◌≤◌, ◌<◌, length, take, drop, get_or, set};
 ghost use Rattle.tree_forest.specs.Forest.{end, tree};
 ghost use Rattle.scalar.specs.Value.{value, basic_of, bytes_of};

@@ -1,0 +1,8 @@
+use Rattle.tree_edit.proofs.Bounds.{route-laws}
+use Rattle.tree_edit.proofs.route.Goals as goal
+
+pub returns-in_default : goal.returns-in_default
+returns-in_default c = search route-laws depth 12
+
+pub returns : goal.returns
+returns c = search route-laws depth 12
