@@ -1,5 +1,5 @@
 -- B rows as behaviours, by the row that a reader gives. 01, B. In a file that none of 2 to 5 refuses these are network's behaviours.
-use Rattle.std.specs.Prelude.{ℕ, ◌+◌, ◌<◌, ◌≤◌, ◌≡◌, List}
+use Rattle.std.specs.Prelude.{ℕ, ◌+◌, ◌<◌, ◌≤◌, List}
 use Rattle.network_syntax.specs.Syntax.{Behaviour}
 use Rattle.network.specs.Layout.{path_count, expression_count, behaviour_count, operation_count, behaviour_at}
 use Rattle.network.specs.Rows.{field_a, field_b}

@@ -1,13 +1,13 @@
 -- Laws of B rows by the row that a reader gives: network's behaviour, and what its fields keep to.
-use Rattle.std.specs.Prelude.{ℕ, suc, ◌+◌, ◌-◌, ◌<◌, ◌≤◌, ◌≡◌, refl, List}
+use Rattle.std.specs.Prelude.{ℕ, suc, ◌+◌, ◌<◌, ◌≤◌, ◌≡◌, refl, List}
 use Rattle.std.proofs.Common.{sym, ◌∙◌, ap, subst, arith}
 use Rattle.network_syntax.specs.Rows.{input_of, output_of}
 use Rattle.network.specs.declared.BehaviourKind.{BehaviourKind}
-use Rattle.network.specs.Layout.{path_count, expression_count, behaviour_count, operation_count, behaviour_at}
+use Rattle.network.specs.Layout.{behaviour_count, behaviour_at}
 use Rattle.network.specs.Rows.{field_a, field_b, field_c, field_d, kind_at}
 use Rattle.network.specs.Form.{WellFormed}
 use Rattle.network.specs.Decode.{behaviour_of}
-use Rattle.network.specs.UseLaws.{Child, SubKept, InputKept, BranchKept, RowKept, behaviour-kept, branch_kept}
+use Rattle.network.specs.UseLaws.{Child, BranchKept, RowKept, behaviour-kept, branch_kept}
 use Rattle.network.specs.BehaviourLaws.{behaviour-row}
 use Rattle.network_rows.specs.declared.BehaviourRow.{BehaviourRow}
 use Rattle.network_rows.specs.declared.InputRow.{InputRow}

@@ -1,4 +1,6 @@
 // Rows by what they name: an E row's operator and operands, the sub-behaviours of a B row. Every function is exact on any bytes.
+#![tactic(auto)]
+
 ghost use Rattle.std.specs.Prelude.{◌≡◌};
 ghost use Rattle.network_row_parts.specs.Parts.{unary_part, binary_part, part_as, expression_part, subs_in, subs_of};
 
