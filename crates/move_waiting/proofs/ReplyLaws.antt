@@ -9,7 +9,6 @@ use Rattle.tree_forest.specs.Forest.{Forest, Tree}
 use Rattle.tree_forest.specs.Path.{replace_at}
 use Rattle.scalar.specs.Value.{Value}
 use Rattle.tree.specs.Encode.{Message}
-use Rattle.tree.specs.Ids as ids
 use Rattle.refusal.specs.declared.Refusal.TheVariants.{Stuck}
 use Rattle.refusal.specs.declared.Outcome.{Outcome}
 use Rattle.refusal.specs.Refusal.{done_with, refused_by}

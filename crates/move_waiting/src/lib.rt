@@ -1,5 +1,7 @@
 // Rows that wait for their replies. 01, Moves: "A solicit-response then waits"; a reply goes to "its waiting row", where it "replaces the
 // subtree", and an outer reply is "bytes for a row waiting on an outside location".
+#![tactic(auto)]
+
 ghost use Rattle.std.specs.Prelude.{◌≡◌, ◌+◌, ◌≤◌, ◌<◌, length};
 ghost use Rattle.move_waiting.specs.Waiting.{HasRow, WaitsAt, SenderInside, settled, PutsReply, TakesReply};
 ghost use Rattle.state.specs.Places.{slot_size, tree_room};
