@@ -1,15 +1,13 @@
 -- One law for each way out of the functions with branches; the loop over the children of a T row keeps to their run.
-use Prim.Native.Nat.{ℕ, zero, suc, ◌+◌, ◌-◌, ◌<◌, ◌≤◌}
+use Prim.Native.Nat.{ℕ, ◌+◌, ◌-◌, ◌≤◌}
 use mathlib.Core.Path.{◌≡◌, refl, sym, ◌∙◌, ap}
 use mathlib.Core.List.{List}
 use mathlib.Core.Bool.{Bool, true, false, not, ◌&&◌}
 use lib.Dec.{eqb}
-use native.Mathlib.Omega.{arith}
 use borrow.Author.Tests.{eq-eqb, ne_eqb}
-use Rattle.basics.specs.Choice.{pick}
 use Rattle.network.specs.declared.Broken.{Broken}
 use Rattle.network.specs.declared.Broken.TheVariants.{Nowhere}
-use Rattle.network.specs.Least.{least, rule, least_over}
+use Rattle.network.specs.Least.{rule}
 use Rattle.network.specs.Layout.{type_count, operation_at}
 use Rattle.network.specs.Rows.{type_id, later_run, children_fit, id_before, child_rule, child_ids, root_fits, location_fits, reply_fits, operation_id, same_service, same_name, repeat_rule}
 use Rattle.network.specs.FoldLaws.{child-outside}

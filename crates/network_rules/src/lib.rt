@@ -1,5 +1,7 @@
 // Refusal 4 on the rows of P, T, O and S: the lowest place of a broken rule. Each function is its definition line by line; loops
 // over a run's rows keep to the run.
+#![tactic(auto)]
+
 ghost use Rattle.std.specs.Prelude.{◌≡◌, not, ◌&&◌, ◌||◌, ◌+◌, ◌-◌, eqb, leb, ltb};
 ghost use Rattle.network.specs.Least.{rule, least_over};
 ghost use Rattle.network.specs.Layout.{operation_at, service_count};

@@ -1,0 +1,11 @@
+use Rattle.network_layout.specs.Loops.{loop-laws}
+use Rattle.network_rules.proofs.location_repeats.Goals as goal
+
+pub loop-i-init : goal.loop-i-init
+loop-i-init c = search loop-laws depth 12
+
+pub loop-i-preserved : goal.loop-i-preserved
+loop-i-preserved c = search loop-laws depth 12
+
+pub returns : goal.returns
+returns c = search loop-laws depth 12

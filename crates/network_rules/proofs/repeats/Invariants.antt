@@ -1,0 +1,10 @@
+use Prim.Native.Nat.{◌-◌}
+use Rattle.network_layout.specs.Loops.{Swept}
+use Rattle.network.specs.Rows.{repeat_rule}
+use Rattle.network_rules.proofs.repeats.Given as goal
+
+abbrev pub invariant-loop-i : goal.invariant-loop-i
+invariant-loop-i l = Swept (repeat_rule l.s l.r) l.r l.i l.m
+
+abbrev pub decreases-loop-i : goal.decreases-loop-i
+decreases-loop-i l = l.r - l.i
