@@ -1,12 +1,11 @@
 -- One law for each way out of the functions with branches; the loop over a choice's rows keeps to their run.
-use Prim.Native.Nat.{ℕ, zero, suc, ◌+◌, ◌-◌, ◌<◌, ◌≤◌}
+use Prim.Native.Nat.{ℕ, ◌+◌, ◌-◌, ◌≤◌}
 use mathlib.Core.Path.{◌≡◌, refl, sym, ◌∙◌, ap}
-use mathlib.Core.List.{List, []}
+use mathlib.Core.List.{List}
 use mathlib.Core.Bool.{Bool, true, false, ◌&&◌}
 use lib.Dec.{eqb, leb, ltb}
 use lib.ListN.{length, take, drop, length-drop}
 use native.Mathlib.Omega.{arith}
-use borrow.Author.Tests.{ltb-true}
 use Rattle.scalar.specs.Value.{is_value}
 use Rattle.wire.specs.Wire.{part, u16_at}
 use Rattle.network.specs.declared.Broken.{Broken}
@@ -16,7 +15,7 @@ use Rattle.network.specs.declared.BehaviourKind.{BehaviourKind}
 use Rattle.network.specs.declared.FieldSort.{FieldSort}
 use Rattle.network.specs.declared.FieldSort.TheVariants.{Unruled, Unused, PathRow, EarlierRow, ExpressionRow, OperationRow, LaterRow, InputRow, BranchRun, BranchCount, ConstantPart}
 use Rattle.network.specs.declared.Fields.{Fields}
-use Rattle.network.specs.Least.{least, rule, least_over}
+use Rattle.network.specs.Least.{rule}
 use Rattle.network.specs.Layout.{path_count, expression_count, operation_count, behaviour_count, behaviour_at}
 use Rattle.network.specs.Kinds.{fields, expression_fields, behaviour_fields}
 use Rattle.network.specs.Rows.{later_run, sub_fits, input_fits, constant_fits, field_fits, basic_fits, is_choice_kind, kind_at, branch_rule, branch_row_rule, choice_run, fields_rule, behaviour_head, behaviour_row}

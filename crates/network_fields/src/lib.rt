@@ -1,5 +1,7 @@
 // Refusal 4 on the rows of E and B, by the table of what each kind's fields are: the lowest place of a broken rule. The use of B
 // rows is judged elsewhere.
+#![tactic(auto)]
+
 ghost use Rattle.std.specs.Prelude.{◌≡◌, not, ◌&&◌, ◌||◌, ◌+◌, ◌<◌};
 ghost use Rattle.scalar.specs.Value.{is_value};
 ghost use Rattle.wire.specs.Wire.{part, u16_at};
