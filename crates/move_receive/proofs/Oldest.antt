@@ -16,7 +16,6 @@ use Rattle.network_rows.specs.Readers.{path_ids}
 use Rattle.state.specs.Places.{entry_start}
 use Rattle.state.specs.Session.{Session}
 use Rattle.state.specs.Bytes.{read_entry, read_session}
-use Rattle.state.specs.Queue.{message}
 use Rattle.scalar.specs.Value.{void_value}
 use Rattle.state_queues.specs.declared.OldestEntry.{OldestEntry}
 use Rattle.state_queues.specs.declared.OldestEntry.TheVariants.{Nothing, Entry}

@@ -1,5 +1,7 @@
 // Receiving. 01: "receive: a ready input (in a choice it settles the branch) takes the oldest queued message of its operation and replaces the
 // subtree." `slot` is where the session's slot starts. Everything is tested before the first byte of the state is written.
+#![tactic(auto)]
+
 ghost use Rattle.std.specs.Prelude.{◌≡◌, ◌+◌, ◌≤◌, ◌<◌, length};
 ghost use Rattle.state.specs.Places.{slot_size, tree_room, entry_start};
 ghost use Rattle.state.specs.Bytes.{read_entry};
