@@ -1,16 +1,16 @@
 -- Laws of marks: uses one after another, one law for each way out of the functions, and the pass over all rows and services.
-use Prim.Native.Nat.{ℕ, zero, suc, ◌+◌, ◌-◌, ◌<◌, ◌≤◌}
+use Prim.Native.Nat.{ℕ, zero, suc, ◌+◌, ◌<◌, ◌≤◌}
 use mathlib.Core.Path.{◌≡◌, refl, sym, ◌∙◌, ap}
 use mathlib.Core.List.{List, [], ◌∷◌}
 use mathlib.Core.Bool.{Bool, true, false, not, ◌&&◌, ◌||◌}
-use mathlib.Core.Logic.{◌⊎◌, inl, inr, ⊎_elim}
+use mathlib.Core.Logic.{⊎_elim}
 use native.Mathlib.Nat.{not-suc-le-zero, le_of_suc-le-suc, eq-or-lt_of_le}
 use native.Mathlib.Numerals.{add-one}
 use native.Mathlib.Omega.{arith}
 use lib.ListN.{get_or, set, length, length-set}
 use lib.Seq.{get_or-set_same, get_or-set_other}
 use lib.Dec.{eqb, leb, ltb}
-use borrow.Author.Tests.{eq-eqb, ne_eqb, eqb-true, eqb-false, lt-ltb, le-ltb, le-leb, lt-leb, ltb-true, ltb-false, leb-true, leb-false}
+use borrow.Author.Tests.{eq-eqb, ne_eqb, eqb-true, eqb-false, lt-ltb, le-ltb, le-leb, ltb-true, ltb-false, leb-true}
 use Rattle.basics.specs.Choice.{pick}
 use Rattle.network.specs.declared.Broken.{Broken}
 use Rattle.network.specs.declared.Broken.TheVariants.{Nowhere}
@@ -22,7 +22,7 @@ use Rattle.network.specs.declared.BehaviourKind.{BehaviourKind}
 use Rattle.wire.specs.Wire.{u16_at}
 use Rattle.network.specs.Kinds.{behaviour_fields}
 use Rattle.network.specs.declared.Fields.{Fields}
-use Rattle.network.specs.Rows.{in_run, kind_at, starter_row, client_row}
+use Rattle.network.specs.Rows.{kind_at, starter_row, client_row}
 use Rattle.network.specs.Uses.{one, field_uses, uses_by, row_uses, service_uses, used_by_rows, used, second_use, row_use_rule, service_use_rule, uses_rows}
 use Rattle.network.specs.FoldLaws.{used_rule, uses-by-user}
 use Rattle.network_layout.specs.Loops.{clip, clip-below, run_none, Swept, swept_none, swept-more, swept-done}

@@ -1,6 +1,6 @@
 -- Marks on the B rows that are used, and what going over some uses of rows does to them. A mark that is not 0 says that the row is
 -- used. The uses of one row, run, field, B row or service are given as a function: how often is row t used?
-use Rattle.std.specs.Prelude.{ℕ, zero, suc, ◌+◌, ◌<◌, ◌≤◌, ◌≡◌, List, Bool, true, false, not, ◌&&◌, ◌||◌, get_or, length, eqb, leb, ltb}
+use Rattle.std.specs.Prelude.{ℕ, zero, suc, ◌+◌, ◌<◌, ◌≤◌, ◌≡◌, List, Bool, false, not, ◌&&◌, ◌||◌, get_or, length, eqb, leb, ltb}
 use Rattle.network.specs.declared.Broken.{Broken}
 use Rattle.network.specs.declared.Broken.TheVariants.{Nowhere}
 use Rattle.network.specs.declared.FieldSort.{FieldSort}

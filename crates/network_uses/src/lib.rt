@@ -1,5 +1,7 @@
 // Refusal 4, the last of its rules: "Each row is used exactly once, by a row or a service". One pass over the B and S rows in file
 // order with a mark for each B row that is used; then refusal 4 as a whole.
+#![tactic(auto)]
+
 ghost use Rattle.std.specs.Prelude.{◌≡◌, ◌≤◌};
 ghost use Rattle.network.specs.Least.{least_over};
 ghost use Rattle.network.specs.Layout.{behaviour_count};
