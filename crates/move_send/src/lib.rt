@@ -1,5 +1,7 @@
 // The move send. 01, Moves: "send, with a target session: to the input it meets, queued at a live one, or starting a free 1 to 3 ..". "To a
 // location outside (target 0) the message alone goes to the start of the out buffer." Everything is tested before the first store.
+#![tactic(auto)]
+
 ghost use Rattle.std.specs.Prelude.{◌≡◌, ◌+◌, ◌%◌, ◌≤◌, ◌<◌, length};
 ghost use Rattle.state_progress.specs.Meaning.{meaning};
 ghost use Rattle.state_destinations.specs.Meaning.{reply_of};
