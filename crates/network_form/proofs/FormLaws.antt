@@ -1,31 +1,29 @@
 -- The walk over written-out types, with what is left of the allowed nodes; the levels of expressions in one pass; and one law for each
 -- way out of `form_of`.
-use Prim.Native.Nat.{ℕ, zero, suc, ◌+◌, ◌-◌, ◌*◌, ◌<◌, ◌≤◌}
+use Prim.Native.Nat.{ℕ, zero, suc, ◌+◌, ◌-◌, ◌<◌, ◌≤◌}
 use mathlib.Core.Path.{◌≡◌, refl, sym, ◌∙◌, ap}
-use mathlib.Core.List.{List, [], ◌∷◌}
-use mathlib.Core.Bool.{Bool, true, false, not, ◌&&◌, ◌||◌}
-use mathlib.Core.Logic.{◌⊎◌, inl, inr, ⊎_elim}
+use mathlib.Core.List.{List}
+use mathlib.Core.Bool.{Bool, true, false, not, ◌&&◌}
+use mathlib.Core.Logic.{⊎_elim}
 use native.Mathlib.Nat.{eq-or-lt_of_le}
-use lib.Dec.{eqb, leb, ltb}
-use lib.ListN.{get_or, set, length, length-set, get_or-eq_default}
+use lib.Dec.{leb, ltb}
+use lib.ListN.{get_or, set, length, length-set}
 use lib.Seq.{get_or-set_same, get_or-set_other}
-use native.Mathlib.Numerals.{add-one}
 use native.Mathlib.Omega.{arith}
-use borrow.Author.Tests.{lt-ltb, le-ltb, le-leb, lt-leb, leb-true, leb-false, ltb-true, ltb-false, not-true, not-false, eqb-true}
+use borrow.Author.Tests.{lt-ltb, le-ltb, le-leb, lt-leb, leb-true, leb-false, ltb-true, ltb-false, not-true, not-false}
 use Rattle.basics.specs.Choice.{pick}
 use Rattle.basics.specs.TestLaws.{and-false, and-of, and-true}
-use Rattle.wire.specs.Wire.{byte_at, u16_at}
+use Rattle.wire.specs.Wire.{byte_at}
 use Rattle.network.specs.declared.Broken.{Broken}
 use Rattle.network.specs.declared.Broken.TheVariants.{At, Nowhere}
 use Rattle.network.specs.declared.ExpressionKind.{ExpressionKind}
 use Rattle.refusal.specs.declared.Refusal.TheVariants.{FileLayout, SectionCount, BrokenField, TooLarge}
 use Rattle.refusal.specs.declared.Verdict.TheVariants.{Done, Refused}
-use Rattle.network.specs.declared.FieldSort.TheVariants.{EarlierRow}
-use Rattle.network.specs.Least.{least, rule, least_over}
+use Rattle.network.specs.Least.{least, rule}
 use Rattle.network.specs.LeastLaws.{least_kept, rule-kept, over-kept}
 use Rattle.network.specs.Layout.{expression_count, expression_at, path_count, type_count, behaviour_count, operation_count, service_count, laid_out, counted}
 use Rattle.network.specs.Kinds.{expression_fields}
-use Rattle.network.specs.Rows.{first_child, child_count, field_a, field_b, field_c, expression_kind_at, expression_by, expression_row, expression_rows, fields_rule, field_fits, basic_fits, path_rows, type_rows, behaviour_rows, operation_rows, service_rows}
+use Rattle.network.specs.Rows.{first_child, child_count, field_a, field_b, field_c, expression_kind_at, expression_row, expression_rows, fields_rule, field_fits, basic_fits, path_rows, type_rows, behaviour_rows, operation_rows, service_rows}
 use Rattle.network.specs.Uses.{uses_rows, broken}
 use Rattle.network.specs.Sizes.{rows_sum, rows_all, levels_within, nodes_to, type_within, depth_within, operands_within, expression_large, expression_sizes, large}
 use Rattle.network.specs.Form.{form_of}

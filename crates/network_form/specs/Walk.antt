@@ -1,8 +1,7 @@
 -- What the walks over written-out types and expressions give: nodes left or too large; the levels of a row, worked out from its
 -- operands' levels. 01: "Every T row written out has at most 16 nodes and 4 levels, every E row 8 levels; a row alone is one".
-use Rattle.std.specs.Prelude.{ℕ, zero, suc, ◌+◌, ◌-◌, ◌<◌, ◌≤◌, ◌≡◌, List, Bool, true, false, ◌&&◌, leb, ltb, get_or}
+use Rattle.std.specs.Prelude.{ℕ, ◌+◌, ◌-◌, ◌≤◌, ◌≡◌, List, Bool, true, false, ◌&&◌, leb, ltb, get_or}
 use Rattle.basics.specs.Choice.{pick}
-use Rattle.network.specs.declared.Broken.{Broken}
 use Rattle.network.specs.declared.Broken.TheVariants.{Nowhere}
 use Rattle.network.specs.declared.ExpressionKind.{ExpressionKind}
 use Rattle.network.specs.Layout.{expression_count, expression_at}

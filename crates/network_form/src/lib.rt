@@ -1,5 +1,7 @@
 // Refusal 5, sizes; and what refusals 2 to 5 say of a file. Types are walked with what is left of the 16 nodes and 4 levels; the levels
 // of expressions are worked out in one pass, each row's from its operands'.
+#![tactic(auto)]
+
 ghost use Rattle.std.specs.Prelude.{◌≡◌, ◌+◌, ◌<◌};
 ghost use Rattle.network.specs.Rows.{first_child, child_count};
 ghost use Rattle.network.specs.Sizes.{type_within, type_large, type_sizes, expression_sizes, large};
