@@ -6,13 +6,12 @@ use Prim.Native.Nat.{ℕ, ◌≤◌, ◌<◌}
 use native.Mathlib.Omega.{arith}
 use types.Run.{OneOf, miss}
 use denote.Enum.Declared.{tag_of}
-use lib.ListN.{length, take, drop, length-take}
+use lib.ListN.{length, take, drop}
 use Rattle.tree_forest.specs.Forest.{Tree, Lookup}
 use Rattle.tree_forest.specs.Path.{Path, read}
 use Rattle.scalar.specs.Value.{Value}
-use Rattle.tree.specs.Encode.{Encodes, Message}
+use Rattle.tree.specs.Encode.{Encodes}
 use Rattle.tree_forest.specs.Limits.{session_levels, session_nodes}
-use Rattle.tree.specs.Ids as ids
 use Rattle.tree_edit.specs.Wrote.{Wrote}
 use Rattle.tree_edit.specs.WroteLaws.{wrote-all}
 use Rattle.refusal.specs.declared.Refusal.{Refusal}

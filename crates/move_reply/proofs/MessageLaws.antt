@@ -10,7 +10,7 @@ use Rattle.basics.specs.TestLaws.{unequal}
 use Rattle.tree_forest.specs.Forest.{tree, Lookup, absent}
 use Rattle.tree_forest.specs.Path.{Path, read}
 use Rattle.scalar.specs.Value.{Value}
-use Rattle.tree.specs.Encode.{Encodes, Message, empty}
+use Rattle.tree.specs.Encode.{Encodes, empty}
 use Rattle.tree_forest.specs.Limits.{session_levels, session_nodes}
 use Rattle.tree.specs.Decode.{decode, is_tree}
 use Rattle.tree_forest.specs.Forest.{is_present}

@@ -3,7 +3,7 @@ use Rattle.std.specs.Prelude.{◌≡◌, true, List, ℕ, ◌<◌, ◌≤◌, le
 use Rattle.tree_forest.specs.Forest.{Tree, Lookup, absent, present}
 use Rattle.tree_forest.specs.Path.{read}
 use Rattle.scalar.specs.Value.{Value}
-use Rattle.tree.specs.Encode.{Encodes, Message}
+use Rattle.tree.specs.Encode.{Encodes}
 use Rattle.tree_forest.specs.Limits.{session_levels, session_nodes}
 use Rattle.refusal.specs.declared.Outcome.{Outcome}
 use Rattle.network_syntax.specs.Syntax.{Network, Operation}

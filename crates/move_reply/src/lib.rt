@@ -1,5 +1,7 @@
 // The move reply. 01, Moves: "reply: a request-response whose body is done answers its waiting row; for an outsider, the u32 reply number and
 // then the message go to the start of the out buffer."
+#![tactic(auto)]
+
 ghost use Rattle.std.specs.Prelude.{◌≡◌, ◌++◌, ◌+◌, ◌≤◌, ◌<◌, length};
 ghost use Rattle.tree_edit.specs.Wrote.{Wrote};
 ghost use Rattle.state.specs.Places.{slot_size, tree_room};
