@@ -1,5 +1,7 @@
 // The moves by which a message and a reply come from outside. 01, Moves: "outer message (service, operation id, target session, u32 reply
 // number, ignored if one-way, bytes), sent likewise, and outer reply (bytes for a row waiting on an outside location)".
+#![tactic(auto)]
+
 ghost use Rattle.std.specs.Prelude.{◌≡◌, length};
 ghost use Rattle.basics.specs.Choice.{pick};
 ghost use Rattle.network_syntax.specs.Syntax.{none, some};
