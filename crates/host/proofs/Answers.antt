@@ -1,5 +1,5 @@
 -- Number and place of the checker's answer; start and length of the reader's; what fresh and a move leave, in numbers.
-use mathlib.Core.Path.{◌≡◌, refl, sym, ap, subst, ◌∙◌}
+use mathlib.Core.Path.{◌≡◌, sym, ap, subst, ◌∙◌}
 use mathlib.Core.List.{List}
 use Prim.Native.Nat.{ℕ}
 use Rattle.refusal.specs.Refusal.{number_in, place_in}

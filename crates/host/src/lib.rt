@@ -1,6 +1,7 @@
 // The checker, fresh state, the moves, the message reader, the reader of type declarations and the message that breaks it for C: numbers and
 // slices only. A slice is passed as a pointer and a length; include/pokhveti.h has the declarations.
 #![tactic(auto)]
+
 ghost use Rattle.std.specs.Prelude.{◌≡◌, [], ◌∷◌};
 ghost use Rattle.check_files.specs.FileChecker.{check_file};
 ghost use Rattle.check_listing.specs.Listed.{listed_number, listed_count, listed_bytes};
@@ -202,12 +203,7 @@ pub fn pokhveti_close(
 }
 
 // Reads a text of type declarations and writes its T rows: 0, or the number of the refusal.
-pub fn pokhveti_types(
-    text: &[u8],
-    rows: &mut [u8],
-    bytes: &mut usize,
-    place: &mut usize,
-) -> u32
+pub fn pokhveti_types(text: &[u8], rows: &mut [u8], bytes: &mut usize, place: &mut usize) -> u32
     ensures { TellsText (write_types text.now rows.old) result bytes.new place.new rows.new }
 {
     report(controller::write_types(text, rows), bytes, place)
