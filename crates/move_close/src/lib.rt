@@ -1,4 +1,6 @@
 // Closing a session. 01: "close: a done session becomes free; its queue is dropped".
+#![tactic(auto)]
+
 ghost use Rattle.std.specs.Prelude.{◌≡◌, length};
 ghost use Rattle.move_rules.specs.Moves.{close_move};
 ghost use Rattle.move_frame.specs.Made.{Made};
