@@ -11,9 +11,11 @@ mod input;
 
 pub use input::{Event, Input, What, next, start};
 use lines::Fault;
-use std::io;
-use std::io::{Read, Write};
+use std::env::FillError;
+use std::io::{ErrorKind, Read, Write};
 use std::process::ExitCode;
+use std::rt::{Env, Files};
+use std::{fs, io, str};
 
 // A loop over input takes at most so many turns; it then ends with an error.
 pub const TURNS: u64 = 9223372036854775808;
@@ -115,6 +117,22 @@ pub fn spent<E: Write>(errors: &mut E) -> Status
 {
     let _ = writeln!(errors, "standard input: too long");
     Status::Failed
+}
+
+// Whether the program was given an argument of this number, from 1.
+pub fn is_given<V: Env>(env: &V, i: usize) -> bool {
+    if let Err(FillError::NotPresent) = env.arg(i, &mut []) {
+        return false;
+    }
+    true
+}
+
+// Opens the file of this name, which is UTF-8.
+pub fn open<F: Files>(files: &F, name: &[u8]) -> io::Result<F::File> {
+    match str::from_utf8(name) {
+        Ok(path) => fs::open(files, path),
+        Err(_) => Err(io::Error::new(ErrorKind::InvalidInput, "the name is not UTF-8")),
+    }
 }
 
 // Reads a file to its end or until the buffer is full.
