@@ -23,11 +23,9 @@ pub fn word<W: Write>(out: &mut W, basic: u8) -> io::Result<()> {
 pub fn print_path<W: Write>(out: &mut W, ids: [u16; 8], level: usize) -> io::Result<()>
     requires { level < 8 }
 {
-    let mut i: usize = 0;
-    while i < level {
+    for i in 0..level {
         number(out, wire::index(ids[i]) as u64)?;
         write(out, b".")?;
-        i += 1;
     }
     number(out, wire::index(ids[level]) as u64)
 }
