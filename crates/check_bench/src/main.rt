@@ -59,9 +59,8 @@ fn repeat(s: &mut [u8], times: u32) -> u64 {
 // The decimal number of the digits at the start of the text, below 1,000,000,000.
 fn decimal(text: &[u8]) -> u32 {
     let mut n: u32 = 0;
-    let mut i: usize = 0;
-    while i < text.len() {
-        let c = text[i];
+    for x in text {
+        let c = *x;
         if c < 48 {
             return n;
         }
@@ -72,7 +71,6 @@ fn decimal(text: &[u8]) -> u32 {
             return n;
         }
         n = 10 * n + (c - 48) as u32;
-        i += 1;
     }
     n
 }

@@ -40,8 +40,7 @@ fn print_label<W: Write>(out: &mut W, q: u64, n: u64, what: &[u8]) -> io::Result
 fn print_queue<W: Write>(out: &mut W, state: &[u8], q: u64, n: u64, queue: usize) -> io::Result<()>
     requires { queue + queue_size ≤ length state.now }
 {
-    let mut i: usize = 0;
-    while i < 4 {
+    for i in 0usize..4 {
         let at = queue + state::ENTRY * i;
         let operation = wire::wide(state[at]);
         let len = wire::index(wire::u16_at(state, at + 2));
@@ -54,7 +53,6 @@ fn print_queue<W: Write>(out: &mut W, state: &[u8], q: u64, n: u64, queue: usize
             }
             write(out, b"\n")?;
         }
-        i += 1;
     }
     Ok(())
 }
@@ -78,8 +76,7 @@ fn print_progress<W: Write>(out: &mut W, progress: u8, part: u8) -> io::Result<(
 fn print_rows<W: Write>(out: &mut W, state: &[u8], q: u64, n: u64, rows: usize) -> io::Result<()>
     requires { rows + rows_size ≤ length state.now }
 {
-    let mut r: usize = 0;
-    while r < 256 {
+    for r in 0usize..256 {
         let at = rows + state::ROW * r;
         let progress = state[at];
         if 0 < progress {
@@ -87,7 +84,6 @@ fn print_rows<W: Write>(out: &mut W, state: &[u8], q: u64, n: u64, rows: usize) 
             number(out, r as u64)?;
             print_progress(out, progress, state[at + 1])?;
         }
-        r += 1;
     }
     Ok(())
 }
@@ -150,10 +146,8 @@ fn print_slot<W: Write>(out: &mut W, file: &[u8], state: &[u8], slot: usize) -> 
 pub(crate) fn print_state<W: Write>(out: &mut W, file: &[u8], state: &[u8]) -> io::Result<()>
     requires { length state.now ≡ 65536 }
 {
-    let mut slot: usize = 0;
-    while slot < 16 {
+    for slot in 0usize..16 {
         print_slot(out, file, state, slot)?;
-        slot += 1;
     }
     Ok(())
 }

@@ -67,8 +67,7 @@ fn read_numbers(s: &[u8], kind: u8) -> Numbers
     let mut values = [0u64; 4];
     let mut judged = Judged::Good;
     let mut at: usize = 0;
-    let mut i: usize = 0;
-    while i < n {
+    for i in 0..n {
         let read = lines::read_number(&s[at..], most(kind, i));
         values[i] = read.value;
         at += read.next;
@@ -76,7 +75,6 @@ fn read_numbers(s: &[u8], kind: u8) -> Numbers
         if let Judged::Wrong(_) = judged {
             break;
         }
-        i += 1;
     }
     Numbers {
         judged: judged,
