@@ -30,8 +30,7 @@ fn ids<W: Write>(out: &mut W, text: &[u8]) -> io::Result<()> {
     }
     let mut names = [0u8; 16384];
     let n = type_trees::gather(text, &mut names);
-    let mut i: usize = 0;
-    while i < n {
+    for i in 0..n {
         if 8191 < i {
             return Ok(());
         }
@@ -42,15 +41,13 @@ fn ids<W: Write>(out: &mut W, text: &[u8]) -> io::Result<()> {
             text,
             wire::index(wire::u16_at(&names, 2 * i)),
         )?;
-        i += 1;
     }
     Ok(())
 }
 
 fn rows<W: Write>(out: &mut W, text: &[u8], table: &[u8], n: usize) -> io::Result<()> {
     let mut row: usize = 0;
-    let mut i: usize = 0;
-    while i < n {
+    for i in 0..n {
         if 256 < i {
             return Ok(());
         }
@@ -65,7 +62,6 @@ fn rows<W: Write>(out: &mut W, text: &[u8], table: &[u8], n: usize) -> io::Resul
             wire::index(wire::u16_at(table, 6 * i)),
         )?;
         row += 1 + wire::index(wire::u16_at(table, 6 * i + 2));
-        i += 1;
     }
     Ok(())
 }

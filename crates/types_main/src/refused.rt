@@ -19,13 +19,11 @@ fn ends(b: u8) -> u64
 // The line of a place, from 1.
 fn line_of(text: &[u8], p: usize) -> u64 {
     let mut line: u64 = 1;
-    let mut i: usize = 0;
-    while i < p {
+    for i in 0..p {
         if 8192 < i {
             return line;
         }
         line += ends(wire::byte_at(text, i));
-        i += 1;
     }
     line
 }
@@ -36,9 +34,7 @@ fn column_of(text: &[u8], p: usize) -> u64 {
         return 1;
     }
     let mut column: u64 = 1;
-    let mut i: usize = p;
-    while 0 < i {
-        i -= 1;
+    for i in (0..p).rev() {
         if wire::byte_at(text, i) == 10 {
             return column;
         }
@@ -64,8 +60,7 @@ fn declared_at(text: &[u8], row: usize) -> usize {
         return 0;
     };
     let mut rows: usize = 0;
-    let mut i: usize = 0;
-    while i < n {
+    for i in 0..n {
         if 2730 < i {
             return 0;
         }
@@ -73,7 +68,6 @@ fn declared_at(text: &[u8], row: usize) -> usize {
         if row < rows {
             return wire::index(wire::u16_at(&table, 6 * i));
         }
-        i += 1;
     }
     0
 }
