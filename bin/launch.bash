@@ -85,7 +85,7 @@ closure() {
             for (k = 1; k <= count; k++) visit(on[k])
         }
         { sub(/#.*/, "") }
-        NF == 2 { needs[$1] = $2 }
+        NF == 2 { split($1, head, " "); needs[head[1]] = $2 }
         END { visit(wanted) }' "$root/crates.txt" 2> /dev/null
 }
 
@@ -108,28 +108,32 @@ stale() {
     fi
 }
 
-# Prints `[12/28] typing` for each crate that rt has proved now; keeps all that rt says in a file.
+# Prints `checked typing` for each crate that rt has checked now; keeps all that rt says in a file.
 progress() {
-    local line count=0
+    local line
     trap '' PIPE
     while IFS= read -r line; do
         printf '%s\n' "$line" >&8
-        [[ $line =~ ^rt:\ ([^ ]+)\ proved\ \((.*) ]] || continue
-        count=$((count + 1))
-        [[ ${BASH_REMATCH[2]} = unchanged* ]] || printf '[%d/%d] %s\n' "$count" "${#crates[@]}" "${BASH_REMATCH[1]}" >&2
+        [[ $line =~ ^crate\ ([^ ]+):\  ]] || continue
+        printf 'checked %s\n' "${BASH_REMATCH[1]}" >&2
     done 8> "$stamp.log"
 }
 
-# Lets rt prove $crate and make $built.
+# Lets rt prove $crate and make $built. A program that is built is run by rt, here on no input; its own status tells nothing.
 build() {
-    cd "$root" || return
-    rt check "$crate" 2>&1 | progress || return
+    local made=out/$crate
+    cd "$root/crates/$crate" || return
     case $built in
-        *.a) rt staticlib "$crate" >> "$stamp.log" 2>&1 ;;
+        *.a) made=out/lib$crate.a && rt lib 2>&1 | progress || return ;;
+        *)
+            rt run 2>&1 > /dev/null < /dev/null | progress
+            grep -q '^rt: running out/' "$stamp.log" || return
+            ;;
     esac
+    mkdir -p "${built%/*}" && cp "$made" "$built.new" && mv "$built.new" "$built"
 }
 
-# prepare CRATE FILE WHAT: sets `built` to FILE under target/, which rt makes of CRATE, and sees to it that it is there and up to date.
+# prepare CRATE FILE WHAT: sets `built` to FILE under target/, a copy of what rt makes of CRATE, and sees to it that it is there and up to date.
 prepare() {
     local crate=$1 what=$3 crates stamp=$root/target/launch/$1
     built=$root/target/$2
@@ -173,19 +177,18 @@ readable() {
     return 2
 }
 
-# run FILE WORD..: runs $built on FILE (- is standard input) with the words; its status is the byte that it writes to descriptor 3.
+# run FILE WORD..: runs $built on FILE (- is standard input) with the words; its status is the program's.
 run() {
-    local in out pipe code status=
+    local in out code
     { exec {out}>&1; } 2> /dev/null || fail 'standard output is closed'
     { if [ "$1" = - ]; then exec {in}<&0; else exec {in}< "$1"; fi; } 2> /dev/null || fail "$1: cannot be read"
     guard ''
-    exec {pipe}< <(exec "$built" "${@:2}" 3>&1 >&"$out" <&"$in" {in}<&- {out}>&-)
+    exec "$built" "${@:2}" <&"$in" {in}<&- {out}>&- &
     await
     code=$?
-    read -r -n 1 -u "$pipe" status
-    exec {pipe}<&- {in}<&- {out}>&-
-    case $code:$status in
-        0:[012]) return "$status" ;;
+    exec {in}<&- {out}>&-
+    case $code in
+        [012]) return "$code" ;;
     esac
     if [ "$code" -gt 128 ]; then
         say "the program was ended by SIG$(kill -l "$code")"

@@ -1,22 +1,28 @@
 // A measurement, to be timed from outside. The first argument is how many times each network file that the others name is checked; prints
 // for each file its name and the sum of the refusals' numbers and places and of the environments' bytes. Before each time the last byte of
 // D changes, so that no answer stands for another.
+#![tactic(auto)]
+
 use check_network::Pair;
+use console::Status;
 use controller::Answer;
-use libc::STDOUT_FILENO;
 use refusal::Verdict;
+use std::env::FillError;
+use std::io;
+use std::io::{Read, Write};
+use std::process::ExitCode;
+use std::rt::{Env, Files};
 
 fn bytes(p: Pair) -> u64 {
     let a = p.starter;
     let b = p.client;
-    std::num::wrapping_add_u64(a.len as u64, b.len as u64)
+    (a.len as u64).wrapping_add(b.len as u64)
 }
 
 fn refused(v: Verdict) -> u64 {
     match v {
         Verdict::Done => 0,
-        Verdict::Refused(why) => std::num::wrapping_add_u64(
-            refusal::number_of(why) as u64,
+        Verdict::Refused(why) => (refusal::number_of(why) as u64).wrapping_add(
             refusal::place_of(why) as u64,
         ),
     }
@@ -28,9 +34,9 @@ fn number(x: Answer) -> u64 {
     let b = x.second;
     let c = x.third;
     let d = x.fourth;
-    let front = std::num::wrapping_add_u64(bytes(a), bytes(b));
-    let back = std::num::wrapping_add_u64(bytes(c), bytes(d));
-    std::num::wrapping_add_u64(refused(v), std::num::wrapping_add_u64(front, back))
+    let front = bytes(a).wrapping_add(bytes(b));
+    let back = bytes(c).wrapping_add(bytes(d));
+    refused(v).wrapping_add(front.wrapping_add(back))
 }
 
 fn touch(s: &mut [u8], value: u8) {
@@ -43,11 +49,9 @@ fn touch(s: &mut [u8], value: u8) {
 
 fn repeat(s: &mut [u8], times: u32) -> u64 {
     let mut sum: u64 = 0;
-    let mut i: u32 = 0;
-    while i < times {
+    for i in 0..times {
         touch(s, (i % 2) as u8);
-        sum = std::num::wrapping_add_u64(sum, number(controller::check(s)));
-        i += 1;
+        sum = sum.wrapping_add(number(controller::check(s)));
     }
     sum
 }
@@ -55,9 +59,8 @@ fn repeat(s: &mut [u8], times: u32) -> u64 {
 // The decimal number of the digits at the start of the text, below 1,000,000,000.
 fn decimal(text: &[u8]) -> u32 {
     let mut n: u32 = 0;
-    let mut i: usize = 0;
-    while i < text.len() {
-        let c = text[i];
+    for x in text {
+        let c = *x;
         if c < 48 {
             return n;
         }
@@ -68,41 +71,67 @@ fn decimal(text: &[u8]) -> u32 {
             return n;
         }
         n = 10 * n + (c - 48) as u32;
-        i += 1;
     }
     n
 }
 
-fn measure(fd: i32, times: u32) {
+fn measure<R: Read, W: Write>(reader: &mut R, out: &mut W, times: u32) -> io::Result<()> {
     let mut buf = [0u8; 32769];
-    let n = io::read_full(fd, &mut buf);
-    libc::close(fd);
+    let file = console::read(reader, &mut buf);
+    let n = file.len;
     let sum = repeat(&mut buf[..n], times);
-    io::write_all(STDOUT_FILENO, b" ");
-    io::print_decimal(STDOUT_FILENO, sum);
-    io::write_all(STDOUT_FILENO, b"\n");
+    writeln!(out, " {sum}")
 }
 
-fn named(i: usize, times: u32) {
-    let mut path = io::buffer();
-    let length = os::arg(i, &mut path);
-    let fd = os::open_read(&path[..length]);
-    if fd < 0 {
-        os::fail(&path[..length]);
-        return;
+// The file of a name that is an argument.
+fn named<F: Files, W: Write, E: Write>(
+    files: &F,
+    out: &mut W,
+    errors: &mut E,
+    name: &[u8],
+    times: u32,
+) -> io::Result<()> {
+    match console::open(files, name) {
+        Ok(file) => {
+            let mut reader = file;
+            out.write_all(name)?;
+            measure(&mut reader, out, times)
+        }
+        Err(error) => {
+            console::fail(errors, name, error);
+            Ok(())
+        }
     }
-    io::write_all(STDOUT_FILENO, &path[..length]);
-    measure(fd, times);
 }
 
-fn main() {
-    let mut count = io::buffer();
-    let length = os::arg(1, &mut count);
-    let times = decimal(&count[..length]);
-    let n = os::arg_count();
-    let mut i: usize = 2;
-    while i < n {
-        named(i, times);
-        i += 1;
+// How many times the first argument says.
+fn times_of<V: Env>(env: &V) -> u32 {
+    let mut count = [0u8; 4096];
+    match env.arg(1, &mut count) {
+        Ok(n) => decimal(&count[..n]),
+        Err(_) => 0,
     }
+}
+
+fn run<R: Env + Files, W: Write, E: Write>(
+    rt: &R,
+    out: &mut W,
+    errors: &mut E,
+) -> io::Result<Status> {
+    let times = times_of(rt);
+    for i in 2..usize::MAX {
+        let mut name = [0u8; 4096];
+        match rt.arg(i, &mut name) {
+            Ok(n) => named(rt, out, errors, &name[..n], times)?,
+            Err(FillError::TooLong) => named(rt, out, errors, &name, times)?,
+            Err(FillError::NotPresent) => break,
+        }
+    }
+    Ok(Status::Done)
+}
+
+fn main(rt: HostRuntime) -> ExitCode {
+    let mut errors = rt.stderr();
+    let ended = run(&rt, &mut rt.stdout(), &mut errors);
+    console::finish(&mut errors, ended)
 }

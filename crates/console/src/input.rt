@@ -1,13 +1,14 @@
 // Standard input by lines: a buffer keeps what was read and not yet taken.
 ghost use Rattle.std.specs.Prelude.{ℕ, ◌+◌, ◌-◌, ◌≤◌, ◌<◌, ◌≡◌, length, get_or};
 
-use libc::STDIN_FILENO;
+use std::io;
+use std::io::{ErrorKind, Read};
 
 // The most bytes of a line, its line feed not counted.
 const BOUND: usize = 4096;
 
 // The bytes of the buffer that are not yet taken are those from `from` to `to`. `skip`: they continue a line that was too long.
-#[derive(Drop)]
+#[derive(Clone, Copy)]
 pub struct Input {
     pub from: usize,
     pub to: usize,
@@ -17,28 +18,22 @@ pub struct Input {
 }
 
 // `More`: nothing yet.
-#[derive(Drop)]
+#[derive(Clone, Copy)]
 pub enum What {
     Line,
     Long,
     More,
     End,
-    Failed,
+    Failed(io::Error),
 }
 
 // What is next. A line is the bytes of the buffer from `from` to `to`, without its line feed; its number is the input's count of lines.
-#[derive(Drop)]
+#[derive(Clone, Copy)]
 pub struct Event {
     pub what: What,
     pub from: usize,
     pub to: usize,
     pub input: Input,
-}
-
-#[derive(Drop)]
-struct Filled {
-    failed: bool,
-    more: usize,
 }
 
 pub fn start() -> Input {
@@ -79,19 +74,6 @@ fn shift(buf: &mut [u8], from: usize, to: usize)
     while i < n {
         buf[i] = buf[from + i];
         i += 1;
-    }
-}
-
-// Reads once behind the first n bytes.
-fn fill(buf: &mut [u8], n: usize) -> Filled
-    requires { n ≤ length buf.old }
-    ensures { n + result.more ≤ length buf.new }
-{
-    let got = libc::read(STDIN_FILENO, &mut buf[n..]);
-    let more = io::count(got, &buf[n..]);
-    Filled {
-        failed: got < 0,
-        more: more,
     }
 }
 
@@ -139,15 +121,14 @@ fn last(input: Input, n: usize) -> Event
 }
 
 // Reads behind the n bytes at the front, which start a line.
-fn read_on(buf: &mut [u8], input: Input, n: usize) -> Event
+fn read_on<R: Read>(reader: &mut R, buf: &mut [u8], input: Input, n: usize) -> Event
     requires { n ≤ length buf.old }
     ensures { (result.from ≤ result.to) × (result.to ≤ length buf.new) }
 {
-    let filled = fill(buf, n);
-    if filled.failed {
-        return without_line(What::Failed, input);
-    }
-    let more = filled.more;
+    let more = match reader.read(&mut buf[n..]) {
+        Ok(more) => more,
+        Err(error) => return without_line(What::Failed(error), input),
+    };
     if more == 0 {
         return last(input, n);
     }
@@ -158,18 +139,18 @@ fn read_on(buf: &mut [u8], input: Input, n: usize) -> Event
 }
 
 // No line feed is between `from` and `to`.
-fn unfinished(buf: &mut [u8], input: Input) -> Event
+fn unfinished<R: Read>(reader: &mut R, buf: &mut [u8], input: Input) -> Event
     requires { (input.from ≤ input.to) × (input.to ≤ length buf.old) }
     ensures { (result.from ≤ result.to) × (result.to ≤ length buf.new) }
 {
     if input.skip {
-        return read_on(buf, input, 0);
+        return read_on(reader, buf, input, 0);
     }
     let n = input.to - input.from;
     if n <= BOUND {
         if n < buf.len() {
             shift(buf, input.from, input.to);
-            return read_on(buf, input, n);
+            return read_on(reader, buf, input, n);
         }
     }
     let mut rest = input;
@@ -180,8 +161,16 @@ fn unfinished(buf: &mut [u8], input: Input) -> Event
     without_line(What::Long, rest)
 }
 
+// The input was changed by other hands than these functions.
+fn misplaced(input: Input) -> Event
+    ensures { (result.from ≤ result.to) × (result.to ≤ 0) }
+{
+    let error = io::Error::new(ErrorKind::InvalidInput, "no place of the buffer");
+    without_line(What::Failed(error), input)
+}
+
 // Takes the next line, or reads once.
-pub fn next(buf: &mut [u8], input: Input) -> Event
+pub fn next<R: Read>(reader: &mut R, buf: &mut [u8], input: Input) -> Event
     ensures { (result.from ≤ result.to) × (result.to ≤ length buf.new) }
 {
     let from = input.from;
@@ -190,14 +179,14 @@ pub fn next(buf: &mut [u8], input: Input) -> Event
         return without_line(What::End, input);
     }
     if to < from {
-        return without_line(What::Failed, input);
+        return misplaced(input);
     }
     if buf.len() < to {
-        return without_line(What::Failed, input);
+        return misplaced(input);
     }
-    let end = bytes::scan::find(buf, from, to, b'\n');
+    let end = lines::find(buf, from, to, b'\n');
     if end < to {
         return taken(input, end);
     }
-    unfinished(buf, input)
+    unfinished(reader, buf, input)
 }

@@ -1,134 +1,171 @@
-// A program's input and output: standard input by lines or a file whole, standard output with a flag that a failed write clears for good,
-// errors on standard error, and the status.
-ghost use Rattle.io.specs.Counts.{IsPrefixLen};
+// A program's input and output: standard input by lines or a file whole, what is printed, errors on standard error, and the status. What
+// prints gives the error of the first write that fails, and each caller passes it up to `finish`.
+#![tactic(auto)]
+
+ghost use Rattle.std.specs.Prelude.{◌≡◌, ◌≤◌, length, IfOk, OnOk, OnErr};
+ghost use Rattle.std.specs.Io.KnownBytes.{Appends};
+ghost use Rattle.std.specs.Process.{exit_status};
+ghost use Rattle.console.specs.Console.{IsFront, status_number};
 
 mod input;
 
 pub use input::{Event, Input, What, next, start};
-use libc::{STDERR_FILENO, STDOUT_FILENO};
 use lines::Fault;
+use std::env::FillError;
+use std::io::{ErrorKind, Read, Write};
+use std::process::ExitCode;
+use std::rt::{Env, Files};
+use std::{fs, io, str};
 
 // A loop over input takes at most so many turns; it then ends with an error.
 pub const TURNS: u64 = 9223372036854775808;
 
-pub const DONE: u8 = 0;
+// What a program ends with: all is done, its network or text is refused, or it was used wrongly, or reading or writing failed.
+#[derive(Clone, Copy)]
+pub enum Status {
+    Done,
+    Refused,
+    Failed,
+}
 
-pub const REFUSED: u8 = 1;
-
-pub const FAILED: u8 = 2;
-
-// A file that was read whole, as far as the buffer goes.
-#[derive(Drop)]
+// A file that was read whole, as far as the buffer goes, or up to the error.
+#[derive(Clone, Copy)]
 pub struct File {
-    pub failed: bool,
+    pub failed: Option<io::Error>,
     pub len: usize,
 }
 
-fn kept(ok: &mut bool, written: bool) {
-    if written {
-        return;
-    }
-    os::fail(b"standard output");
-    *ok = false;
-}
-
-pub fn write(ok: &mut bool, text: &[u8]) {
-    if *ok {
-        let written = io::write_all(STDOUT_FILENO, text);
-        kept(ok, written);
+// The status as the process gives it.
+pub fn number_of(status: Status) -> u8
+    ensures { result ≡ status_number status }
+{
+    match status {
+        Status::Done => 0,
+        Status::Refused => 1,
+        Status::Failed => 2,
     }
 }
 
-pub fn number(ok: &mut bool, n: u64) {
-    if *ok {
-        let written = io::print_decimal(STDOUT_FILENO, n);
-        kept(ok, written);
-    }
+pub fn write<W: Write>(out: &mut W, text: &[u8]) -> io::Result<()>
+    ensures { OnOk result (Appends (W.contents out.old) (W.contents out.new) text.now) }
+{
+    out.write_all(text)
+}
+
+pub fn number<W: Write>(out: &mut W, n: u64) -> io::Result<()> {
+    write!(out, "{n}")
 }
 
 // Bytes in hexadecimal.
-pub fn bytes(ok: &mut bool, p: &[u8]) {
-    let mut i: usize = 0;
-    while i < p.len() {
-        byte(ok, p[i]);
-        i += 1;
+pub fn bytes<W: Write>(out: &mut W, p: &[u8]) -> io::Result<()> {
+    for x in p {
+        byte(out, *x)?;
+    }
+    Ok(())
+}
+
+fn byte<W: Write>(out: &mut W, x: u8) -> io::Result<()> {
+    write(out, &[digit(x / 16), digit(x % 16)])
+}
+
+// The hexadecimal digit of a number.
+fn digit(x: u8) -> u8 {
+    match x {
+        0..=9 => 48 + x,
+        10..=15 => 87 + x,
+        _ => 63,
     }
 }
 
-fn byte(ok: &mut bool, x: u8) {
-    if *ok {
-        let written = io::print_hex(STDOUT_FILENO, wire::wide(x) as u64, 2);
-        kept(ok, written);
-    }
-}
-
-fn reason(why: Fault) {
+fn reason(why: Fault) -> &'static str {
     match why {
-        Fault::Word => io::write_all(STDERR_FILENO, b"not a move\n"),
-        Fault::Number => io::write_all(STDERR_FILENO, b"a number is missing or not decimal\n"),
-        Fault::Large => io::write_all(STDERR_FILENO, b"a number is too large\n"),
-        Fault::Trailing => io::write_all(STDERR_FILENO, b"words after the move\n"),
-        Fault::Digits => io::write_all(STDERR_FILENO, b"not pairs of hexadecimal digits\n"),
-        Fault::Full => io::write_all(STDERR_FILENO, b"too many bytes\n"),
-        Fault::Short => io::write_all(STDERR_FILENO, b"fewer than 8 bytes\n"),
-        Fault::Long => io::write_all(STDERR_FILENO, b"longer than 4096 bytes\n"),
-    };
+        Fault::Word => "not a move",
+        Fault::Number => "a number is missing or not decimal",
+        Fault::Large => "a number is too large",
+        Fault::Trailing => "words after the move",
+        Fault::Digits => "not pairs of hexadecimal digits",
+        Fault::Full => "too many bytes",
+        Fault::Short => "fewer than 8 bytes",
+        Fault::Long => "longer than 4096 bytes",
+    }
 }
 
 // Says what is wrong with a line.
-pub fn wrong(line: u64, why: Fault) {
-    io::write_all(STDERR_FILENO, b"line ");
-    io::print_decimal(STDERR_FILENO, line);
-    io::write_all(STDERR_FILENO, b": ");
-    reason(why);
+pub fn wrong<E: Write>(errors: &mut E, line: u64, why: Fault) {
+    let _ = writeln!(errors, "line {line}: {}", reason(why));
+}
+
+// Says why something, named as the user knows it, cannot be read or written, and gives the status.
+pub fn fail<E: Write>(errors: &mut E, what: &[u8], error: io::Error) -> Status
+    ensures { result ≡ Status.Failed }
+{
+    let _ = errors.write_all(what);
+    let _ = writeln!(errors, ": {error}");
+    Status::Failed
 }
 
 // Says why standard input cannot be read, and gives the status.
-pub fn unreadable() -> u8 {
-    os::fail(b"standard input");
-    FAILED
+pub fn unreadable<E: Write>(errors: &mut E, error: io::Error) -> Status
+    ensures { result ≡ Status.Failed }
+{
+    fail(errors, b"standard input", error)
 }
 
 // Says that the turns are used up, and gives the status.
-pub fn spent() -> u8 {
-    io::write_all(STDERR_FILENO, b"standard input: too long\n");
-    FAILED
+pub fn spent<E: Write>(errors: &mut E) -> Status
+    ensures { result ≡ Status.Failed }
+{
+    let _ = writeln!(errors, "standard input: too long");
+    Status::Failed
+}
+
+// Whether the program was given an argument of this number, from 1.
+pub fn is_given<V: Env>(env: &V, i: usize) -> bool {
+    if let Err(FillError::NotPresent) = env.arg(i, &mut []) {
+        return false;
+    }
+    true
+}
+
+// Opens the file of this name, which is UTF-8.
+pub fn open<F: Files>(files: &F, name: &[u8]) -> io::Result<F::File> {
+    match str::from_utf8(name) {
+        Ok(path) => fs::open(files, path),
+        Err(_) => Err(io::Error::new(ErrorKind::InvalidInput, "the name is not UTF-8")),
+    }
 }
 
 // Reads a file to its end or until the buffer is full.
-pub fn read(fd: i32, buf: &mut [u8]) -> File
-    ensures { IsPrefixLen result.len buf.new }
+pub fn read<R: Read>(reader: &mut R, buf: &mut [u8]) -> File
+    ensures { IsFront result.len buf.new }
 {
     let mut done: usize = 0;
     while done < buf.len() {
-        let got = libc::read(fd, &mut buf[done..]);
-        if got < 0 {
-            return File {
-                failed: true,
-                len: done,
-            };
+        match reader.read(&mut buf[done..]) {
+            Err(error) => {
+                return File {
+                    failed: Some(error),
+                    len: done,
+                };
+            }
+            Ok(0) => break,
+            Ok(more) => done += more,
         }
-        let more = io::count(got, &buf[done..]);
-        if more == 0 {
-            break;
-        }
-        done += more;
     }
     File {
-        failed: false,
+        failed: None,
         len: done,
     }
 }
 
-// Writes the status, a digit, to descriptor 3, the program's last act: a failed write to standard output makes it 2.
-pub fn finish(ok: bool, status: u8) {
-    if !ok {
-        io::write_all(3, b"2");
-        return;
-    }
-    match status {
-        0 => io::write_all(3, b"0"),
-        1 => io::write_all(3, b"1"),
-        _ => io::write_all(3, b"2"),
+// What a program's `main` returns, its last act: a write to standard output that failed makes the status 2.
+pub fn finish<E: Write>(errors: &mut E, ended: io::Result<Status>) -> ExitCode
+    ensures ended { IfOk ended (λ status. exit_status result ≡ status_number status) }
+    ensures failed { OnErr ended (exit_status result ≡ 2) }
+{
+    let status = match ended {
+        Ok(status) => status,
+        Err(error) => fail(errors, b"standard output", error),
     };
+    ExitCode::from(number_of(status))
 }

@@ -1,9 +1,5 @@
 -- A node's value lies within the bytes, between its header and its children.
-use mathlib.Core.Path.{◌≡◌}
-use mathlib.Core.List.{List}
-use native.Mathlib.Omega.{arith}
-use Prim.Native.Nat.{ℕ, ◌+◌, ◌≤◌}
-use lib.ListN.{length}
+use Rattle.std.proofs.Common.{arith, ℕ, List, length, ◌+◌, ◌≤◌, ◌≡◌}
 use Rattle.tree.specs.Decode.{head_at}
 use Rattle.tree.specs.EncodeLaws.{got, sized}
 use Rattle.tree.specs.declared.Head.{Head}

@@ -1,12 +1,18 @@
 // The program `counterexample`: of the network file on standard input, the message that fits the type of the row that the first argument names
 // and not that of the second. It prints `none`, or the message in hexadecimal and then a line for each node; otherwise `refused N P`. Its
 // status is 0, 1 where it is refused, 2 where an argument is no row number or reading or writing failed.
+#![tactic(auto)]
+
 mod message;
 
-use libc::STDERR_FILENO;
+use console::Status;
+use std::io;
+use std::io::{Read, Write};
+use std::process::ExitCode;
+use std::rt::Env;
 
 // What an argument names.
-#[derive(Drop)]
+#[derive(Clone, Copy)]
 enum Row {
     Of(u16),
     Wrong,
@@ -25,77 +31,84 @@ fn row_of(word: &[u8]) -> Row {
     Row::Of(n as u16)
 }
 
-fn no_row(word: &[u8]) -> Row {
-    io::write_all(STDERR_FILENO, b"'");
-    io::write_all(STDERR_FILENO, word);
-    io::write_all(STDERR_FILENO, b"' is no row number, 0 to 65535\n");
+fn no_row<E: Write>(errors: &mut E, word: &[u8]) -> Row {
+    let _ = errors.write_all(b"'");
+    let _ = errors.write_all(word);
+    let _ = errors.write_all(b"' is no row number, 0 to 65535\n");
     Row::Wrong
 }
 
 // The row that an argument names; says what is wrong, without repeating an argument that is too long.
-fn argument(i: usize) -> Row {
-    let mut word = io::buffer();
-    let n = os::arg(i, &mut word);
-    if os::errno() != 0 {
-        return no_row(b"..");
-    }
+fn argument<V: Env, E: Write>(env: &V, errors: &mut E, i: usize) -> Row {
+    let mut word = [0u8; 4096];
+    let Ok(n) = env.arg(i, &mut word) else {
+        return no_row(errors, b"..");
+    };
     let row = row_of(&word[..n]);
     if let Row::Wrong = row {
-        return no_row(&word[..n]);
+        return no_row(errors, &word[..n]);
     }
     row
 }
 
-fn answer(ok: &mut bool, file: &[u8], first: u16, second: u16) -> u8 {
-    let mut out = [0u8; 512];
-    let o = controller::counterexample(file, first, second, &mut out);
+fn answer<W: Write>(out: &mut W, file: &[u8], first: u16, second: u16) -> io::Result<Status> {
+    let mut message = [0u8; 512];
+    let o = controller::counterexample(file, first, second, &mut message);
     let number = refusal::number(o);
     if 0 < number {
-        report::refused(ok, number, refusal::place(o));
-        return console::REFUSED;
+        report::refused(out, number, refusal::place(o))?;
+        return Ok(Status::Refused);
     }
     let n = o.bytes;
     if 512 < n {
-        return console::FAILED;
+        return Ok(Status::Failed);
     }
     if n == 0 {
-        console::write(ok, b"none\n");
-        return console::DONE;
+        console::write(out, b"none\n")?;
+        return Ok(Status::Done);
     }
-    message::print(ok, &out[..n]);
-    console::DONE
+    message::print(out, &message[..n])?;
+    Ok(Status::Done)
 }
 
 // One byte more than a file may have tells a long one.
-fn with_rows(ok: &mut bool, first: u16, second: u16) -> u8 {
+fn with_rows<R: Read, W: Write, E: Write>(
+    reader: &mut R,
+    out: &mut W,
+    errors: &mut E,
+    first: u16,
+    second: u16,
+) -> io::Result<Status> {
     let mut buf = [0u8; 32769];
-    let file = console::read(0, &mut buf);
-    if file.failed {
-        return console::unreadable();
+    let file = console::read(reader, &mut buf);
+    if let Some(error) = file.failed {
+        return Ok(console::unreadable(errors, error));
     }
     let n = file.len;
-    answer(ok, &buf[..n], first, second)
+    answer(out, &buf[..n], first, second)
 }
 
-fn run(ok: &mut bool) -> u8 {
-    if os::arg_count() != 3 {
-        io::write_all(
-            STDERR_FILENO,
-            b"usage: counterexample FIRST SECOND < NETWORK\n",
-        );
-        return console::FAILED;
+fn run<V: Env, R: Read, W: Write, E: Write>(
+    env: &V,
+    reader: &mut R,
+    out: &mut W,
+    errors: &mut E,
+) -> io::Result<Status> {
+    if !console::is_given(env, 2) || console::is_given(env, 3) {
+        let _ = errors.write_all(b"usage: counterexample FIRST SECOND < NETWORK\n");
+        return Ok(Status::Failed);
     }
-    let Row::Of(first) = argument(1) else {
-        return console::FAILED;
+    let Row::Of(first) = argument(env, errors, 1) else {
+        return Ok(Status::Failed);
     };
-    let Row::Of(second) = argument(2) else {
-        return console::FAILED;
+    let Row::Of(second) = argument(env, errors, 2) else {
+        return Ok(Status::Failed);
     };
-    with_rows(ok, first, second)
+    with_rows(reader, out, errors, first, second)
 }
 
-fn main() {
-    let mut ok = true;
-    let status = run(&mut ok);
-    console::finish(ok, status);
+fn main(rt: HostRuntime) -> ExitCode {
+    let mut errors = rt.stderr();
+    let ended = run(&rt, &mut rt.stdin(), &mut rt.stdout(), &mut errors);
+    console::finish(&mut errors, ended)
 }

@@ -2,48 +2,58 @@
 ghost use Rattle.std.specs.Prelude.{◌+◌, ◌≤◌, length};
 
 use console::{bytes, write};
+use std::io;
+use std::io::Write;
 use tree::Head;
 
 // What follows the path of the node at `at`: its basic type, and its value, which ends at `end`, unless it has no byte.
-fn print_value(ok: &mut bool, s: &[u8], at: usize, basic: u8, end: usize)
+fn print_value<W: Write>(out: &mut W, s: &[u8], at: usize, basic: u8, end: usize) -> io::Result<()>
     requires { (at + 5 ≤ end) × (end ≤ length s.now) }
 {
-    write(ok, b" ");
-    report::word(ok, basic);
+    write(out, b" ")?;
+    report::word(out, basic)?;
     if at + 5 < end {
-        write(ok, b" ");
-        bytes(ok, &s[at + 5..end]);
+        write(out, b" ")?;
+        bytes(out, &s[at + 5..end])?;
     }
-    write(ok, b"\n");
+    write(out, b"\n")
 }
 
 // The n siblings at `at`, whose path's ids above are the first `level` of `ids`; gives the place past them.
-fn print_nodes(ok: &mut bool, s: &[u8], ids: [u16; 8], level: usize, at: usize, n: u8) -> usize {
+fn print_nodes<W: Write>(
+    out: &mut W,
+    s: &[u8],
+    ids: [u16; 8],
+    level: usize,
+    at: usize,
+    n: u8,
+) -> io::Result<usize> {
     if n == 0 {
-        return at;
+        return Ok(at);
     }
     if 7 < level {
-        return at;
+        return Ok(at);
     }
     let Head::Node(id, basic, count, mid) = tree::head_at(s, at) else {
-        return at;
+        return Ok(at);
     };
     let mut down = ids;
     down[level] = id;
-    report::print_path(ok, down, level);
-    print_value(ok, s, at, basic, mid);
-    let end = print_nodes(ok, s, down, level + 1, mid, count);
-    print_nodes(ok, s, ids, level, end, n - 1)
+    report::print_path(out, down, level)?;
+    print_value(out, s, at, basic, mid)?;
+    let end = print_nodes(out, s, down, level + 1, mid, count)?;
+    print_nodes(out, s, ids, level, end, n - 1)
 }
 
 // The root, which has no path, is a dot.
-pub(crate) fn print(ok: &mut bool, s: &[u8]) {
-    bytes(ok, s);
-    write(ok, b"\n");
+pub(crate) fn print<W: Write>(out: &mut W, s: &[u8]) -> io::Result<()> {
+    bytes(out, s)?;
+    write(out, b"\n")?;
     let Head::Node(_, basic, count, mid) = tree::head_at(s, 0) else {
-        return;
+        return Ok(());
     };
-    write(ok, b".");
-    print_value(ok, s, 0, basic, mid);
-    print_nodes(ok, s, [0u16; 8], 0, mid, count);
+    write(out, b".")?;
+    print_value(out, s, 0, basic, mid)?;
+    print_nodes(out, s, [0u16; 8], 0, mid, count)?;
+    Ok(())
 }

@@ -1,7 +1,9 @@
 // A measurement, to be timed from outside: reads a network file, asks 1,000 times what refusals 2 to 5 say of it, and prints the sum
 // of the numbers. Before each time the last byte of D changes, so that no answer stands for another.
-use libc::STDOUT_FILENO;
+#![tactic(auto)]
+
 use refusal::Verdict;
+use std::io;
 
 fn number(v: Verdict) -> u64 {
     match v {
@@ -20,19 +22,17 @@ fn touch(s: &mut [u8], value: u8) {
 
 fn repeat(s: &mut [u8]) -> u64 {
     let mut sum: u64 = 0;
-    let mut i: u32 = 0;
-    while i < 1000 {
+    for i in 0u32..1000 {
         touch(s, (i % 2) as u8);
-        sum = std::num::wrapping_add_u64(sum, number(network_form::form_of(s)));
-        i += 1;
+        sum = sum.wrapping_add(number(network_form::form_of(s)));
     }
     sum
 }
 
-fn main() {
+fn main(rt: HostRuntime) -> io::Result<()> {
     let mut buf = [0u8; 32769];
-    let n = io::read_full(0, &mut buf);
+    let file = console::read(&mut rt.stdin(), &mut buf);
+    let n = file.len;
     let sum = repeat(&mut buf[..n]);
-    io::print_decimal(STDOUT_FILENO, sum);
-    io::write_all(STDOUT_FILENO, b"\n");
+    println!(rt; "{sum}")
 }

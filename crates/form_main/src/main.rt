@@ -1,48 +1,73 @@
-// Prints what refusals 2 to 5 say of each network file that its arguments name: name, number, place.
-use libc::STDOUT_FILENO;
-use refusal::Verdict;
+// Prints what refusals 2 to 5 say of each network file that its arguments name: name, number, place. A file that cannot be opened is named
+// on standard error, and the others are answered.
+#![tactic(auto)]
 
-fn print(number: u64, place: usize) {
-    io::write_all(STDOUT_FILENO, b" ");
-    io::print_decimal(STDOUT_FILENO, number);
-    io::write_all(STDOUT_FILENO, b" ");
-    io::print_decimal(STDOUT_FILENO, place as u64);
-    io::write_all(STDOUT_FILENO, b"\n");
+use console::Status;
+use refusal::Verdict;
+use std::env::FillError;
+use std::io;
+use std::io::{Read, Write};
+use std::process::ExitCode;
+use std::rt::{Env, Files};
+
+fn print<W: Write>(out: &mut W, number: u64, place: usize) -> io::Result<()> {
+    writeln!(out, " {number} {place}")
 }
 
-fn answer(s: &[u8]) {
+fn answer<W: Write>(out: &mut W, s: &[u8]) -> io::Result<()> {
     let v = network_form::form_of(s);
     match v {
-        Verdict::Done => print(0, 0),
-        Verdict::Refused(why) => print(refusal::number_of(why) as u64, refusal::place_of(why)),
+        Verdict::Done => print(out, 0, 0),
+        Verdict::Refused(why) => print(out, refusal::number_of(why) as u64, refusal::place_of(why)),
     }
 }
 
 // One byte more than a file may have tells a long one.
-fn judge(fd: i32) {
+fn judge<R: Read, W: Write>(reader: &mut R, out: &mut W) -> io::Result<()> {
     let mut buf = [0u8; 32769];
-    let n = io::read_full(fd, &mut buf);
-    libc::close(fd);
-    answer(&buf[..n]);
+    let file = console::read(reader, &mut buf);
+    let n = file.len;
+    answer(out, &buf[..n])
 }
 
-fn named(i: usize) {
-    let mut path = io::buffer();
-    let length = os::arg(i, &mut path);
-    let fd = os::open_read(&path[..length]);
-    if fd < 0 {
-        os::fail(&path[..length]);
-        return;
+// The file of a name that is an argument.
+fn named<F: Files, W: Write, E: Write>(
+    files: &F,
+    out: &mut W,
+    errors: &mut E,
+    name: &[u8],
+) -> io::Result<()> {
+    match console::open(files, name) {
+        Ok(file) => {
+            let mut reader = file;
+            out.write_all(name)?;
+            judge(&mut reader, out)
+        }
+        Err(error) => {
+            console::fail(errors, name, error);
+            Ok(())
+        }
     }
-    io::write_all(STDOUT_FILENO, &path[..length]);
-    judge(fd);
 }
 
-fn main() {
-    let n = os::arg_count();
-    let mut i: usize = 1;
-    while i < n {
-        named(i);
-        i += 1;
+fn run<R: Env + Files, W: Write, E: Write>(
+    rt: &R,
+    out: &mut W,
+    errors: &mut E,
+) -> io::Result<Status> {
+    for i in 1..usize::MAX {
+        let mut name = [0u8; 4096];
+        match rt.arg(i, &mut name) {
+            Ok(n) => named(rt, out, errors, &name[..n])?,
+            Err(FillError::TooLong) => named(rt, out, errors, &name)?,
+            Err(FillError::NotPresent) => break,
+        }
     }
+    Ok(Status::Done)
+}
+
+fn main(rt: HostRuntime) -> ExitCode {
+    let mut errors = rt.stderr();
+    let ended = run(&rt, &mut rt.stdout(), &mut errors);
+    console::finish(&mut errors, ended)
 }

@@ -32,3 +32,10 @@ pub record TextRun (s : List ℕ) (blanks : Bool) (r : ℕ) : Type 0 where
   pub within : r ≤ length s
   pub same : (k : ℕ) → k < r → blank (get_or s k 0) ≡ blanks
   pub other : r < length s → blank (get_or s r 0) ≡ blanks → ⊥
+
+-- `r` is the place of the first x among the elements of s from `start` on and before `stop`, or `stop` where none is.
+pub record FirstAt (s : List ℕ) (start stop x r : ℕ) : Type 0 where
+  pub behind : start ≤ r
+  pub within : r ≤ stop
+  pub others : (k : ℕ) → start ≤ k → k < r → get_or s k 0 ≡ x → ⊥
+  pub found : r < stop → get_or s r 0 ≡ x

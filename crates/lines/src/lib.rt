@@ -1,9 +1,11 @@
 // The text of a line: blanks, words, decimal numbers, and bytes in hexadecimal. Every function is total.
+#![tactic(auto)]
+
 ghost use Rattle.std.specs.Prelude.{◌+◌, ◌≤◌, ◌<◌, ◌≡◌, true, false, length};
-ghost use Rattle.lines.specs.Text.{HexDigit, HexPair, Longer, TextRun, blank};
+ghost use Rattle.lines.specs.Text.{FirstAt, HexDigit, HexPair, Longer, TextRun, blank};
 
 // Why a line is no line of its program.
-#[derive(Drop)]
+#[derive(Clone, Copy)]
 pub enum Fault {
     Word,
     Number,
@@ -15,14 +17,14 @@ pub enum Fault {
     Long,
 }
 
-#[derive(Drop)]
+#[derive(Clone, Copy)]
 pub enum Judged {
     Good,
     Wrong(Fault),
 }
 
 // A number, and the place past it.
-#[derive(Drop)]
+#[derive(Clone, Copy)]
 pub struct Number {
     pub judged: Judged,
     pub value: u64,
@@ -30,7 +32,7 @@ pub struct Number {
 }
 
 // How many bytes were read.
-#[derive(Drop)]
+#[derive(Clone, Copy)]
 pub struct Bytes {
     pub judged: Judged,
     pub len: usize,
@@ -85,6 +87,21 @@ pub fn without_return(line: &[u8]) -> usize
         return n - 1;
     }
     n
+}
+
+// The place of the first byte x from `from` on and before `to`, or `to` where none is.
+pub fn find(s: &[u8], from: usize, to: usize, x: u8) -> usize
+    requires { (from ≤ to) × (to ≤ length s.now) }
+    ensures { FirstAt s.now from to x result }
+{
+    let mut i: usize = from;
+    while i < to {
+        if s[i] == x {
+            return i;
+        }
+        i += 1;
+    }
+    to
 }
 
 // The value of a hexadecimal digit, or 16.

@@ -2,61 +2,91 @@
 // A line of the script is a move in 01's words with its numbers in decimal and outside bytes in hexadecimal, or `state`; a # starts a
 // comment. README, "Run a network", has the forms. The first line that is none of these ends the run. The status is 0, 1 where the network
 // is refused, 2 where a line is none of these or reading or writing failed.
+#![tactic(auto)]
+
 mod player;
 mod printing;
 mod script;
 
-fn run(ok: &mut bool, file: &[u8]) -> u8 {
-    let mut state = io::large_buffer();
+use console::Status;
+use std::io;
+use std::io::{ErrorKind, Read, Write};
+use std::process::ExitCode;
+use std::rt::{Env, Files};
+
+fn run<R: Read, W: Write, E: Write>(
+    reader: &mut R,
+    out: &mut W,
+    errors: &mut E,
+    file: &[u8],
+) -> io::Result<Status> {
+    let mut state = [0u8; 65536];
     let o = controller::fresh(file, &mut state);
     let n = refusal::number(o);
     if 0 < n {
-        report::refused(ok, n, refusal::place(o));
-        return console::REFUSED;
+        report::refused(out, n, refusal::place(o))?;
+        return Ok(Status::Refused);
     }
-    player::play_all(ok, file, &mut state)
+    player::play_all(reader, out, errors, file, &mut state)
 }
 
 // One byte more than a file may have tells a long one.
-fn with_file(ok: &mut bool, fd: i32, path: &[u8]) -> u8 {
+fn with_file<F: Read, R: Read, W: Write, E: Write>(
+    network: &mut F,
+    reader: &mut R,
+    out: &mut W,
+    errors: &mut E,
+    path: &[u8],
+) -> io::Result<Status> {
     let mut buf = [0u8; 32769];
-    let file = console::read(fd, &mut buf);
-    if file.failed {
-        os::fail(path);
-        return console::FAILED;
+    let file = console::read(network, &mut buf);
+    if let Some(error) = file.failed {
+        return Ok(console::fail(errors, path, error));
     }
-    libc::close(fd);
     let n = file.len;
-    run(ok, &buf[..n])
+    run(reader, out, errors, &buf[..n])
 }
 
 // Plays over the network of this name.
-fn with_path(ok: &mut bool, path: &[u8]) -> u8 {
-    let fd = os::open_read(path);
-    if fd < 0 {
-        os::fail(path);
-        return console::FAILED;
+fn with_path<F: Files, R: Read, W: Write, E: Write>(
+    files: &F,
+    reader: &mut R,
+    out: &mut W,
+    errors: &mut E,
+    path: &[u8],
+) -> io::Result<Status> {
+    match console::open(files, path) {
+        Ok(file) => {
+            let mut network = file;
+            with_file(&mut network, reader, out, errors, path)
+        }
+        Err(error) => Ok(console::fail(errors, path, error)),
     }
-    with_file(ok, fd, path)
 }
 
 // Plays over the network that the argument names.
-fn with_argument(ok: &mut bool) -> u8 {
-    if os::arg_count() != 2 {
-        io::write_all(libc::STDERR_FILENO, b"usage: play NETWORK < SCRIPT\n");
-        return console::FAILED;
+fn with_argument<V: Env + Files, R: Read, W: Write, E: Write>(
+    rt: &V,
+    reader: &mut R,
+    out: &mut W,
+    errors: &mut E,
+) -> io::Result<Status> {
+    if !console::is_given(rt, 1) || console::is_given(rt, 2) {
+        let _ = errors.write_all(b"usage: play NETWORK < SCRIPT\n");
+        return Ok(Status::Failed);
     }
-    let mut path = io::buffer();
-    let length = os::arg(1, &mut path);
-    if os::errno() != 0 {
-        os::fail(b"network file");
-        return console::FAILED;
+    let mut path = [0u8; 4096];
+    match rt.arg(1, &mut path) {
+        Ok(length) => with_path(rt, reader, out, errors, &path[..length]),
+        Err(_) => {
+            let error = io::Error::new(ErrorKind::InvalidInput, "the name is too long");
+            Ok(console::fail(errors, b"network file", error))
+        }
     }
-    with_path(ok, &path[..length])
 }
 
-fn main() {
-    let mut ok = true;
-    let status = with_argument(&mut ok);
-    console::finish(ok, status);
+fn main(rt: HostRuntime) -> ExitCode {
+    let mut errors = rt.stderr();
+    let ended = with_argument(&rt, &mut rt.stdin(), &mut rt.stdout(), &mut errors);
+    console::finish(&mut errors, ended)
 }

@@ -3,18 +3,26 @@ ghost use Rattle.std.specs.Prelude.{◌≡◌, length};
 
 use crate::printing::{print_outcome, print_state};
 use crate::script::{move_of, read_line};
-use console::{What, write};
+use console::{Status, What, write};
 use lines::{Fault, Judged};
+use std::io;
+use std::io::{Read, Write};
 
 // After a line: the run goes on, or is over with a status.
-#[derive(Drop)]
+#[derive(Clone, Copy)]
 enum Step {
     On,
-    Over(u8),
+    Over(Status),
 }
 
 // Makes the move of a line, or prints the state, and prints the line before what comes of it.
-fn play_line(ok: &mut bool, file: &[u8], state: &mut [u8], out: &mut [u8], line: &[u8]) -> Judged
+fn play_line<W: Write>(
+    out: &mut W,
+    file: &[u8],
+    state: &mut [u8],
+    sent: &mut [u8],
+    line: &[u8],
+) -> io::Result<Judged>
     requires { length state.old ≡ 65536 }
     ensures { length state.new ≡ 65536 }
 {
@@ -22,92 +30,109 @@ fn play_line(ok: &mut bool, file: &[u8], state: &mut [u8], out: &mut [u8], line:
     let read = read_line(line, &mut outside);
     let judged = read.judged;
     if let Judged::Wrong(_) = judged {
-        return judged;
+        return Ok(judged);
     }
-    write(ok, line);
+    write(out, line)?;
     let kind = read.kind;
     if kind == 7 {
-        write(ok, b"\n");
-        print_state(ok, file, state);
-        return judged;
+        write(out, b"\n")?;
+        print_state(out, file, state)?;
+        return Ok(judged);
     }
     let n = read.len;
     let values = read.values;
-    let o = controller::step(file, state, out, move_of(kind, values), &outside[0..n]);
-    print_outcome(ok, o, out);
-    judged
+    let o = controller::step(file, state, sent, move_of(kind, values), &outside[0..n]);
+    print_outcome(out, o, sent)?;
+    Ok(judged)
 }
 
 // Plays a line unless it is blank or a comment.
-fn play(ok: &mut bool, file: &[u8], state: &mut [u8], out: &mut [u8], line: &[u8]) -> Judged
+fn play<W: Write>(
+    out: &mut W,
+    file: &[u8],
+    state: &mut [u8],
+    sent: &mut [u8],
+    line: &[u8],
+) -> io::Result<Judged>
     requires { length state.old ≡ 65536 }
     ensures { length state.new ≡ 65536 }
 {
     let end = lines::without_return(line);
     let start = lines::blanks(&line[0..end]);
     if end <= start {
-        return Judged::Good;
+        return Ok(Judged::Good);
     }
     if line[start] == b'#' {
-        return Judged::Good;
+        return Ok(Judged::Good);
     }
-    play_line(ok, file, state, out, &line[0..end])
+    play_line(out, file, state, sent, &line[0..end])
 }
 
-fn stopped(line: u64, why: Fault) -> Step {
-    console::wrong(line, why);
-    Step::Over(console::FAILED)
+fn stopped<E: Write>(errors: &mut E, line: u64, why: Fault) -> Step {
+    console::wrong(errors, line, why);
+    Step::Over(Status::Failed)
 }
 
 // What standard input gave: a line with its number is played.
-fn turn(
-    ok: &mut bool,
+fn turn<W: Write, E: Write>(
+    out: &mut W,
+    errors: &mut E,
     file: &[u8],
     state: &mut [u8],
-    out: &mut [u8],
+    sent: &mut [u8],
     what: What,
     line: &[u8],
     number: u64,
-) -> Step
+) -> io::Result<Step>
     requires { length state.old ≡ 65536 }
     ensures { length state.new ≡ 65536 }
 {
     match what {
-        What::More => return Step::On,
-        What::End => return Step::Over(console::DONE),
-        What::Failed => return Step::Over(console::unreadable()),
-        What::Long => return stopped(number, Fault::Long),
+        What::More => return Ok(Step::On),
+        What::End => return Ok(Step::Over(Status::Done)),
+        What::Failed(error) => return Ok(Step::Over(console::unreadable(errors, error))),
+        What::Long => return Ok(stopped(errors, number, Fault::Long)),
         What::Line => {},
     }
-    let judged = play(ok, file, state, out, line);
+    let judged = play(out, file, state, sent, line)?;
     if let Judged::Wrong(why) = judged {
-        return stopped(number, why);
+        return Ok(stopped(errors, number, why));
     }
-    if !*ok {
-        return Step::Over(console::FAILED);
-    }
-    Step::On
+    Ok(Step::On)
 }
 
 // Plays standard input's lines, up to the first that is none of a script, and gives the status.
-pub(crate) fn play_all(ok: &mut bool, file: &[u8], state: &mut [u8]) -> u8
+pub(crate) fn play_all<R: Read, W: Write, E: Write>(
+    reader: &mut R,
+    out: &mut W,
+    errors: &mut E,
+    file: &[u8],
+    state: &mut [u8],
+) -> io::Result<Status>
     requires { length state.old ≡ 65536 }
 {
-    let mut buf = io::large_buffer();
-    let mut out = [0u8; 512];
+    let mut buf = [0u8; 65536];
+    let mut sent = [0u8; 512];
     let mut input = console::start();
-    let mut turns = console::TURNS;
-    while 0 < turns {
-        turns -= 1;
-        let event = console::next(&mut buf, input);
+    for _ in 0..console::TURNS {
+        let event = console::next(reader, &mut buf, input);
         input = event.input;
         let from = event.from;
         let to = event.to;
         let what = event.what;
-        let step = turn(ok, file, state, &mut out, what, &buf[from..to], input.lines);
+        let step = turn(
+            out,
+            errors,
+            file,
+            state,
+            &mut sent,
+            what,
+            &buf[from..to],
+            input.lines,
+        )?;
         if let Step::Over(status) = step {
-            return status;
+            return Ok(status);
         }
     }
-    console::spent()
+    Ok(console::spent(errors))
 }

@@ -5,7 +5,7 @@ use controller::Move;
 use lines::{Fault, Judged};
 
 // The numbers of a move, and where what follows them starts.
-#[derive(Drop)]
+#[derive(Clone, Copy)]
 struct Numbers {
     judged: Judged,
     values: [u64; 4],
@@ -13,7 +13,7 @@ struct Numbers {
 }
 
 // A line of the script: the kind of its move (7 is `state`), its numbers, and how many outside bytes it has.
-#[derive(Drop)]
+#[derive(Clone, Copy)]
 pub(crate) struct Line {
     pub(crate) judged: Judged,
     pub(crate) kind: u8,
@@ -23,31 +23,17 @@ pub(crate) struct Line {
 
 // The kind of the move with this word, or 8.
 fn kind_of(word: &[u8]) -> u8 {
-    if check::same(word, b"local") {
-        return 0;
+    match word {
+        b"local" => 0,
+        b"receive" => 1,
+        b"send" => 2,
+        b"reply" => 3,
+        b"outer-message" => 4,
+        b"outer-reply" => 5,
+        b"close" => 6,
+        b"state" => 7,
+        _ => 8,
     }
-    if check::same(word, b"receive") {
-        return 1;
-    }
-    if check::same(word, b"send") {
-        return 2;
-    }
-    if check::same(word, b"reply") {
-        return 3;
-    }
-    if check::same(word, b"outer-message") {
-        return 4;
-    }
-    if check::same(word, b"outer-reply") {
-        return 5;
-    }
-    if check::same(word, b"close") {
-        return 6;
-    }
-    if check::same(word, b"state") {
-        return 7;
-    }
-    8
 }
 
 // How many numbers a move has.
@@ -81,8 +67,7 @@ fn read_numbers(s: &[u8], kind: u8) -> Numbers
     let mut values = [0u64; 4];
     let mut judged = Judged::Good;
     let mut at: usize = 0;
-    let mut i: usize = 0;
-    while i < n {
+    for i in 0..n {
         let read = lines::read_number(&s[at..], most(kind, i));
         values[i] = read.value;
         at += read.next;
@@ -90,7 +75,6 @@ fn read_numbers(s: &[u8], kind: u8) -> Numbers
         if let Judged::Wrong(_) = judged {
             break;
         }
-        i += 1;
     }
     Numbers {
         judged: judged,

@@ -1,51 +1,52 @@
 // What is printed of a checked file. 01, end of Proved cases: "`accepted`, then per node in preorder, by service, S(tarter) first: service
 // row, S or C(lient), path, `!` (mandatory) or `?`, basic type", otherwise "`refused N P`".
+#![tactic(auto)]
+
 ghost use Rattle.std.specs.Prelude.{◌<◌};
 
 use check_environments::Environment;
 use check_network::{Answer, Pair};
-use console::{number, write};
+use console::{Status, number, write};
 use refusal::Verdict;
+use std::io;
+use std::io::Write;
 
 // The word of a basic type.
-pub fn word(ok: &mut bool, basic: u8) {
+pub fn word<W: Write>(out: &mut W, basic: u8) -> io::Result<()> {
     let w = scalar::word_of(basic);
     let bytes = w.bytes;
     let len = w.len;
-    write(ok, &bytes[..len]);
+    write(out, &bytes[..len])
 }
 
 // A path's ids down to the node, each in its place by level.
-pub fn print_path(ok: &mut bool, ids: [u16; 8], level: usize)
+pub fn print_path<W: Write>(out: &mut W, ids: [u16; 8], level: usize) -> io::Result<()>
     requires { level < 8 }
 {
-    let mut i: usize = 0;
-    while i < level {
-        number(ok, wire::index(ids[i]) as u64);
-        write(ok, b".");
-        i += 1;
+    for i in 0..level {
+        number(out, wire::index(ids[i]) as u64)?;
+        write(out, b".")?;
     }
-    number(ok, wire::index(ids[level]) as u64);
+    number(out, wire::index(ids[level]) as u64)
 }
 
-fn mark(ok: &mut bool, mandatory: bool) {
+fn mark<W: Write>(out: &mut W, mandatory: bool) -> io::Result<()> {
     if mandatory {
-        write(ok, b" ! ");
-        return;
+        return write(out, b" ! ");
     }
-    write(ok, b" ? ");
+    write(out, b" ? ")
 }
 
 // What follows a node's path.
-fn print_type(ok: &mut bool, mandatory: bool, basic: u8) {
-    mark(ok, mandatory);
-    word(ok, basic);
-    write(ok, b"\n");
+fn print_type<W: Write>(out: &mut W, mandatory: bool, basic: u8) -> io::Result<()> {
+    mark(out, mandatory)?;
+    word(out, basic)?;
+    write(out, b"\n")
 }
 
 // The n siblings at `at`, whose path's ids above are the first `level` of `ids`; gives the place past them.
-fn nodes(
-    ok: &mut bool,
+fn nodes<W: Write>(
+    out: &mut W,
     s: &[u8],
     q: u64,
     role: &[u8],
@@ -53,70 +54,71 @@ fn nodes(
     level: usize,
     at: usize,
     n: u8,
-) -> usize {
+) -> io::Result<usize> {
     if n == 0 {
-        return at;
+        return Ok(at);
     }
     if 7 < level {
-        return at;
+        return Ok(at);
     }
     let check_types::TypeHead::Node(id, mandatory, basic, count, mid) = check_types::type_head(
         s, at, false,
     ) else {
-        return at;
+        return Ok(at);
     };
     let mut down = ids;
     down[level] = id;
-    number(ok, q);
-    write(ok, role);
-    print_path(ok, down, level);
-    print_type(ok, mandatory, basic);
-    let end = nodes(ok, s, q, role, down, level + 1, mid, count);
-    nodes(ok, s, q, role, ids, level, end, n - 1)
+    number(out, q)?;
+    write(out, role)?;
+    print_path(out, down, level)?;
+    print_type(out, mandatory, basic)?;
+    let end = nodes(out, s, q, role, down, level + 1, mid, count)?;
+    nodes(out, s, q, role, ids, level, end, n - 1)
 }
 
-fn environment(ok: &mut bool, q: u64, role: &[u8], e: Environment) {
+fn environment<W: Write>(out: &mut W, q: u64, role: &[u8], e: Environment) -> io::Result<()> {
     let s = e.bytes;
     let tree::Head::Node(_, _, count, mid) = tree::head_at(&s, 0) else {
-        return;
+        return Ok(());
     };
-    nodes(ok, &s, q, role, [0u16; 8], 0, mid, count);
+    nodes(out, &s, q, role, [0u16; 8], 0, mid, count)?;
+    Ok(())
 }
 
-fn service(ok: &mut bool, q: u64, p: Pair) {
+fn service<W: Write>(out: &mut W, q: u64, p: Pair) -> io::Result<()> {
     let a = p.starter;
-    environment(ok, q, b" S ", a);
+    environment(out, q, b" S ", a)?;
     let b = p.client;
-    environment(ok, q, b" C ", b);
+    environment(out, q, b" C ", b)
 }
 
-fn accepted(ok: &mut bool, x: Answer) {
-    write(ok, b"accepted\n");
+fn accepted<W: Write>(out: &mut W, x: Answer) -> io::Result<()> {
+    write(out, b"accepted\n")?;
     let a = x.first;
-    service(ok, 0, a);
+    service(out, 0, a)?;
     let b = x.second;
-    service(ok, 1, b);
+    service(out, 1, b)?;
     let c = x.third;
-    service(ok, 2, c);
+    service(out, 2, c)?;
     let d = x.fourth;
-    service(ok, 3, d);
+    service(out, 3, d)
 }
 
-pub fn refused(ok: &mut bool, n: u8, place: usize) {
-    write(ok, b"refused ");
-    number(ok, n as u64);
-    write(ok, b" ");
-    number(ok, place as u64);
-    write(ok, b"\n");
+pub fn refused<W: Write>(out: &mut W, n: u8, place: usize) -> io::Result<()> {
+    write(out, b"refused ")?;
+    number(out, n as u64)?;
+    write(out, b" ")?;
+    number(out, place as u64)?;
+    write(out, b"\n")
 }
 
 // What the checker answered; gives the status.
-pub fn answer(ok: &mut bool, x: Answer) -> u8 {
+pub fn answer<W: Write>(out: &mut W, x: Answer) -> io::Result<Status> {
     let v = x.verdict;
     if let Verdict::Refused(why) = v {
-        refused(ok, refusal::number_of(why), refusal::place_of(why));
-        return console::REFUSED;
+        refused(out, refusal::number_of(why), refusal::place_of(why))?;
+        return Ok(Status::Refused);
     }
-    accepted(ok, x);
-    console::DONE
+    accepted(out, x)?;
+    Ok(Status::Done)
 }

@@ -1,81 +1,81 @@
 // What is printed of an accepted text: the ids of its child names, and the first row of each declaration.
 use console::{number, write};
+use std::io;
+use std::io::Write;
 use type_reading::ReadAll;
 
 // The word at a place.
-pub fn name(ok: &mut bool, text: &[u8], p: usize) {
+pub fn name<W: Write>(out: &mut W, text: &[u8], p: usize) -> io::Result<()> {
     if text.len() < p {
-        return;
+        return Ok(());
     }
     let q = type_words::word_end(text, p);
     if q < p {
-        return;
+        return Ok(());
     }
-    write(ok, &text[p..q]);
+    write(out, &text[p..q])
 }
 
-fn line(ok: &mut bool, what: &[u8], n: usize, text: &[u8], p: usize) {
-    write(ok, what);
-    number(ok, n as u64);
-    write(ok, b" ");
-    name(ok, text, p);
-    write(ok, b"\n");
+fn line<W: Write>(out: &mut W, what: &[u8], n: usize, text: &[u8], p: usize) -> io::Result<()> {
+    write(out, what)?;
+    number(out, n as u64)?;
+    write(out, b" ")?;
+    name(out, text, p)?;
+    write(out, b"\n")
 }
 
-fn ids(ok: &mut bool, text: &[u8]) {
+fn ids<W: Write>(out: &mut W, text: &[u8]) -> io::Result<()> {
     if 8192 < text.len() {
-        return;
+        return Ok(());
     }
     let mut names = [0u8; 16384];
     let n = type_trees::gather(text, &mut names);
-    let mut i: usize = 0;
-    while i < n {
+    for i in 0..n {
         if 8191 < i {
-            return;
+            return Ok(());
         }
         line(
-            ok,
+            out,
             b"id ",
             i + 1,
             text,
             wire::index(wire::u16_at(&names, 2 * i)),
-        );
-        i += 1;
+        )?;
     }
+    Ok(())
 }
 
-fn rows(ok: &mut bool, text: &[u8], table: &[u8], n: usize) {
+fn rows<W: Write>(out: &mut W, text: &[u8], table: &[u8], n: usize) -> io::Result<()> {
     let mut row: usize = 0;
-    let mut i: usize = 0;
-    while i < n {
+    for i in 0..n {
         if 256 < i {
-            return;
+            return Ok(());
         }
         if 256 < row {
-            return;
+            return Ok(());
         }
         line(
-            ok,
+            out,
             b"row ",
             row,
             text,
             wire::index(wire::u16_at(table, 6 * i)),
-        );
+        )?;
         row += 1 + wire::index(wire::u16_at(table, 6 * i + 2));
-        i += 1;
     }
+    Ok(())
 }
 
-pub fn print(ok: &mut bool, text: &[u8]) {
+pub fn print<W: Write>(out: &mut W, text: &[u8]) -> io::Result<()> {
     if 8192 < text.len() {
-        return;
+        return Ok(());
     }
     let mut table = [0u8; 16384];
     let mut stack = [0u8; 8192];
     let ReadAll::All(n) = type_reading::read_rest(text, 0, &mut table, 0, &mut stack) else {
-        return;
+        return Ok(());
     };
-    write(ok, b"accepted\n");
-    ids(ok, text);
-    rows(ok, text, &table, n);
+    write(out, b"accepted\n")?;
+    ids(out, text)?;
+    rows(out, text, &table, n)
 }

@@ -1,8 +1,9 @@
 // What is printed of a refused text: `refused N P`; on standard error line, column and a sentence.
 ghost use Rattle.std.specs.Prelude.{◌≤◌};
 
-use libc::STDERR_FILENO;
 use refusal::Refusal;
+use std::io;
+use std::io::Write;
 use type_reading::ReadAll;
 
 // 1 for a line's end.
@@ -18,13 +19,11 @@ fn ends(b: u8) -> u64
 // The line of a place, from 1.
 fn line_of(text: &[u8], p: usize) -> u64 {
     let mut line: u64 = 1;
-    let mut i: usize = 0;
-    while i < p {
+    for i in 0..p {
         if 8192 < i {
             return line;
         }
         line += ends(wire::byte_at(text, i));
-        i += 1;
     }
     line
 }
@@ -35,9 +34,7 @@ fn column_of(text: &[u8], p: usize) -> u64 {
         return 1;
     }
     let mut column: u64 = 1;
-    let mut i: usize = p;
-    while 0 < i {
-        i -= 1;
+    for i in (0..p).rev() {
         if wire::byte_at(text, i) == 10 {
             return column;
         }
@@ -46,16 +43,10 @@ fn column_of(text: &[u8], p: usize) -> u64 {
     column
 }
 
-fn error(text: &[u8]) {
-    io::write_all(STDERR_FILENO, text);
-}
-
-fn at(text: &[u8], p: usize) {
-    error(b"line ");
-    io::print_decimal(STDERR_FILENO, line_of(text, p));
-    error(b", column ");
-    io::print_decimal(STDERR_FILENO, column_of(text, p));
-    error(b": ");
+fn at<E: Write>(errors: &mut E, text: &[u8], p: usize) {
+    let line = line_of(text, p);
+    let column = column_of(text, p);
+    let _ = write!(errors, "line {line}, column {column}: ");
 }
 
 // The name of the declaration that has the row, or the last one.
@@ -69,8 +60,7 @@ fn declared_at(text: &[u8], row: usize) -> usize {
         return 0;
     };
     let mut rows: usize = 0;
-    let mut i: usize = 0;
-    while i < n {
+    for i in 0..n {
         if 2730 < i {
             return 0;
         }
@@ -78,48 +68,61 @@ fn declared_at(text: &[u8], row: usize) -> usize {
         if row < rows {
             return wire::index(wire::u16_at(&table, 6 * i));
         }
-        i += 1;
     }
     0
 }
 
 // Byte 13 is what some editors put before the end of a line.
-fn unknown_byte(text: &[u8], p: usize) {
-    at(text, p);
+fn unknown_byte<E: Write>(errors: &mut E, text: &[u8], p: usize) {
+    at(errors, text, p);
     let b = wire::byte_at(text, p);
-    error(b"byte ");
-    io::print_decimal(STDERR_FILENO, wire::wide(b) as u64);
     if b == 13 {
-        error(b" stands nowhere in a text of types; save it with line ends of byte 10\n");
+        say_line(
+            errors,
+            "byte 13 stands nowhere in a text of types; save it with line ends of byte 10",
+        );
         return;
     }
-    error(b" stands nowhere in a text of types\n");
+    let _ = writeln!(errors, "byte {b} stands nowhere in a text of types");
 }
 
-fn sentence(text: &[u8], why: Refusal) {
+fn say_line<E: Write>(errors: &mut E, line: &str) {
+    let _ = writeln!(errors, "{line}");
+}
+
+fn sentence<E: Write>(errors: &mut E, text: &[u8], why: Refusal) {
     match why {
-        Refusal::UnknownByte(p) => unknown_byte(text, p),
+        Refusal::UnknownByte(p) => unknown_byte(errors, text, p),
         Refusal::BrokenText(p) => {
-            at(text, p);
-            error(b"a declaration is broken here, or a name is unknown or declared twice\n");
+            at(errors, text, p);
+            say_line(
+                errors,
+                "a declaration is broken here, or a name is unknown or declared twice",
+            );
         }
         Refusal::FileLayout => {
-            at(text, 8192);
-            error(b"the text is longer than 8,192 bytes\n");
+            at(errors, text, 8192);
+            say_line(errors, "the text is longer than 8,192 bytes");
         }
         Refusal::SectionCount => {
-            at(text, declared_at(text, 256));
-            error(b"with this type there are more than 256 rows\n");
+            at(errors, text, declared_at(text, 256));
+            say_line(errors, "with this type there are more than 256 rows");
         }
         Refusal::TooLarge(p) => {
-            at(text, declared_at(text, p / 8));
-            error(b"the type has more than 16 nodes or 4 levels\n");
+            at(errors, text, declared_at(text, p / 8));
+            say_line(errors, "the type has more than 16 nodes or 4 levels");
         }
-        _ => error(b"the rows have no room\n"),
+        _ => say_line(errors, "the rows have no room"),
     }
 }
 
-pub fn say(ok: &mut bool, text: &[u8], why: Refusal) {
-    report::refused(ok, refusal::number_of(why), refusal::place_of(why));
-    sentence(text, why);
+pub fn say<W: Write, E: Write>(
+    out: &mut W,
+    errors: &mut E,
+    text: &[u8],
+    why: Refusal,
+) -> io::Result<()> {
+    report::refused(out, refusal::number_of(why), refusal::place_of(why))?;
+    sentence(errors, text, why);
+    Ok(())
 }
