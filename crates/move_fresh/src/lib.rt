@@ -1,4 +1,6 @@
 // Fresh state, written for accepted files. 01: "Fresh state: written for accepted files; clients live in session 0, all else free."
+#![tactic(auto)]
+
 ghost use Rattle.std.specs.Prelude.{◌≡◌, ◌+◌, ◌≤◌, ◌<◌, length};
 ghost use Rattle.state.specs.Bytes.{zeros};
 ghost use Rattle.move_rules.specs.Fresh as definition;
