@@ -1,2 +1,3 @@
 pub mod OctetLaws
 pub mod RunLaws
+pub mod SecondLaws

@@ -12,7 +12,8 @@ use borrow.Author.Tests.{le-leb}
 use Rattle.basics.specs.TestLaws.{both_true, not-false}
 use Rattle.utf8.specs.Utf8.{in_range, tail, is_utf8}
 use Rattle.utf8.specs.Octets.{word, Fitting, Whole}
-use Rattle.utf8.proofs.OctetLaws.{count-two, count-three, second-E0, second-ED, second-any, second-last, third_last, whole}
+use Rattle.utf8.proofs.OctetLaws.{count-two, count-three, second-last, third_last, whole}
+use Rattle.utf8.proofs.SecondLaws.{second-E0, second-ED, second-any}
 
 -- ---- bits of four octets
 

@@ -1,5 +1,5 @@
 use borrow.Author.Rules.{rules}
-use Rattle.utf8.proofs.OctetLaws.{second-laws}
+use Rattle.utf8.proofs.SecondLaws.{second-laws}
 use Rattle.utf8.proofs.is_second.Goals as goal
 
 pub returns-then-not-is_tail : goal.returns-then-not-is_tail
