@@ -1,18 +1,17 @@
 -- Each move of the stepper, by its code's promise; then the stepper's ways out.
-use mathlib.Core.Path.{◌≡◌, refl, sym, ap, subst, ◌∙◌}
+use mathlib.Core.Path.{◌≡◌, refl, sym, subst, ◌∙◌}
 use mathlib.Core.Bool.{Bool, true, false, not}
 use mathlib.Core.List.{List}
 use Prim.Native.Nat.{ℕ}
 use native.Mathlib.Omega.{arith}
 use Rattle.refusal.specs.declared.Outcome.{Outcome}
 use Rattle.basics.specs.Choice.{pick}
-use Rattle.network_syntax.specs.Syntax.{Optional, none, some}
+use Rattle.network_syntax.specs.Syntax.{none, some}
 use Rattle.network.specs.Form.{form_of, WellFormed}
 use Rattle.refusal.specs.declared.Verdict.{Verdict}
 use Rattle.refusal.specs.declared.Verdict.TheVariants.{Done}
 use Rattle.network.specs.Layout.{behaviour_count}
 use Rattle.network.specs.Decode.{network_of}
-use Rattle.state.specs.Session.{State}
 use Rattle.state.specs.Bytes.{read_state}
 use Rattle.state.specs.Shape.{decode_state}
 use Rattle.state_shape.specs.Stands.{Tells}
@@ -77,7 +76,3 @@ a-state file s x w h e = h.decodes w ∙ by x e
     by : (x : Bool) → not x ≡ false → pick x (some (read_state s)) none ≡ some (read_state s)
     by true e = refl
     by false e = absurd (let z : ◌≡◌ {A = ℕ} 0 1 = cc in omega arith)
-
--- Three facts, as three clauses ask for them.
-pub clauses : {A B C : Type 0} → A × B × C → A × (B × C)
-clauses t = (t.0, (t.1, t.2))

@@ -1,5 +1,4 @@
 -- The move that the code's enum stands for. 01: "A move names service, session and behaviour row".
-use Rattle.std.specs.Prelude.{ℕ}
 use Rattle.move_rules.specs.Moves.{Move, local, receive, send, reply, outer_message, outer_reply, close}
 use Rattle.move_step.specs.declared.Move as coded
 

@@ -1,5 +1,7 @@
 // The stepper: a move on a file, a state's bytes, an out buffer and the bytes that come from outside. 01: "moves [try] 1 to 5 and 14 to 19";
 // "A move's result is a number and the bytes written out. Out bytes past that count stay."
+#![tactic(auto)]
+
 ghost use Rattle.std.specs.Prelude.{◌≡◌, ℕ, length};
 ghost use Rattle.move_rules.specs.Step as definition;
 ghost use Rattle.move_rules.specs.Moves.{move};
