@@ -1,14 +1,13 @@
 -- What is counted of T rows, at each of the ways out of the code.
 use mathlib.Core.Path.{◌≡◌, refl, ap, sym, subst, ◌∙◌}
 use mathlib.Core.List.{List}
-use mathlib.Core.Bool.{Bool, true, false, ◌&&◌, ◌||◌}
+use mathlib.Core.Bool.{Bool, true, false, ◌&&◌}
 use Prim.Native.Nat.{ℕ, zero, suc, ◌+◌, ◌-◌, ◌≤◌, ◌<◌}
 use native.Mathlib.Omega.{arith}
-use lib.Dec.{ltb, leb}
-use borrow.Author.Tests.{le-leb, lt-leb, lt-ltb}
+use lib.Dec.{leb}
+use borrow.Author.Tests.{lt-ltb}
 use Rattle.basics.specs.Choice.{pick}
-use Rattle.tree_forest.specs.Forest.{Forest, end, node, nodes, measure}
-use Rattle.scalar.specs.Value.{Value}
+use Rattle.tree_forest.specs.Forest.{end, node, nodes, measure}
 use Rattle.tree.specs.Encode.{root_count}
 use Rattle.network_syntax.specs.Syntax.{Mark, mark, Types}
 use Rattle.network.specs.Form.{WellFormed}
@@ -19,7 +18,7 @@ use Rattle.check_types.specs.TypeRowsLaws.{RowMet, met, unmet}
 use Rattle.check_types.specs.declared.Line.{Line}
 use Rattle.check_types.specs.declared.Line.TheVariants.{Of, Outside}
 use Rattle.counterexample_rules.specs.Breaking.{least_of, holds_child, least_with}
-use Rattle.counterexample_rules.specs.LeastLaws.{least_by, least-by}
+use Rattle.counterexample_rules.specs.LeastLaws.{least-by}
 use Rattle.counterexample.specs.Tells.{RowNodes, Spans, Held}
 
 -- ---- which child is held

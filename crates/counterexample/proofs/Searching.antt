@@ -1,16 +1,14 @@
 -- The lowest of the least messages kept, at each of the ways out of the code.
 use mathlib.Core.Path.{◌≡◌, refl, ap, sym, subst, ◌∙◌}
-use mathlib.Core.List.{List, [], ◌∷◌, ◌++◌}
-use mathlib.Core.Bool.{Bool, true, false, not, ◌&&◌, ◌||◌}
-use Prim.Native.Nat.{ℕ, zero, suc, ◌+◌, ◌-◌, ◌≤◌, ◌<◌}
+use mathlib.Core.List.{List, ◌++◌}
+use mathlib.Core.Bool.{Bool, true, false, not}
+use Prim.Native.Nat.{ℕ, suc, ◌+◌, ◌-◌, ◌≤◌, ◌<◌}
 use native.Mathlib.Omega.{arith}
-use lib.ListN.{length, take, drop, length-take, take-append-drop}
-use lib.Dec.{ltb, eqb}
+use lib.ListN.{length, take, drop, take-append-drop}
 use borrow.Author.Tests.{lt-ltb, le-ltb, eq-eqb, ne_eqb}
-use Rattle.basics.specs.Choice.{pick}
-use Rattle.basics.specs.TestLaws.{not-true, not-false, T_of}
+use Rattle.basics.specs.TestLaws.{not-true, not-false}
 use Rattle.tree_forest.specs.Limits.{message_levels_below, message_nodes_below}
-use Rattle.tree_forest.specs.Forest.{Forest, end, node, Tree, tree, nodes, measure}
+use Rattle.tree_forest.specs.Forest.{end, Tree, tree, nodes, measure}
 use Rattle.scalar.specs.Value.{Value, value}
 use Rattle.tree.specs.Encode.{encode, rooted, children, Octets}
 use Rattle.tree.specs.Standing.{Root}
@@ -20,12 +18,12 @@ use Rattle.tree.specs.DecodeLaws.{with_root}
 use Rattle.tree_count.specs.Counted.{NodesBelow}
 use Rattle.tree_edit.specs.Wrote.{Wrote}
 use Rattle.tree_edit.specs.WroteLaws.{wrote-part}
-use Rattle.network_syntax.specs.Syntax.{Mark, mark, MessageType, Optional, none, some}
+use Rattle.network_syntax.specs.Syntax.{Mark, MessageType, Optional, none, some}
 use Rattle.network.specs.Form.{WellFormed}
 use Rattle.network.specs.Layout.{type_count}
 use Rattle.network.specs.Decode.{siblings, type_of}
 use Rattle.network.specs.DecodeLaws.{type-shape}
-use Rattle.network.specs.Shapes.{TypeShape, tree_nodes}
+use Rattle.network.specs.Shapes.{tree_nodes}
 use Rattle.check_subtyping.specs.Own.{fits}
 use Rattle.check_types.specs.TypeRows.{row_types}
 use Rattle.check_types.specs.Tells.{FitsRow}

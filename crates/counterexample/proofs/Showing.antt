@@ -1,5 +1,5 @@
 -- The answer, at each of the ways out of the code.
-use mathlib.Core.Path.{◌≡◌, refl, ap, sym, subst, ◌∙◌}
+use mathlib.Core.Path.{◌≡◌, refl, ap, sym, ◌∙◌}
 use mathlib.Core.List.{List, ◌++◌}
 use mathlib.Core.Bool.{Bool, true, false, ◌&&◌}
 use Prim.Native.Nat.{ℕ, ◌≤◌, ◌<◌}
@@ -22,7 +22,7 @@ use Rattle.network.specs.Layout.{type_count}
 use Rattle.network.specs.Form.{form_of, WellFormed}
 use Rattle.network.specs.Decode.{type_of}
 use Rattle.network.specs.Shapes.{tree_nodes}
-use Rattle.counterexample_rules.specs.Breaking.{lowest_of, breaking}
+use Rattle.counterexample_rules.specs.Breaking.{breaking}
 use Rattle.counterexample.specs.Answer.{BreakingAnswer, breaking_refused, shown_bytes, breaking_shown, once_formed, are_type_rows, counterexample}
 use Rattle.counterexample.specs.Tells.{Searched}
 

@@ -1,14 +1,14 @@
 -- The least messages of a T row written, at each of the ways out of the code.
 use mathlib.Core.Path.{◌≡◌, refl, ap, sym, subst, ◌∙◌}
-use mathlib.Core.List.{List, [], ◌∷◌, ◌++◌, append-nil, append_assoc}
+use mathlib.Core.List.{List, ◌∷◌, ◌++◌, append-nil, append_assoc}
 use mathlib.Core.Bool.{Bool, true, false, not}
-use Prim.Native.Nat.{ℕ, zero, suc, ◌+◌, ◌-◌, ◌/◌, ◌%◌, ◌≤◌, ◌<◌}
+use Prim.Native.Nat.{ℕ, ◌+◌, ◌-◌, ◌/◌, ◌%◌, ◌≤◌, ◌<◌}
 use native.Mathlib.Omega.{arith}
-use lib.ListN.{length, replicate, length-replicate, length-append}
+use lib.ListN.{length, replicate, length-replicate}
 use Rattle.basics.specs.Choice.{pick}
 use Rattle.basics.specs.TestLaws.{not-true, not-false}
 use Rattle.tree_forest.specs.Forest.{Forest, end, node, Tree, tree, nodes}
-use Rattle.scalar.specs.Value.{Value, value, least_bytes}
+use Rattle.scalar.specs.Value.{Value, least_bytes}
 use Rattle.tree.specs.Encode.{root_count, encode, rooted, Octets}
 use Rattle.tree.specs.EncodeLaws.{length-node, count-nodes}
 use Rattle.tree_edit.specs.Wrote.{Wrote}
@@ -16,11 +16,11 @@ use Rattle.tree_edit.specs.WroteLaws.{wrote_none, wrote-more, wrote_as, wrote-al
 use Rattle.network_syntax.specs.Syntax.{Mark, mark, Types, MessageType}
 use Rattle.network.specs.Form.{WellFormed}
 use Rattle.network.specs.Layout.{type_count}
-use Rattle.network.specs.Decode.{siblings, type_of}
+use Rattle.network.specs.Decode.{type_of}
 use Rattle.network.specs.DecodeLaws.{type-shape}
 use Rattle.network.specs.Shapes.{TypeShape}
 use Rattle.check_types.specs.TypeRows.{row_types, line_of}
-use Rattle.check_types.specs.TypeRowsLaws.{RowMet, unmet, One, one-row, no-row}
+use Rattle.check_types.specs.TypeRowsLaws.{RowMet, unmet, one-row, no-row}
 use Rattle.check_types.specs.declared.Line.{Line}
 use Rattle.check_types.specs.declared.Line.TheVariants.{Of, Outside}
 use Rattle.state.specs.SizeLaws.{message-size}

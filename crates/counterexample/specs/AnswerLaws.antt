@@ -1,5 +1,5 @@
 -- What a refusal leaves, and what stays past the message.
-use Rattle.std.specs.Prelude.{◌≡◌, refl, List, ◌++◌, Bool, true, false, ℕ, length, drop, ltb}
+use Rattle.std.specs.Prelude.{◌≡◌, refl, List, Bool, true, false, ℕ, length, drop, ltb}
 use Rattle.std.proofs.Math.Seq.{drop-append_seam}
 use Rattle.basics.specs.Choice.{pick}
 use Rattle.refusal.specs.declared.Refusal.TheVariants.{BufferSize, MoveNotAllowed}

@@ -1,6 +1,6 @@
 -- The types of a file's rows are within the limits.
 use Rattle.std.specs.Prelude.{List, ℕ, ◌<◌}
-use Rattle.tree_forest.specs.Forest.{end, node, Tree, tree}
+use Rattle.tree_forest.specs.Forest.{end, node, tree}
 use Rattle.network_syntax.specs.Syntax.{mark, Types, MessageType}
 use Rattle.tree.specs.Encode.{Octets}
 use Rattle.network.specs.Form.{WellFormed}
@@ -10,7 +10,7 @@ use Rattle.network.specs.Shapes.{TypeShape}
 use Rattle.network.specs.DecodeLaws.{type-shape}
 use Rattle.check_subtyping.specs.Subtype.{root_children}
 use Rattle.check_types.specs.Image.{InRange}
-use Rattle.check_types.specs.TypeRowsLaws.{TypeKeeps, type-keeps}
+use Rattle.check_types.specs.TypeRowsLaws.{type-keeps}
 use Rattle.counterexample_rules.specs.Smallest.{IdsBelow, TypeWithin}
 
 ids-in-range : (k : Types) → InRange k → IdsBelow k

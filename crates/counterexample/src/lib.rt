@@ -1,5 +1,7 @@
 // The message that fits one type of a file and not another, of the fewest nodes and lowest bytes. For each node of the first type the least
 // message with that node is written, and the lowest of those that do not fit the second type is kept.
+#![tactic(auto)]
+
 ghost use Rattle.std.specs.Prelude.{◌≡◌, ◌∷◌, ℕ, ◌+◌, ◌-◌, ◌/◌, ◌%◌, ◌≤◌, ◌<◌, length, replicate};
 ghost use Rattle.tree_edit.specs.Wrote.{Wrote};
 ghost use Rattle.counterexample_rules.specs.Order.{is_lower_bytes};
