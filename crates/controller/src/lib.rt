@@ -1,5 +1,7 @@
 // The controller, as a host calls it: the checker of network files, fresh state, the moves, the message reader, the reader of type
 // declarations and the message that shows that two types do not fit. Nothing is asked of the caller. specs/Promises.antt and specs/RequestPromises.antt have all that is promised of them.
+#![tactic(auto)]
+
 ghost use Rattle.std.specs.Prelude.{◌≡◌};
 ghost use Rattle.refusal.specs.Refusal.{outcome_number};
 ghost use Rattle.tree_part.specs.Part.{part_of};
