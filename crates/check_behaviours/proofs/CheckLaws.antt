@@ -13,7 +13,7 @@ use Rattle.scalar.specs.Basic.{bool, last_basic}
 use Rattle.basics.specs.Choice.{pick}
 use Rattle.basics.specs.TestLaws.{not-false, not-true, one_less}
 use Rattle.network_syntax.specs.Syntax.{Types, MessageType, input, output, Behaviour, nil, sequence, parallel, choice}
-use Rattle.check_expressions.specs.TypingsLaws.{refused-first}
+use Rattle.check_expressions.proofs.TypingsLaws.{refused-first}
 use Rattle.check_subtyping.specs.Subtype.{root_basic, is_subtype}
 use Rattle.check_typing.specs.Result.{Attempt, yields, demand, and_then, Checked, refused, passed, with_row, next}
 use Rattle.check_typing.specs.Environment.{basic_leaf, place, assign_to}
@@ -21,13 +21,13 @@ use Rattle.check_typing.specs.ExpressionTyping as typed
 use Rattle.check_typing.specs.Occurs.{no_shared_root}
 use Rattle.check_typing.specs.Rules.{permits}
 use Rattle.check_typing.specs.Checker.{same_types, limited, sends, answers, condition, check}
-use Rattle.check_typing.specs.BranchesLaws.{first-branch, next-branch, last-branch}
+use Rattle.check_typing.proofs.BranchesLaws.{first-branch, next-branch, last-branch}
 use Rattle.network.specs.Form.{WellFormed}
 use Rattle.network.specs.Layout.{path_count, type_count, expression_count, behaviour_count, operation_count, behaviour_at}
 use Rattle.network.specs.Rows.{field_a, field_b, request_type, reply_type}
-use Rattle.network.specs.RowLaws.{operation-kept, next-at}
+use Rattle.network.proofs.RowLaws.{operation-kept, next-at}
 use Rattle.network.specs.Decode.{path_of, type_of, expression_of, operation_of, branches_from, behaviour_of}
-use Rattle.network.specs.DecodeLaws.{reply-row}
+use Rattle.network.proofs.DecodeLaws.{reply-row}
 use Rattle.network_rows.specs.declared.BehaviourRow.{BehaviourRow}
 use Rattle.network_rows.specs.declared.BranchRow.{BranchRow}
 use Rattle.network_rows.specs.Readers.{behaviour_row_of, BranchAt}
@@ -39,7 +39,7 @@ use Rattle.check_environments.specs.EnvironmentLaws.{answers-as, answers-done, a
 use Rattle.check_environments.specs.Tells.{Places, Assigns, Asks, ReadAt, TypeUnder, SameEnvironments}
 use Rattle.check_expressions.specs.declared.Typing.{Typing}
 use Rattle.check_expressions.specs.Typings.{TypedAs, TypingTells}
-use Rattle.check_expressions.specs.SmallLaws.{small-typing}
+use Rattle.check_expressions.proofs.SmallLaws.{small-typing}
 use Rattle.check_roots.specs.Sets.{SetsApart, Separates}
 use Rattle.check_operations.specs.Directions.{direction_of}
 use Rattle.check_operations.specs.PermitsLaws.{two-way}

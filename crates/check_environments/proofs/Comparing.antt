@@ -17,7 +17,7 @@ use Rattle.scalar.specs.Basic.{void}
 use Rattle.network_syntax.specs.Syntax.{Mark, mark, Types, MessageType}
 use Rattle.check_typing.specs.Rules.{same_bool}
 use Rattle.check_typing.specs.Checker.{same_types}
-use Rattle.check_typing.specs.CheckerLaws.{same_bool-refl, same_types-eq, same_types-refl}
+use Rattle.check_typing.proofs.CheckerLaws.{same_bool-refl, same_types-eq, same_types-refl}
 use Rattle.check_typing.specs.NetworkChecker.{same_tree, one_type_at, one_type}
 use Rattle.tree.specs.Encode.{root_count, encode, rooted, WellFormedTree, children}
 use Rattle.tree.specs.Decode.{head_at}

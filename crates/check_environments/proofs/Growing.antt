@@ -18,11 +18,11 @@ use Rattle.scalar.specs.Value.{Value}
 use Rattle.network_syntax.specs.Syntax.{Mark, mark, Types, MessageType}
 use Rattle.check_typing.specs.Result.{yields, demand, refused, with_row}
 use Rattle.check_typing.specs.Environment.{within, missing_step, as_mandatory, basic_leaf}
-use Rattle.check_typing.specs.EnvironmentLaws.{replace-rising}
+use Rattle.check_typing.proofs.EnvironmentLaws.{replace-rising}
 use Rattle.check_typing.specs.Checker.{limited}
 use Rattle.network.specs.Form as form
 use Rattle.network.specs.Layout.{path_count, path_at}
-use Rattle.network.specs.RowLaws.{path-kept}
+use Rattle.network.proofs.RowLaws.{path-kept}
 use Rattle.network.specs.Decode as network
 use Rattle.wire.specs.Wire.{u16_at}
 use Rattle.tree.specs.Encode.{root_count, encode, rooted, empty, Octets, WellFormedTree, Encodes}

@@ -5,15 +5,15 @@ use Rattle.basics.specs.TestLaws.{T_of, and_l, and-of, and_r, of_t}
 use Rattle.tree_forest.specs.Forest.{end, node, tree, Lookup, absent, present, find, set, Above, Rising, measure}
 use Rattle.tree_forest.specs.ForestLaws.{Combining}
 use Rattle.network_syntax.specs.Syntax.{Mark, mark, Types, MessageType}
-use Rattle.check_subtyping.specs.SubtypeLaws.{find-above}
+use Rattle.check_subtyping.proofs.SubtypeLaws.{find-above}
 use Rattle.check_typing.specs.Rules.{same_bool}
 use Rattle.check_typing.specs.Environment.{within}
-use Rattle.check_typing.specs.EnvironmentLaws.{measure_lookup, measure-set, sums, maxima, within-smaller}
+use Rattle.check_typing.proofs.EnvironmentLaws.{measure_lookup, measure-set, sums, maxima, within-smaller}
 use Rattle.check_typing.specs.Checker.{same_types}
-use Rattle.check_typing.specs.CheckerLaws.{same_bool-eq, same_types-eq}
+use Rattle.check_typing.proofs.CheckerLaws.{same_bool-eq, same_types-eq}
 use Rattle.check_typing.specs.NetworkRules.{union}
 use Rattle.check_typing.specs.NetworkChecker.{same_tree, one_type_at, one_type}
-use Rattle.check_typing.specs.NetworkLaws.{either, find-union, AllRising}
+use Rattle.check_typing.proofs.NetworkLaws.{either, find-union, AllRising}
 use Rattle.check_typing.specs.Branches.{union_from, one_type_from}
 
 pub same-tree-eq : (t u : MessageType) → T (same_tree t u) → t ≡ u

@@ -1,1 +1,4 @@
+pub mod SmallLaws
+pub mod TableLaws
 pub mod TypingLaws
+pub mod TypingsLaws

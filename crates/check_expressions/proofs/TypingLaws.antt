@@ -17,7 +17,7 @@ use Rattle.network_syntax.specs.Syntax.{Types, MessageType}
 use Rattle.network_syntax.specs.Syntax.{Expression, constant, value_at, presence, unary, binary}
 use Rattle.check_subtyping.specs.Subtype.{root_basic}
 use Rattle.check_typing.specs.Result.{Attempt, fails, yields, demand, and_then, with_row}
-use Rattle.check_expressions.specs.TypingsLaws.{refused-first}
+use Rattle.check_expressions.proofs.TypingsLaws.{refused-first}
 use Rattle.check_typing.specs.Environment.{read_firm, basic_leaf}
 use Rattle.check_typing.specs.ExpressionTyping.{unary_type, binary_type, expression_type}
 use Rattle.network.specs.Form.{WellFormed}
@@ -36,10 +36,10 @@ use Rattle.network_row_parts.specs.Parts.{unary_of, binary_of, expression_part}
 use Rattle.check_expressions.specs.Typings.{entry_typing, table_typing, is_refused, root_typed, with_basic}
 use Rattle.check_expressions.specs.Typings.{operator_typed, TypedAs, ValueTyped, PresenceTyped, TypingTells}
 use Rattle.network_row_parts.specs.PartLaws.{part-is}
-use Rattle.check_expressions.specs.SmallLaws.{Alone, unary-alone, binary-alone}
+use Rattle.check_expressions.proofs.SmallLaws.{Alone, unary-alone, binary-alone}
 use Rattle.check_expressions.specs.Table.{none, table_at, operator_rules, table_entry, unary_row, binary_row, column_of}
-use Rattle.check_expressions.specs.TableLaws.{unlike-refused, column-small, unary-at-column, binary-at-column, unary-row, binary-row}
-use Rattle.check_expressions.specs.TableLaws.{unary-table, binary-alike-table}
+use Rattle.check_expressions.proofs.TableLaws.{unlike-refused, column-small, unary-at-column, binary-at-column, unary-row, binary-row}
+use Rattle.check_expressions.proofs.TableLaws.{unary-table, binary-alike-table}
 
 -- ---- enums by cases
 

@@ -1,5 +1,2 @@
 pub mod Table
-pub mod TableLaws
 pub mod Typings
-pub mod SmallLaws
-pub mod TypingsLaws

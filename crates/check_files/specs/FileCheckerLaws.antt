@@ -10,12 +10,12 @@ use Rattle.network.specs.Form.{form_of, WellFormed}
 use Rattle.network.specs.Decode.{network_of}
 use Rattle.network_syntax.specs.Rows.{entry}
 use Rattle.network.specs.Shapes.{OperationShape, BehaviourShape, BranchesShape, FileBehaviour, IfAny, as_starter, as_client, NetworkShape}
-use Rattle.network.specs.NetworkLaws.{network-shape}
+use Rattle.network.proofs.NetworkLaws.{network-shape}
 use Rattle.check_typing.specs.Rules.{RisingOperation, WellSorted, WellSortedBranches}
 use Rattle.check_typing.specs.Result.{Checked, refused, passed}
 use Rattle.check_typing.specs.NetworkRules.{Environments, DerivesNetwork, WellSortedIfThere, WellSortedServices, RisingOperations, WellSortedNetwork}
 use Rattle.check_typing.specs.NetworkChecker.{check_network}
-use Rattle.check_typing.specs.NetworkLaws.{checked-derived, derived-checked}
+use Rattle.check_typing.proofs.NetworkLaws.{checked-derived, derived-checked}
 use Rattle.check_files.specs.FileChecker.{after_form, check_file}
 
 operation-rising : (o : Operation) → OperationShape o → RisingOperation o

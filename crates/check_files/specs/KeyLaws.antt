@@ -6,11 +6,11 @@ use Rattle.network_syntax.specs.Syntax.{Operation, some}
 use Rattle.network_syntax.specs.Rows.{entry}
 use Rattle.network.specs.Form.{WellFormed}
 use Rattle.network.specs.Decode.{network_of}
-use Rattle.network.specs.NetworkLaws.{operation-fields}
+use Rattle.network.proofs.NetworkLaws.{operation-fields}
 use Rattle.check_typing.specs.Result.{refused}
 use Rattle.check_typing.specs.NetworkRules.{Environments, DerivesServices, OutputsMeet, UnfitInput}
 use Rattle.check_typing.specs.NetworkChecker.{check_network}
-use Rattle.check_typing.specs.NetworkLaws.{unfit-refused}
+use Rattle.check_typing.proofs.NetworkLaws.{unfit-refused}
 use Rattle.check_files.specs.FileChecker.{check_file}
 use Rattle.check_files.specs.FileCheckerLaws.{file-sorted}
 

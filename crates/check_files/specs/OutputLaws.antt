@@ -7,7 +7,7 @@ use Rattle.network_syntax.specs.Syntax.{input, Operation, Optional, none, some, 
 use Rattle.network_syntax.specs.Rows.{entry}
 use Rattle.network_syntax.specs.Meets.{location_of, some_at, in_file, met_input}
 use Rattle.network.specs.Shapes.{NetworkShape}
-use Rattle.network.specs.MeetsLaws.{Met, of-met, met-input, met-entry, met-only, in-file, at-location}
+use Rattle.network.proofs.MeetsLaws.{Met, of-met, met-input, met-entry, met-only, in-file, at-location}
 use Rattle.check_typing.specs.NetworkRules.{Agrees, AgreesWith}
 
 -- The service q has an input of the same id and kind as the output o, with which o agrees.

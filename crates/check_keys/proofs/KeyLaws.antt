@@ -25,10 +25,10 @@ use Rattle.check_typing.specs.NetworkChecker.{is_mandatory_int, has_key, input_k
 use Rattle.network.specs.Form.{WellFormed}
 use Rattle.network.specs.Layout.{type_count, operation_count, service_count}
 use Rattle.network.specs.Rows.{type_id, cardinality, type_basic, first_child, child_count, operation_service, operation_direction, request_type, service_key}
-use Rattle.network.specs.RowLaws.{type-kept, operation-kept, counts-kept}
+use Rattle.network.proofs.RowLaws.{type-kept, operation-kept, counts-kept}
 use Rattle.network.specs.Decode.{mark_of, siblings, written_out, type_of, operation_of, service_of, rows_from, network_of}
-use Rattle.network.specs.DecodeLaws.{type-row, rows_more, rows_none}
-use Rattle.network.specs.NetworkLaws.{service-key}
+use Rattle.network.proofs.DecodeLaws.{type-row, rows_more, rows_none}
+use Rattle.network.proofs.NetworkLaws.{service-key}
 use Rattle.check_keys.specs.Keys.{some_keyed, TypeTells, InputTells, KeysFrom, Keys}
 
 -- ---- the children of a type

@@ -15,8 +15,8 @@ use Rattle.basics.specs.Choice.{pick}
 use Rattle.network_syntax.specs.Syntax.{Types, Optional, none, some, Service}
 use Rattle.network.specs.Form.{form_of}
 use Rattle.network.specs.Decode.{network_of}
-use Rattle.network.specs.RowLaws.{counts-kept}
-use Rattle.network.specs.NetworkLaws.{service-length}
+use Rattle.network.proofs.RowLaws.{counts-kept}
+use Rattle.network.proofs.NetworkLaws.{service-length}
 use Rattle.tree_edit.specs.Wrote.{Wrote}
 use Rattle.tree_edit.specs.WroteLaws.{wrote-more, wrote_as, wrote-all}
 use Rattle.check_typing.specs.Result.{Checked, refused, passed, next}

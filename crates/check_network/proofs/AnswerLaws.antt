@@ -21,9 +21,9 @@ use Rattle.network.specs.declared.BehaviourKind.{BehaviourKind}
 use Rattle.network.specs.Form.{form_of, WellFormed}
 use Rattle.network.specs.Layout.{behaviour_count, service_count}
 use Rattle.network.specs.Rows.{kind_at, is_choice_kind, is_branch_kind, starter_row, client_row, no_row, starter_fits, client_fits}
-use Rattle.network.specs.RowLaws.{service-kept}
+use Rattle.network.proofs.RowLaws.{service-kept}
 use Rattle.network.specs.Decode.{behaviour_of, service_of, rows_from, network_of}
-use Rattle.network.specs.UseLaws.{choice-kind}
+use Rattle.network.proofs.UseLaws.{choice-kind}
 use Rattle.check_environments.specs.declared.Environment.{Environment}
 use Rattle.check_environments.specs.declared.Step.{Step}
 use Rattle.check_environments.specs.Environment.{standing, step_of, ShapeIn}

@@ -13,8 +13,8 @@ use Rattle.network.specs.Rows.{operation_service, operation_direction, operation
 use Rattle.network.specs.Decode.{operation_of, service_of, rows_from, network_of}
 use Rattle.network_syntax.specs.Meets.{location_of, some_at, in_file, same_kind, meets, first_of, met_input}
 use Rattle.network_syntax.specs.Rows.{entry, is_input_operation}
-use Rattle.network.specs.NetworkLaws.{service-entry}
-use Rattle.network.specs.DecodeLaws.{rows_more, rows_none}
+use Rattle.network.proofs.NetworkLaws.{service-entry}
+use Rattle.network.proofs.DecodeLaws.{rows_more, rows_none}
 use Rattle.check_typing.specs.Rules.{same_bool}
 use Rattle.check_operations.specs.declared.Met.{Met}
 use Rattle.check_operations.specs.Meeting.{operation_met}

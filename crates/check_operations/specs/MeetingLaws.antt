@@ -6,7 +6,7 @@ use Rattle.basics.specs.Choice.{pick}
 use Rattle.network_syntax.specs.Syntax.{Operation, none, some}
 use Rattle.network.specs.Layout.{operation_count}
 use Rattle.network.specs.Decode.{operation_of, rows_from, network_of}
-use Rattle.network.specs.DecodeLaws.{rows_more, rows_none}
+use Rattle.network.proofs.DecodeLaws.{rows_more, rows_none}
 use Rattle.network_syntax.specs.Meets.{meets, first_of, met_input}
 use Rattle.check_operations.specs.declared.Met.{Met}
 use Rattle.check_operations.specs.Meeting.{operation_met}

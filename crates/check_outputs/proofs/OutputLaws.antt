@@ -20,10 +20,10 @@ use Rattle.check_typing.specs.NetworkChecker.{agrees, agrees_with, output_meets,
 use Rattle.network.specs.Form.{WellFormed}
 use Rattle.network.specs.Layout.{operation_count}
 use Rattle.network.specs.Rows.{operation_direction, operation_two_way, operation_location, request_type, reply_type}
-use Rattle.network.specs.RowLaws.{operation-kept}
+use Rattle.network.proofs.RowLaws.{operation-kept}
 use Rattle.network.specs.Decode.{type_of, operation_of, rows_from, network_of}
-use Rattle.network.specs.DecodeLaws.{reply-row, rows_more, rows_none}
-use Rattle.network.specs.MeetsLaws.{met-input}
+use Rattle.network.proofs.DecodeLaws.{reply-row, rows_more, rows_none}
+use Rattle.network.proofs.MeetsLaws.{met-input}
 use Rattle.check_types.specs.Tells.{RowsOrder}
 use Rattle.check_operations.specs.declared.Met.{Met}
 use Rattle.check_operations.specs.Meeting.{operation_met}

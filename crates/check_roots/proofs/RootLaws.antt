@@ -17,16 +17,16 @@ use Rattle.network.specs.Kinds.{behaviour_kind, expression_fields}
 use Rattle.network.specs.Layout.{path_count, expression_count, behaviour_count, expression_at, behaviour_at}
 use Rattle.network.specs.Rows.{field_a, field_b, field_c, field_d, field_fits, expression_kind_at, kind_at}
 use Rattle.network.specs.Decode.{path_of, expression_from, expression_of, branches_from, behaviour_from, behaviour_of}
-use Rattle.network.specs.DecodeLaws.{expression-kept, expression-row}
-use Rattle.network.specs.BehaviourLaws.{behaviour-row}
-use Rattle.network.specs.UseLaws.{RowKept, BranchKept, behaviour-kept, branch_kept}
-use Rattle.network.specs.RowLaws.{counts-kept, next-at}
+use Rattle.network.proofs.DecodeLaws.{expression-kept, expression-row}
+use Rattle.network.proofs.BehaviourLaws.{behaviour-row}
+use Rattle.network.proofs.UseLaws.{RowKept, BranchKept, behaviour-kept, branch_kept}
+use Rattle.network.proofs.RowLaws.{counts-kept, next-at}
 use Rattle.network_rows.specs.declared.ExpressionRow.{ExpressionRow}
 use Rattle.network_rows.specs.declared.BehaviourRow.{BehaviourRow}
 use Rattle.network_rows.specs.declared.BranchRow.{BranchRow}
 use Rattle.network_rows.specs.Readers.{expression_row_as, expression_row_of, behaviour_row_as, behaviour_row_of, BranchAt}
 use Rattle.check_typing.specs.Occurs.{is_root, occurs_in, occurs, occurs_in_branches, no_shared_root}
-use Rattle.check_typing.specs.OccursLaws.{no-shared-sound, no-shared-complete}
+use Rattle.check_typing.proofs.OccursLaws.{no-shared-sound, no-shared-complete}
 use Rattle.check_roots.specs.declared.Operands.{Operands}
 use Rattle.check_roots.specs.declared.Own.{Own}
 use Rattle.network_row_parts.specs.declared.Subs.{Subs}

@@ -17,16 +17,16 @@ use Rattle.check_typing.specs.Result.{yields, demand, Checked, refused, passed, 
 use Rattle.check_typing.specs.Environment.{within}
 use Rattle.check_typing.specs.Checker.{limited, check}
 use Rattle.check_typing.specs.NetworkRules.{sequences_of, branches_of, union, union_of}
-use Rattle.check_typing.specs.NetworkLaws.{AllRising, each-one-sound}
+use Rattle.check_typing.proofs.NetworkLaws.{AllRising, each-one-sound}
 use Rattle.check_typing.specs.Branches.{union_from, one_type_from}
-use Rattle.check_typing.specs.BranchesLaws.{one_type-in-order, union-in-order}
+use Rattle.check_typing.proofs.BranchesLaws.{one_type-in-order, union-in-order}
 use Rattle.check_typing.specs.NetworkChecker.{check_each, one_type, one_type_with, one_type_each, check_starter}
 use Rattle.network.specs.declared.BehaviourKind.{BehaviourKind}
 use Rattle.network.specs.Form.{WellFormed}
 use Rattle.network.specs.Layout.{behaviour_count, behaviour_at}
 use Rattle.network.specs.Rows.{field_a, field_b, field_c, field_d, kind_at}
 use Rattle.network.specs.Decode.{branches_from, behaviour_of}
-use Rattle.network.specs.RowLaws.{next-at}
+use Rattle.network.proofs.RowLaws.{next-at}
 use Rattle.network_rows.specs.declared.BehaviourRow.{BehaviourRow}
 use Rattle.network_rows.specs.declared.BranchRow.{BranchRow}
 use Rattle.network_rows.specs.Readers.{behaviour_row_as, behaviour_row_of, BranchAt}

@@ -6,7 +6,7 @@ use Rattle.network_syntax.specs.Syntax.{Types, Behaviour, sequence}
 use Rattle.check_typing.specs.Result.{yields, demand, passed, with_row, next, verdict_of}
 use Rattle.check_typing.specs.Checker.{limited, check}
 use Rattle.check_typing.specs.NetworkRules.{union_of}
-use Rattle.check_typing.specs.NetworkLaws.{AllRising}
+use Rattle.check_typing.proofs.NetworkLaws.{AllRising}
 use Rattle.refusal.specs.declared.Refusal.TheVariants.{EnvironmentsDiffer}
 use Rattle.check_typing.specs.Branches.{union_from, one_type_from}
 use Rattle.check_typing.specs.NetworkChecker.{check_each, one_type_with, one_type_each, check_starter, check_client}

@@ -1,4 +1,2 @@
 pub mod Subtype
 pub mod Own
-pub mod SubtypeLaws
-pub mod OwnLaws

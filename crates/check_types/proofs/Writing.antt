@@ -12,14 +12,14 @@ use Rattle.network.specs.Form as form
 use Rattle.network.specs.Layout.{type_count}
 use Rattle.network.specs.Decode.{siblings, type_of}
 use Rattle.network.specs.Shapes.{TypeShape}
-use Rattle.network.specs.DecodeLaws.{type-shape}
+use Rattle.network.proofs.DecodeLaws.{type-shape}
 use Rattle.tree.specs.Encode.{root_count, encode, rooted, Octets, WellFormedTree, children}
 use Rattle.tree.specs.Standing.{Root}
 use Rattle.tree.specs.EncodeLaws.{good_of, sound-above}
 use Rattle.scalar.specs.Value.{Value}
 use Rattle.network_syntax.specs.Syntax.{MessageType}
 use Rattle.check_subtyping.specs.Subtype.{is_subtype}
-use Rattle.check_subtyping.specs.SubtypeLaws.{subtype-refl, subtype-complete}
+use Rattle.check_subtyping.proofs.SubtypeLaws.{subtype-refl, subtype-complete}
 use Rattle.tree_edit.specs.Wrote.{Wrote}
 use Rattle.tree_edit.specs.WroteLaws.{wrote_none, wrote-more, wrote_as, wrote-all-of}
 use Rattle.check_types.specs.Image.{flag, mark_value, image, type_tree, type_as}

@@ -8,10 +8,10 @@ use Rattle.network_syntax.specs.Syntax.{Mark, mark, Types}
 use Rattle.network.specs.Form as form
 use Rattle.network.specs.Layout.{type_at, type_count}
 use Rattle.network.specs.Rows.{type_id, cardinality, type_basic, first_child, child_count}
-use Rattle.network.specs.RowLaws.{type-kept}
+use Rattle.network.proofs.RowLaws.{type-kept}
 use Rattle.network.specs.Decode.{mark_of, siblings, written_out, type_of}
 use Rattle.network.specs.Shapes.{NodesShape, TypeShape}
-use Rattle.network.specs.DecodeLaws.{type-row, type-shape}
+use Rattle.network.proofs.DecodeLaws.{type-row, type-shape}
 use Rattle.wire.specs.Wire.{u16_at}
 use Rattle.tree.specs.Encode.{Octets, WellFormedTree}
 use Rattle.check_subtyping.specs.Subtype.{root_basic, root_children}

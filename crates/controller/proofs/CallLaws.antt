@@ -13,7 +13,7 @@ use Rattle.move_step.specs.declared.Move.{Move}
 use Rattle.move_step.specs.Moves.{move_of}
 use Rattle.soundness.specs.Property3.{NumberFits, Turn}
 use Rattle.soundness.specs.Calls.{SoundCall}
-use Rattle.soundness.specs.CallsLaws.{call-sound}
+use Rattle.soundness.proofs.CallsLaws.{call-sound}
 
 -- Moves without a reply number.
 abbrev others : List ℕ

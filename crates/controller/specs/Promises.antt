@@ -21,9 +21,9 @@ use Rattle.network_syntax.specs.Syntax.{none, some, Network}
 use Rattle.network.specs.Form.{form_of, WellFormed}
 use Rattle.network.specs.Decode.{network_of, row_operation}
 use Rattle.network.specs.Shapes.{NetworkShape}
-use Rattle.network.specs.NetworkLaws.{network-shape}
+use Rattle.network.proofs.NetworkLaws.{network-shape}
 use Rattle.network.specs.Breaks.{Breaks, TooLargeAt}
-use Rattle.network.specs.LowestLaws.{lowest-broken, lowest-large, none-broken}
+use Rattle.network.proofs.LowestLaws.{lowest-broken, lowest-large, none-broken}
 use Rattle.check_typing.specs.Result.{refused, passed}
 use Rattle.check_typing.specs.NetworkRules.{Environments, DerivesNetwork}
 use Rattle.check_typing.specs.Cases.{TableHolds, table, all-rows-hold}
@@ -33,16 +33,16 @@ use Rattle.state.specs.Places.{state_size}
 use Rattle.state.specs.Session.{State}
 use Rattle.state.specs.Bytes.{state_bytes}
 use Rattle.state.specs.Shape.{HasShape, Stands, decode_state}
-use Rattle.state.specs.ShapeLaws.{decode-state-sound, decode-state-complete, state-bytes-injective, refused-14}
+use Rattle.state.proofs.ShapeLaws.{decode-state-sound, decode-state-complete, state-bytes-injective, refused-14}
 use Rattle.move_rules.specs.Moves.{Move}
 use Rattle.move_rules.specs.Fresh.{fresh_bytes, fresh}
 use Rattle.move_rules.specs.Step.{step}
 use Rattle.soundness.specs.Property3.{Turn, Given, AllGiven, AcceptedFile, Property3}
-use Rattle.soundness.specs.Property3Laws.{property3, fresh-writes}
+use Rattle.soundness.proofs.Property3Laws.{property3, fresh-writes}
 use Rattle.soundness.specs.Calls.{SoundCall}
-use Rattle.soundness.specs.CallsLaws.{call-sound}
+use Rattle.soundness.proofs.CallsLaws.{call-sound}
 use Rattle.soundness.specs.Example.{file}
-use Rattle.soundness.specs.ExampleFileLaws.{accepted-file}
+use Rattle.soundness.proofs.ExampleFileLaws.{accepted-file}
 use Rattle.controller.specs.LeavesLaws.{fresh-leaves, step-leaves, step_stays}
 
 -- ---- Network file: refusals 2 to 5

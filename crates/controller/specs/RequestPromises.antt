@@ -2,7 +2,7 @@
 use Rattle.std.specs.Prelude.{◌≡◌, true, ◌&&◌, List, [], ◌∷◌, ◌++◌, ℕ, ◌≤◌, ◌<◌, leb, length, take, drop}
 use Rattle.tree_forest.specs.Forest.{Tree}
 use Rattle.utf8.specs.Utf8.{is_utf8, are_scalar_values, written, Written}
-use Rattle.utf8.specs.Utf8Laws.{written-utf8, utf8-written, written_once}
+use Rattle.utf8.proofs.Utf8Laws.{written-utf8, utf8-written, written_once}
 use Rattle.scalar.specs.Basic.{string}
 use Rattle.scalar.specs.Value.{Value, is_value}
 use Rattle.scalar.specs.ValueLaws.{string-rule}
@@ -26,14 +26,14 @@ use Rattle.state.specs.Shape.{KeysApart, HasShape, Stands}
 use Rattle.move_rules.specs.Fresh.{fresh_bytes}
 use Rattle.soundness.specs.Texts.{TextTree}
 use Rattle.soundness.specs.Property3.{AllTexts, WritesText, KeyedQueues, Turn, AllGiven, after, AcceptedFile}
-use Rattle.soundness.specs.TextLaws.{message-text, shape-texts}
-use Rattle.soundness.specs.Property3Laws.{texts-from-fresh, keys-from-fresh}
+use Rattle.soundness.proofs.TextLaws.{message-text, shape-texts}
+use Rattle.soundness.proofs.Property3Laws.{texts-from-fresh, keys-from-fresh}
 use Rattle.type_text.specs.Grammar.{Declaration, TypeText}
 use Rattle.type_text.specs.Reader.{Item, parsed, offends, read_text}
 use Rattle.type_text.specs.Meaning.{types_of}
 use Rattle.type_text.specs.TypeRows.{row_count}
-use Rattle.type_text.specs.TextLaws.{read-sound, read-complete, text-unique, SameThrough, offends-first}
-use Rattle.type_text.specs.BeginsLaws.{offends-begins}
+use Rattle.type_text.proofs.TextLaws.{read-sound, read-complete, text-unique, SameThrough, offends-first}
+use Rattle.type_text.proofs.BeginsLaws.{offends-begins}
 use Rattle.type_rows.specs.Ranged.{Small, EachType, TypeRowsOf}
 use Rattle.type_rows.specs.TextRows.{text-rows-mean, text-rows-root, text-rows-rules, text-rows-small}
 use Rattle.type_writing.specs.Answer.{write_types}

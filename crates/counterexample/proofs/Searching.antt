@@ -22,7 +22,7 @@ use Rattle.network_syntax.specs.Syntax.{Mark, MessageType, Optional, none, some}
 use Rattle.network.specs.Form.{WellFormed}
 use Rattle.network.specs.Layout.{type_count}
 use Rattle.network.specs.Decode.{siblings, type_of}
-use Rattle.network.specs.DecodeLaws.{type-shape}
+use Rattle.network.proofs.DecodeLaws.{type-shape}
 use Rattle.network.specs.Shapes.{tree_nodes}
 use Rattle.check_subtyping.specs.Own.{fits}
 use Rattle.check_types.specs.TypeRows.{row_types}

@@ -17,13 +17,13 @@ use Rattle.network_syntax.specs.Syntax.{Mark, mark, Types, MessageType}
 use Rattle.network.specs.Form.{WellFormed}
 use Rattle.network.specs.Layout.{type_count}
 use Rattle.network.specs.Decode.{type_of}
-use Rattle.network.specs.DecodeLaws.{type-shape}
+use Rattle.network.proofs.DecodeLaws.{type-shape}
 use Rattle.network.specs.Shapes.{TypeShape}
 use Rattle.check_types.specs.TypeRows.{row_types, line_of}
 use Rattle.check_types.specs.TypeRowsLaws.{RowMet, unmet, one-row, no-row}
 use Rattle.check_types.specs.declared.Line.{Line}
 use Rattle.check_types.specs.declared.Line.TheVariants.{Of, Outside}
-use Rattle.state.specs.SizeLaws.{message-size}
+use Rattle.state.proofs.SizeLaws.{message-size}
 use Rattle.counterexample_rules.specs.Breaking.{least_of, holds_child, least_with, least_message}
 use Rattle.counterexample_rules.specs.LeastLaws.{least-few}
 use Rattle.counterexample_rules.specs.BreakingLaws.{least-well-formed}

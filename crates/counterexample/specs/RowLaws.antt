@@ -7,7 +7,7 @@ use Rattle.network.specs.Form.{WellFormed}
 use Rattle.network.specs.Layout.{type_count}
 use Rattle.network.specs.Decode.{type_of}
 use Rattle.network.specs.Shapes.{TypeShape}
-use Rattle.network.specs.DecodeLaws.{type-shape}
+use Rattle.network.proofs.DecodeLaws.{type-shape}
 use Rattle.check_subtyping.specs.Subtype.{root_children}
 use Rattle.check_types.specs.Image.{InRange}
 use Rattle.check_types.specs.TypeRowsLaws.{type-keeps}

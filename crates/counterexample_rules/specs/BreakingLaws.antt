@@ -15,10 +15,10 @@ use Rattle.tree.specs.DecodeLaws.{encode_injective}
 use Rattle.network_syntax.specs.Syntax.{Mark, mark, Types, MessageType, Optional, none, some}
 use Rattle.network.specs.Shapes.{TypeShape, tree_nodes}
 use Rattle.check_subtyping.specs.Subtype.{Subtypes, Subtype, are_subtypes, root_children}
-use Rattle.check_subtyping.specs.SubtypeLaws.{subtype-trans, subtypes-sound, subtypes-complete}
+use Rattle.check_subtyping.proofs.SubtypeLaws.{subtype-trans, subtypes-sound, subtypes-complete}
 use Rattle.check_subtyping.specs.Own.{own_types, own_type, Fits, fits}
-use Rattle.check_subtyping.specs.OwnLaws.{own-rising, message-within, fits-sound, fits-complete}
-use Rattle.check_typing.specs.EnvironmentLaws.{sums, maxima}
+use Rattle.check_subtyping.proofs.OwnLaws.{own-rising, message-within, fits-sound, fits-complete}
+use Rattle.check_typing.proofs.EnvironmentLaws.{sums, maxima}
 use Rattle.counterexample_rules.specs.Order.{Lower, is_lower}
 use Rattle.counterexample_rules.specs.OrderLaws.{irreflexive, lower-trans, neither-lower, lower-sound, lower-complete}
 use Rattle.counterexample_rules.specs.Smallest.{IsMessage, Counterexample, Smallest, TypeWithin}

@@ -14,7 +14,7 @@ use Rattle.tree.specs.Encode.{Octets, Proper, SoundValues}
 use Rattle.network_syntax.specs.Syntax.{Mark, mark, Types, MessageType}
 use Rattle.network.specs.Shapes.{NodesShape}
 use Rattle.check_subtyping.specs.Subtype.{are_subtypes_by, are_subtypes, implies}
-use Rattle.check_subtyping.specs.SubtypeLaws.{implies-intro}
+use Rattle.check_subtyping.proofs.SubtypeLaws.{implies-intro}
 use Rattle.check_subtyping.specs.Own.{own_types}
 use Rattle.counterexample_rules.specs.OrderLaws.{AtMost, zeros-most}
 use Rattle.counterexample_rules.specs.Contained.{ValueAtMost}

@@ -8,7 +8,7 @@ use Rattle.tree_forest.specs.ForestLaws.{find-map, find-lt, find-gt}
 use Rattle.scalar.specs.Value.{Value}
 use Rattle.network_syntax.specs.Syntax.{Mark, mark, Types}
 use Rattle.check_subtyping.specs.Subtype.{ChildSubtype, Subtypes}
-use Rattle.check_subtyping.specs.SubtypeLaws.{child-cast, child-basics, child-below, not-present-absent, absent-not-mandatory, in-both}
+use Rattle.check_subtyping.proofs.SubtypeLaws.{child-cast, child-basics, child-below, not-present-absent, absent-not-mandatory, in-both}
 use Rattle.check_subtyping.specs.Own.{own_mark, own_types}
 use Rattle.counterexample_rules.specs.Breaking.{least_of, least_with}
 use Rattle.counterexample_rules.specs.ContainedLaws.{nothing_above}

@@ -8,9 +8,9 @@ use Rattle.scalar.specs.Value.{Value, value, basic_of}
 use Rattle.tree.specs.Encode.{SoundValues, payload, children, Proper}
 use Rattle.network_syntax.specs.Syntax.{Mark, mark, Types, MessageType}
 use Rattle.check_subtyping.specs.Subtype.{ChildSubtype, Subtypes, Subtype, are_subtypes, root_basic, root_children}
-use Rattle.check_subtyping.specs.SubtypeLaws.{child-cast, child-basics, child-below, not-present-absent, subtypes-sound, subtypes-complete}
+use Rattle.check_subtyping.proofs.SubtypeLaws.{child-cast, child-basics, child-below, not-present-absent, subtypes-sound, subtypes-complete}
 use Rattle.check_subtyping.specs.Own.{own_mark, own_types, own_type, own_lookup, Fits}
-use Rattle.check_subtyping.specs.OwnLaws.{own-child, own_at, own-rising}
+use Rattle.check_subtyping.proofs.OwnLaws.{own-child, own_at, own-rising}
 use Rattle.counterexample_rules.specs.Contained.{Contained}
 use Rattle.counterexample_rules.specs.ContainedLaws.{contained-absent}
 use Rattle.counterexample_rules.specs.Breaking.{least_of, least_with}

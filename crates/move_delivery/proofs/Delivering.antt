@@ -26,7 +26,7 @@ use Rattle.network.specs.Layout.{path_count, type_count, behaviour_count, operat
 use Rattle.network.specs.Rows.{operation_service, request_type}
 use Rattle.network.specs.Decode.{type_of, behaviour_of, operation_of, network_of}
 use Rattle.network.specs.Decode as network
-use Rattle.network.specs.RowLaws.{counts-kept, operation-kept}
+use Rattle.network.proofs.RowLaws.{counts-kept, operation-kept}
 use Rattle.network_rows.specs.declared.InputRow.{InputRow}
 use Rattle.network_rows.specs.Readers.{input_row_of}
 use Rattle.network_rows.specs.RowSyntax.{input_with}
@@ -37,12 +37,12 @@ use Rattle.state.specs.Session.{Destination, Progress, taken, advance, Queued, S
 use Rattle.state.specs.Session.{set_slot, new_session}
 use Rattle.state.specs.Bytes.{zeros, slot_bytes, state_bytes, read_state}
 use Rattle.state.specs.Shape.{WellMade, MadeSlot}
-use Rattle.state.specs.ShapeLaws.{new-made}
-use Rattle.state.specs.PartLaws.{length-zeros, part-replaced, replace-again}
-use Rattle.state.specs.SizeLaws.{message-size, slot-size}
-use Rattle.state.specs.FreshLaws.{replicate-zeros}
-use Rattle.state.specs.KeepLaws.{made-tree, made_row, made-key}
-use Rattle.state.specs.ReadLaws.{read-state}
+use Rattle.state.proofs.ShapeLaws.{new-made}
+use Rattle.state.proofs.PartLaws.{length-zeros, part-replaced, replace-again}
+use Rattle.state.proofs.SizeLaws.{message-size, slot-size}
+use Rattle.state.proofs.FreshLaws.{replicate-zeros}
+use Rattle.state.proofs.KeepLaws.{made-tree, made_row, made-key}
+use Rattle.state.proofs.ReadLaws.{read-state}
 use Rattle.move_rules.specs.Targets as definition
 use Rattle.move_rules.specs.Keys.{key_to_keep}
 use Rattle.move_rules.specs.Moves.{Result, refused, moved, require, allowed, on_live, started, must_find, deliver}

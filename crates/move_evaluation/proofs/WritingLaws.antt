@@ -18,7 +18,7 @@ use Rattle.tree.specs.Standing.{Root, Ended}
 use Rattle.tree.specs.StandingLaws.{root-inside, root-part, root-good}
 use Rattle.tree_edit.specs.Wrote.{Wrote}
 use Rattle.tree_edit.specs.WroteLaws.{wrote-more, wrote-all-of}
-use Rattle.state.specs.SizeLaws.{session-tree-size}
+use Rattle.state.proofs.SizeLaws.{session-tree-size}
 use Rattle.move_rules.specs.Evaluation.{Evaluation, leaf}
 use Rattle.move_evaluation.specs.declared.Source.{Source}
 use Rattle.move_evaluation.specs.declared.Evaluated.{Evaluated}

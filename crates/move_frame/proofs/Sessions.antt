@@ -15,7 +15,7 @@ use Rattle.state.specs.Places.{slot_size, slot_start}
 use Rattle.state.specs.Session.{Session, Slot, free, live, State}
 use Rattle.state.specs.Bytes.{read_session, read_slot}
 use Rattle.state.specs.Shape.{behaviour_in}
-use Rattle.state.specs.ReadLaws.{stands_read}
+use Rattle.state.proofs.ReadLaws.{stands_read}
 use Rattle.move_rules.specs.Moves.{Result, not_allowed, on_live, on_behaviour, in_session}
 use Rattle.move_targets.specs.declared.Runs as targets
 use Rattle.move_targets.specs.Answers.{behaviour_run, RowExists, RunsIn}

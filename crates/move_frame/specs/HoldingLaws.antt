@@ -8,9 +8,9 @@ use Rattle.state.specs.Places.{slot_size, slot_start}
 use Rattle.state.specs.Session.{Progress, advance, Session, with_progress, Slot, free, live, State, set_slot}
 use Rattle.state.specs.Bytes.{slot_bytes, slot_at, state_bytes}
 use Rattle.state.specs.Shape.{WellMade, MadeSlot, Stands}
-use Rattle.state.specs.SizeLaws.{Sized, slot-size, sized-length}
-use Rattle.state.specs.ChangeLaws.{set-bytes, slot-part, slot_same, set_other}
-use Rattle.state.specs.KeepLaws.{set-made, set-elsewhere, made_row}
+use Rattle.state.proofs.SizeLaws.{Sized, slot-size, sized-length}
+use Rattle.state.proofs.ChangeLaws.{set-bytes, slot-part, slot_same, set_other}
+use Rattle.state.proofs.KeepLaws.{set-made, set-elsewhere, made_row}
 use Rattle.move_rules.specs.Moves.{gone_on}
 use Rattle.state_slots.specs.SlotLaws.{row-set}
 use Rattle.state_slots.specs.Living.{Living}

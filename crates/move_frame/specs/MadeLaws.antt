@@ -12,7 +12,7 @@ use Rattle.state.specs.Places.{slot_size, slot_start}
 use Rattle.state.specs.Session.{Session, Slot, State, set_slot}
 use Rattle.state.specs.Bytes.{slot_bytes, state_bytes, read_state}
 use Rattle.state.specs.Shape.{MadeSlot}
-use Rattle.state.specs.ReadLaws.{read-state}
+use Rattle.state.proofs.ReadLaws.{read-state}
 use Rattle.move_rules.specs.Moves.{Result, refused, moved, on_live, on_behaviour, in_session}
 use Rattle.move_rules.specs.Step.{Step, finish}
 use Rattle.move_rules.specs.Targets as definition

@@ -19,7 +19,7 @@ use Rattle.state.specs.Places.{state_size, out_room}
 use Rattle.state.specs.Session.{State}
 use Rattle.state.specs.Bytes.{read_state}
 use Rattle.state.specs.Shape.{decode_state}
-use Rattle.state.specs.ShapeLaws.{decode-state-sound}
+use Rattle.state.proofs.ShapeLaws.{decode-state-sound}
 use Rattle.move_rules.specs.Moves.{Move, move}
 use Rattle.move_rules.specs.Step.{Step, refuse, finish, on_form, on_state, buffers_fit, step}
 use Rattle.move_frame.specs.Made.{StateOf, Made, MadeOut}

@@ -22,9 +22,9 @@ use Rattle.network_syntax.specs.Syntax.{none, some, Service}
 use Rattle.network.specs.Form.{form_of, WellFormed}
 use Rattle.network.specs.Layout.{service_count}
 use Rattle.network.specs.Rows.{client_row, no_row}
-use Rattle.network.specs.RowLaws.{counts-kept}
+use Rattle.network.proofs.RowLaws.{counts-kept}
 use Rattle.network.specs.Decode.{behaviour_of, service_of, network_of, rows_from}
-use Rattle.network.specs.NetworkLaws.{service-length}
+use Rattle.network.proofs.NetworkLaws.{service-length}
 use Rattle.check_typing.specs.Result.{Checked, refused, passed}
 use Rattle.check_typing.specs.NetworkRules.{Environments}
 use Rattle.check_typing.specs.NetworkChecker.{check_network}
@@ -35,7 +35,7 @@ use Rattle.state.specs.Places.{slot_start}
 use Rattle.state.specs.Session.{free}
 use Rattle.state.specs.Bytes.{zeros, state_bytes}
 use Rattle.state.specs.Shape.{service_of_row, client_of, fresh_state, fresh_up_to}
-use Rattle.state.specs.FreshLaws.{free_bytes, fresh-none, fresh-all, fresh-idle, fresh-client, fresh-sized}
+use Rattle.state.proofs.FreshLaws.{free_bytes, fresh-none, fresh-all, fresh-idle, fresh-client, fresh-sized}
 use Rattle.move_rules.specs.Fresh.{Freshened, fresh_refused, after_check, fresh}
 use Rattle.move_fresh.specs.Starting.{StartsClient, StartsClientsFrom}
 use Rattle.state_slots.specs.Slots.{begun}

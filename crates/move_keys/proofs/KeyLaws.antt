@@ -31,8 +31,8 @@ use Rattle.network.specs.Form.{WellFormed}
 use Rattle.network.specs.Layout.{service_count}
 use Rattle.network.specs.Rows.{service_key}
 use Rattle.network.specs.Decode.{behaviour_of, network_of}
-use Rattle.network.specs.RowLaws.{counts-kept}
-use Rattle.network.specs.NetworkLaws.{service-key}
+use Rattle.network.proofs.RowLaws.{counts-kept}
+use Rattle.network.proofs.NetworkLaws.{service-key}
 use Rattle.state.specs.Places.{slot_start}
 use Rattle.state.specs.Bytes.{read_key, read_session, read_slot, read_state}
 use Rattle.move_rules.specs.Targets as definition

@@ -24,7 +24,7 @@ use Rattle.tree_forest.specs.Limits.{session_levels, session_nodes}
 use Rattle.tree.specs.Encode as encoding
 use Rattle.network.specs.Form.{WellFormed}
 use Rattle.network.specs.Layout.{path_count, behaviour_count}
-use Rattle.network.specs.RowLaws.{counts-kept}
+use Rattle.network.proofs.RowLaws.{counts-kept}
 use Rattle.network.specs.Decode.{path_of, expression_of, behaviour_of, network_of}
 use Rattle.basics.specs.TestLaws.{told as held, untold as failed}
 use Rattle.network_rows.specs.declared.BehaviourRow.{BehaviourRow}
@@ -36,11 +36,11 @@ use Rattle.state.specs.Places.{slot_size, rows_place}
 use Rattle.state.specs.Session.{Progress, done, taken, advance, reopen, Session, with_tree, with_progress, live, State, set_slot}
 use Rattle.state.specs.Bytes.{rows_bytes, slot_bytes, state_bytes, read_session}
 use Rattle.state.specs.Shape.{is_undone, WellMade}
-use Rattle.state.specs.SizeLaws.{made-fits, rows-size}
-use Rattle.state.specs.PartLaws.{replace-within}
-use Rattle.state.specs.ReadLaws.{slot-parts}
-use Rattle.state.specs.ChangeLaws.{change-rows}
-use Rattle.state.specs.KeepLaws.{reopen-past, made-tree, made_row, made-progress}
+use Rattle.state.proofs.SizeLaws.{made-fits, rows-size}
+use Rattle.state.proofs.PartLaws.{replace-within}
+use Rattle.state.proofs.ReadLaws.{slot-parts}
+use Rattle.state.proofs.ChangeLaws.{change-rows}
+use Rattle.state.proofs.KeepLaws.{reopen-past, made-tree, made_row, made-progress}
 use Rattle.move_rules.specs.Readiness.{is_done, reach}
 use Rattle.move_rules.specs.Evaluation.{leaf, evaluate}
 use Rattle.move_rules.specs.Moves.{Result, refused, moved, not_allowed, out_of_range, require, on_evaluation, on_truth, assigned, unassigned, decided, repeated}

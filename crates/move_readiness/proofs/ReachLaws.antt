@@ -13,8 +13,8 @@ use Rattle.network.specs.Form.{WellFormed}
 use Rattle.network.specs.Layout.{behaviour_count, behaviour_at}
 use Rattle.network.specs.Rows.{field_a, field_b}
 use Rattle.network.specs.Decode.{branches_from, behaviour_of}
-use Rattle.network.specs.RowLaws.{next-at}
-use Rattle.network.specs.BehaviourLaws.{row-of}
+use Rattle.network.proofs.RowLaws.{next-at}
+use Rattle.network.proofs.BehaviourLaws.{row-of}
 use Rattle.network_rows.specs.declared.BehaviourRow.{BehaviourRow}
 use Rattle.network_rows.specs.declared.BranchRow.{BranchRow}
 use Rattle.network_rows.specs.Readers.{behaviour_row_of, BranchAt}

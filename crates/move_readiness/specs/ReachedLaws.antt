@@ -10,8 +10,8 @@ use Rattle.network_syntax.specs.ViewLaws.{own_row}
 use Rattle.network.specs.Form.{WellFormed}
 use Rattle.network.specs.Layout.{behaviour_count}
 use Rattle.network.specs.Decode.{behaviour_of}
-use Rattle.network.specs.OnceLaws.{rows_of}
-use Rattle.network.specs.BehaviourLaws.{row-of}
+use Rattle.network.proofs.OnceLaws.{rows_of}
+use Rattle.network.proofs.BehaviourLaws.{row-of}
 use Rattle.state.specs.Session.{Progress, undone, done, waits, received, taken, Progresses}
 use Rattle.move_rules.specs.Readiness.{Reached, unreached, reached, offered, here, or_else, only_if}
 use Rattle.move_rules.specs.Readiness.{offered_if, first_or, unless_received, unless_taken, then_or_else, is_done, offer, reach, reach_branch, served}

@@ -15,7 +15,7 @@ use Rattle.network_syntax.specs.Syntax.{input}
 use Rattle.check_typing.specs.Rules.{permits}
 use Rattle.network.specs.Form.{WellFormed}
 use Rattle.network.specs.Layout.{path_count, behaviour_count}
-use Rattle.network.specs.RowLaws.{counts-kept}
+use Rattle.network.proofs.RowLaws.{counts-kept}
 use Rattle.network.specs.Decode.{path_of, operation_of, behaviour_of, network_of}
 use Rattle.network_syntax.specs.Rows.{input_of}
 use Rattle.network_rows.specs.declared.InputRow.{InputRow}

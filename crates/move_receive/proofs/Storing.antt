@@ -15,8 +15,8 @@ use Rattle.state.specs.Places.{slot_size}
 use Rattle.state.specs.Session.{Destination, Progress, taken, advance, Session, with_tree, with_queue, with_progress, live}
 use Rattle.state.specs.Bytes.{slot_bytes}
 use Rattle.state.specs.Shape.{WellMade}
-use Rattle.state.specs.FreshLaws.{part-back}
-use Rattle.state.specs.KeepLaws.{made-tree, made_row}
+use Rattle.state.proofs.FreshLaws.{part-back}
+use Rattle.state.proofs.KeepLaws.{made-tree, made_row}
 use Rattle.state.specs.Session.{received_by}
 use Rattle.state_progress.specs.declared.Progress.TheVariants.{Taken}
 use Rattle.state_progress.specs.Meaning.{meaning}

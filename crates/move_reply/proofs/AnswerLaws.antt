@@ -29,7 +29,7 @@ use Rattle.network.specs.Decode.{path_of, operation_of, behaviour_of, network_of
 use Rattle.state.specs.Session.{Destination, waiting_row, Progress, done, Session, State}
 use Rattle.state.specs.Bytes.{message_bytes, state_bytes, read_session}
 use Rattle.wire.specs.Wire.{u32_bytes}
-use Rattle.state.specs.SizeLaws.{message-size}
+use Rattle.state.proofs.SizeLaws.{message-size}
 use Rattle.state_destinations.specs.declared.Destination as destination
 use Rattle.state_destinations.specs.Meaning.{destination_of}
 use Rattle.state_progress.specs.declared.Progress as coded

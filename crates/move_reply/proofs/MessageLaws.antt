@@ -31,7 +31,7 @@ use Rattle.network_row_parts.specs.PathLaws.{ids-path, path-is}
 use Rattle.state.specs.Session.{Session}
 use Rattle.wire.specs.Wire.{put_u32, u32_bytes}
 use Rattle.wire.specs.WireLaws.{put_32}
-use Rattle.state.specs.SizeLaws.{session-tree-size}
+use Rattle.state.proofs.SizeLaws.{session-tree-size}
 use Rattle.state_slots.specs.Slots.{tree_in}
 use Rattle.state_slots.specs.SlotLaws.{living-tree}
 use Rattle.state_slots.specs.Living.{Living}

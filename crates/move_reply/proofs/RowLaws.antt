@@ -13,7 +13,7 @@ use Rattle.network_syntax.specs.Rows.{has_row, at_row}
 use Rattle.check_typing.specs.Rules.{permits}
 use Rattle.network.specs.Form.{WellFormed}
 use Rattle.network.specs.Layout.{behaviour_count}
-use Rattle.network.specs.OnceLaws.{rows_of}
+use Rattle.network.proofs.OnceLaws.{rows_of}
 use Rattle.network.specs.Decode.{path_of, operation_of, behaviour_of}
 use Rattle.network_rows.specs.declared.InputRow.{InputRow}
 use Rattle.network_rows.specs.contracts.InputRow as rows
@@ -24,7 +24,7 @@ use Rattle.check_operations.specs.PermitsLaws.{two-way}
 use Rattle.network_row_parts.specs.KindLaws.{row-input-is}
 use Rattle.state.specs.Session.{Destination, Progress, undone, done, waits, received, taken, Session, State}
 use Rattle.state.specs.Bytes.{read_session}
-use Rattle.state.specs.RowLaws.{row-absent}
+use Rattle.state.proofs.RowLaws.{row-absent}
 use Rattle.state_rows.specs.PartLaws.{row-stands}
 use Rattle.move_rules.specs.Readiness.{is_done}
 use Rattle.move_rules.specs.Moves.{Result, not_allowed, require, on_received, reply_to, reply_by, reply_at}

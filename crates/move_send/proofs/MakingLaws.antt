@@ -29,15 +29,15 @@ use Rattle.network_syntax.specs.Syntax.{MessageType, Network, Operation, Optiona
 use Rattle.network.specs.Form.{WellFormed}
 use Rattle.network.specs.Layout.{type_count, expression_count, behaviour_count, operation_count}
 use Rattle.network.specs.Rows.{operation_location, request_type}
-use Rattle.network.specs.RowLaws.{operation-kept}
+use Rattle.network.proofs.RowLaws.{operation-kept}
 use Rattle.network.specs.Decode.{type_of, expression_of, operation_of, behaviour_of, network_of}
 use Rattle.network_syntax.specs.Meets.{in_file, met_input}
 use Rattle.state.specs.Places.{slot_size}
 use Rattle.state.specs.Session.{Destination, Progress, advance, Session, with_progress, Slot, live, State, set_slot}
 use Rattle.state.specs.Bytes.{message_bytes, state_bytes, read_session}
 use Rattle.state.specs.Shape.{behaviour_in}
-use Rattle.state.specs.SizeLaws.{message-size}
-use Rattle.state.specs.ChangeLaws.{slot_same, set_other}
+use Rattle.state.proofs.SizeLaws.{message-size}
+use Rattle.state.proofs.ChangeLaws.{slot_same, set_other}
 use Rattle.move_rules.specs.Evaluation.{Evaluation, evaluate}
 use Rattle.move_rules.specs.Targets as definition
 use Rattle.move_rules.specs.Readiness.{reach}

@@ -13,7 +13,7 @@ use Rattle.network_syntax.specs.Rows.{output_of}
 use Rattle.check_typing.specs.Rules.{permits}
 use Rattle.network.specs.Form.{WellFormed}
 use Rattle.network.specs.Layout.{behaviour_count}
-use Rattle.network.specs.RowLaws.{counts-kept}
+use Rattle.network.proofs.RowLaws.{counts-kept}
 use Rattle.network.specs.Decode.{operation_of, behaviour_of}
 use Rattle.network_rows.specs.declared.OutputRow.{OutputRow}
 use Rattle.network_rows.specs.Readers.{output_row_of}

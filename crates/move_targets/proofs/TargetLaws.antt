@@ -20,10 +20,10 @@ use Rattle.network.specs.Layout.{behaviour_count, service_count, behaviour_at}
 use Rattle.network.specs.Rows.{field_a, field_b, kind_at, is_choice_kind, no_row, starter_row, client_row, operation_service}
 use Rattle.network.specs.Decode.{branches_from, behaviour_from, behaviour_to, behaviour_of, operation_of, service_of, network_of, optional_behaviour}
 use Rattle.network.specs.Shapes.{as_starter, as_client}
-use Rattle.network.specs.RowLaws.{counts-kept, next-at}
-use Rattle.network.specs.UseLaws.{RowKept, behaviour-kept, branch_kept, choice-kind}
-use Rattle.network.specs.BehaviourLaws.{behaviour-row}
-use Rattle.network.specs.NetworkLaws.{top_of}
+use Rattle.network.proofs.RowLaws.{counts-kept, next-at}
+use Rattle.network.proofs.UseLaws.{RowKept, behaviour-kept, branch_kept, choice-kind}
+use Rattle.network.proofs.BehaviourLaws.{behaviour-row}
+use Rattle.network.proofs.NetworkLaws.{top_of}
 use Rattle.network_rows.specs.declared.InputRow.{InputRow}
 use Rattle.network_rows.specs.declared.BranchRow.{BranchRow}
 use Rattle.network_rows.specs.Readers.{input_row_of, BranchAt}

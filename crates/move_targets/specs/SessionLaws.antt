@@ -8,7 +8,7 @@ use Rattle.network_syntax.specs.Syntax.{Behaviour, Operation, Optional, none, so
 use Rattle.network.specs.Form.{WellFormed}
 use Rattle.network.specs.Layout.{service_count}
 use Rattle.network.specs.Decode.{service_of, rows_from, network_of}
-use Rattle.network.specs.RowLaws.{counts-kept}
+use Rattle.network.proofs.RowLaws.{counts-kept}
 use Rattle.state.specs.Places.{slot_start}
 use Rattle.state.specs.Session.{State}
 use Rattle.state.specs.Bytes.{read_slot, read_state}

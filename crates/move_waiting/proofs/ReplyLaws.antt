@@ -21,7 +21,7 @@ use Rattle.state.specs.Places.{tree_room}
 use Rattle.state.specs.Session.{done, Session, with_tree, Slot, live, State, set_slot}
 use Rattle.state.specs.Bytes.{slot_bytes, state_bytes}
 use Rattle.state.specs.Shape.{WellMade}
-use Rattle.state.specs.KeepLaws.{made-tree, made_row}
+use Rattle.state.proofs.KeepLaws.{made-tree, made_row}
 use Rattle.move_rules.specs.Moves.{moved, require, on_live, save_within, take_reply}
 use Rattle.scalar.specs.Value.{void_value}
 use Rattle.move_rules.specs.Step.{finish}

@@ -16,8 +16,8 @@ use Rattle.network_syntax.specs.Rows.{Output, has_row, at_row}
 use Rattle.check_typing.specs.Rules.{permits}
 use Rattle.network.specs.Form.{WellFormed}
 use Rattle.network.specs.Layout.{behaviour_count}
-use Rattle.network.specs.RowLaws.{counts-kept}
-use Rattle.network.specs.OnceLaws.{rows_of}
+use Rattle.network.proofs.RowLaws.{counts-kept}
+use Rattle.network.proofs.OnceLaws.{rows_of}
 use Rattle.network.specs.Decode.{path_of, operation_of, behaviour_of}
 use Rattle.network_rows.specs.declared.OutputRow.{OutputRow}
 use Rattle.network_rows.specs.contracts.OutputRow as rows
@@ -30,7 +30,7 @@ use Rattle.state_rows.specs.Marks.{mark_for, RowsOf}
 use Rattle.state_rows.specs.PartLaws.{row-stands}
 use Rattle.state.specs.Session.{Progress, Session}
 use Rattle.state.specs.Bytes.{read_session}
-use Rattle.state.specs.RowLaws.{row-absent}
+use Rattle.state.proofs.RowLaws.{row-absent}
 use Rattle.state_progress.specs.declared.Progress as coded
 use Rattle.state_progress.specs.Meaning.{meaning}
 use Rattle.state_progress.specs.contracts.Progress as progress

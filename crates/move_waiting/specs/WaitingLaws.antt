@@ -12,7 +12,7 @@ use Rattle.network.specs.Form.{WellFormed}
 use Rattle.network.specs.Layout.{type_count, operation_count}
 use Rattle.network.specs.Rows.{reply_type}
 use Rattle.network.specs.Decode.{type_of, operation_of, behaviour_of}
-use Rattle.network.specs.DecodeLaws.{reply-row}
+use Rattle.network.proofs.DecodeLaws.{reply-row}
 use Rattle.state.specs.Session.{Session, State}
 use Rattle.move_rules.specs.Moves.{Result, on_waiting_row}
 use Rattle.move_fitting.specs.Fitting.{Comes, Passed, Passes}

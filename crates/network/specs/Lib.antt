@@ -8,14 +8,3 @@ pub mod Form
 pub mod Breaks
 pub mod Decode
 pub mod Shapes
-pub mod LeastLaws
-pub mod LowestLaws
-pub mod FoldLaws
-pub mod RowLaws
-pub mod UseLaws
-pub mod DecodeLaws
-pub mod BehaviourLaws
-pub mod OnceLaws
-pub mod NetworkLaws
-pub mod OwnerLaws
-pub mod MeetsLaws

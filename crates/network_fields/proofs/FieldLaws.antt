@@ -19,7 +19,7 @@ use Rattle.network.specs.Least.{rule}
 use Rattle.network.specs.Layout.{path_count, expression_count, operation_count, behaviour_count, behaviour_at}
 use Rattle.network.specs.Kinds.{fields, expression_fields, behaviour_fields}
 use Rattle.network.specs.Rows.{later_run, sub_fits, input_fits, constant_fits, field_fits, basic_fits, is_choice_kind, kind_at, branch_rule, branch_row_rule, choice_run, fields_rule, behaviour_head, behaviour_row}
-use Rattle.network.specs.FoldLaws.{branch-outside}
+use Rattle.network.proofs.FoldLaws.{branch-outside}
 use Rattle.network_layout.specs.Loops.{Swept, swept-more, clip, run_none, run-done, clip-below, drop-clip, take-clip}
 
 pub expression-Constant : (k : ExpressionKind) (r : Fields) → k ≡ ExpressionKind.Constant → r ≡ fields ConstantPart Unruled Unused Unruled → r ≡ expression_fields k

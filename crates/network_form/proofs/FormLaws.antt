@@ -20,7 +20,7 @@ use Rattle.network.specs.declared.ExpressionKind.{ExpressionKind}
 use Rattle.refusal.specs.declared.Refusal.TheVariants.{FileLayout, SectionCount, BrokenField, TooLarge}
 use Rattle.refusal.specs.declared.Verdict.TheVariants.{Done, Refused}
 use Rattle.network.specs.Least.{least, rule}
-use Rattle.network.specs.LeastLaws.{least_kept, rule-kept, over-kept}
+use Rattle.network.proofs.LeastLaws.{least_kept, rule-kept, over-kept}
 use Rattle.network.specs.Layout.{expression_count, expression_at, path_count, type_count, behaviour_count, operation_count, service_count, laid_out, counted}
 use Rattle.network.specs.Kinds.{expression_fields}
 use Rattle.network.specs.Rows.{first_child, child_count, field_a, field_b, field_c, expression_kind_at, expression_row, expression_rows, fields_rule, field_fits, basic_fits, path_rows, type_rows, behaviour_rows, operation_rows, service_rows}

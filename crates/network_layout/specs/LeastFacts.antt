@@ -5,7 +5,7 @@ use Rattle.basics.specs.Choice.{pick}
 use Rattle.network.specs.declared.Broken.{Broken}
 use Rattle.network.specs.declared.Broken.TheVariants.{At, Nowhere}
 use Rattle.network.specs.Least.{least, rule, least_over}
-use Rattle.network.specs.FoldLaws.{least-same, over_first}
+use Rattle.network.proofs.FoldLaws.{least-same, over_first}
 
 pub small-left : (p q : ℕ) → p < q → p ≡ pick (ltb p q) p q
 small-left p q h = simp (lt-ltb p q h)

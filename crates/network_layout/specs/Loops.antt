@@ -8,7 +8,7 @@ use Rattle.network.specs.declared.Broken.{Broken}
 use Rattle.network.specs.declared.Broken.TheVariants.{Nowhere}
 use Rattle.network.specs.Least.{least, least_over}
 use Rattle.network.specs.Rows.{in_run}
-use Rattle.network.specs.FoldLaws.{over_none as over_nothing}
+use Rattle.network.proofs.FoldLaws.{over_none as over_nothing}
 use Rattle.network_layout.specs.LeastFacts.{over_zero, over-more, over-upto}
 
 -- m is the lowest over the numbers below i, and i has not passed n.

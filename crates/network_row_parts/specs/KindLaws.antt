@@ -7,8 +7,8 @@ use Rattle.network.specs.Layout.{behaviour_count, behaviour_at}
 use Rattle.network.specs.Rows.{field_a, field_b, field_c, field_d, kind_at}
 use Rattle.network.specs.Form.{WellFormed}
 use Rattle.network.specs.Decode.{behaviour_of}
-use Rattle.network.specs.UseLaws.{Child, BranchKept, RowKept, behaviour-kept, branch_kept}
-use Rattle.network.specs.BehaviourLaws.{behaviour-row}
+use Rattle.network.proofs.UseLaws.{Child, BranchKept, RowKept, behaviour-kept, branch_kept}
+use Rattle.network.proofs.BehaviourLaws.{behaviour-row}
 use Rattle.network_rows.specs.declared.BehaviourRow.{BehaviourRow}
 use Rattle.network_rows.specs.declared.InputRow.{InputRow}
 use Rattle.network_rows.specs.declared.OutputRow.{OutputRow}

@@ -13,7 +13,7 @@ use Rattle.network.specs.Layout.{path_count, expression_count, expression_at, da
 use Rattle.network.specs.Rows.{field_a, field_b, field_c, expression_kind_at, field_fits, basic_fits, constant_fits}
 use Rattle.network.specs.Form.{WellFormed}
 use Rattle.network.specs.Decode.{path_of, expression_from, expression_of}
-use Rattle.network.specs.DecodeLaws.{expression-kept, expression-row, known-expression}
+use Rattle.network.proofs.DecodeLaws.{expression-kept, expression-row, known-expression}
 use Rattle.network_rows.specs.declared.ExpressionRow.{ExpressionRow}
 use Rattle.network_rows.specs.Readers.{expression_row_as, expression_row_of, behaviour_row_of}
 use Rattle.network_rows.specs.declared.BehaviourRow.{BehaviourRow}

@@ -10,8 +10,8 @@ use Rattle.network.specs.Form.{WellFormed}
 use Rattle.network.specs.Layout.{path_count, path_at}
 use Rattle.network.specs.Rows.{path_row}
 use Rattle.network.specs.Decode as network
-use Rattle.network.specs.LeastLaws.{rule-kept}
-use Rattle.network.specs.RowLaws.{unbroken}
+use Rattle.network.proofs.LeastLaws.{rule-kept}
+use Rattle.network.proofs.RowLaws.{unbroken}
 use Rattle.network_rows.specs.Readers.{path_ids}
 
 steps-until : (l : List ℕ) → steps l ≡ network.until_zero l

@@ -10,7 +10,7 @@ use Rattle.network.specs.declared.Broken.TheVariants.{Nowhere}
 use Rattle.network.specs.Least.{rule}
 use Rattle.network.specs.Layout.{type_count, operation_at}
 use Rattle.network.specs.Rows.{type_id, later_run, children_fit, id_before, child_rule, child_ids, root_fits, location_fits, reply_fits, operation_id, same_service, same_name, repeat_rule}
-use Rattle.network.specs.FoldLaws.{child-outside}
+use Rattle.network.proofs.FoldLaws.{child-outside}
 use Rattle.network_layout.specs.LeastFacts.{rule-true}
 use Rattle.network_layout.specs.Loops.{Swept, swept-more, clip, run_none, run-done}
 

@@ -24,7 +24,7 @@ use Rattle.network.specs.Kinds.{behaviour_fields}
 use Rattle.network.specs.declared.Fields.{Fields}
 use Rattle.network.specs.Rows.{kind_at, starter_row, client_row}
 use Rattle.network.specs.Uses.{one, field_uses, uses_by, row_uses, service_uses, used_by_rows, used, second_use, row_use_rule, service_use_rule, uses_rows}
-use Rattle.network.specs.FoldLaws.{used_rule, uses-by-user}
+use Rattle.network.proofs.FoldLaws.{used_rule, uses-by-user}
 use Rattle.network_layout.specs.Loops.{clip, clip-below, run_none, Swept, swept_none, swept-more, swept-done}
 use Rattle.network_layout.specs.LeastFacts.{rule-true, rule-either}
 use Rattle.network_uses.specs.Marks.{some_below, plus, second_of, Marked, MarkStep, use_of, run_to, field_use, sorts_use, row_use, service_use, no_use, uses_to, uses_beside, row_second, service_second, never_used, Unmarked, ByRows, Beside, ByServices, AllUsed}

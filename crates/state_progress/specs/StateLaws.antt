@@ -6,8 +6,8 @@ use Rattle.wire.specs.WireLaws.{length-with_part}
 use Rattle.state.specs.Places.{slot_size, slot_start, row_start}
 use Rattle.state.specs.Session.{Progress, advance, Session, with_progress, Slot, live, State, set_slot}
 use Rattle.state.specs.Bytes.{progress_bytes, slot_bytes, state_bytes}
-use Rattle.state.specs.SizeLaws.{progress-size, SessionFits, Sized}
-use Rattle.state.specs.ChangeLaws.{set-part, change-row}
+use Rattle.state.proofs.SizeLaws.{progress-size, SessionFits, Sized}
+use Rattle.state.proofs.ChangeLaws.{set-part, change-row}
 use Rattle.state_progress.specs.Stored.{row_stored}
 
 pub row-bytes : {G : State} → Sized G → (q n : ℕ) → q < 4 → n < 4 → (S : Session) → G q n ≡ live S → SessionFits S → (r : ℕ) (x : Progress) → r < 256

@@ -18,8 +18,8 @@ use Rattle.network_syntax.specs.Syntax.{Optional}
 use Rattle.state.specs.Session.{Destination}
 use Rattle.state.specs.Bytes.{zeros, padded, reply_kind, reply_bytes, read_session}
 use Rattle.wire.specs.Wire.{u16_bytes}
-use Rattle.state.specs.PartLaws.{length-zeros, byte-zeros}
-use Rattle.state.specs.SizeLaws.{reply-size}
+use Rattle.state.proofs.PartLaws.{length-zeros, byte-zeros}
+use Rattle.state.proofs.SizeLaws.{reply-size}
 use Rattle.state_destinations.specs.declared.ReplyTo.{ReplyTo}
 use Rattle.state_destinations.specs.Meaning.{reply_of}
 use Rattle.state_queues.specs.Queue.{removed, entry_head, entry_of, pushed}

@@ -21,12 +21,12 @@ use Rattle.state.specs.Bytes.{zeros, padded, reply_kind, reply_bytes, message_by
 use Rattle.wire.specs.Wire.{u16_bytes}
 use Rattle.state.specs.Bytes.{read_entry, read_session}
 use Rattle.state.specs.Shape.{AllMessages, WellMade}
-use Rattle.state.specs.PartLaws.{length-zeros, HoldsAt, holds-first, holds-rest, holds-part, replace-within}
-use Rattle.state.specs.SizeLaws.{message-size, reply-size, entry-size, queue-size, made-fits, Sized, slot-size}
-use Rattle.state.specs.HoldLaws.{holds-u16}
-use Rattle.state.specs.ReadLaws.{read-entry, holds-entry, slot-parts, read-session, state-slot}
-use Rattle.state.specs.ChangeLaws.{set-bytes, change-queue, append-bytes, remove-bytes}
-use Rattle.state.specs.KeepLaws.{append-messages, remove-messages, made-queue}
+use Rattle.state.proofs.PartLaws.{length-zeros, HoldsAt, holds-first, holds-rest, holds-part, replace-within}
+use Rattle.state.proofs.SizeLaws.{message-size, reply-size, entry-size, queue-size, made-fits, Sized, slot-size}
+use Rattle.state.proofs.HoldLaws.{holds-u16}
+use Rattle.state.proofs.ReadLaws.{read-entry, holds-entry, slot-parts, read-session, state-slot}
+use Rattle.state.proofs.ChangeLaws.{set-bytes, change-queue, append-bytes, remove-bytes}
+use Rattle.state.proofs.KeepLaws.{append-messages, remove-messages, made-queue}
 use Rattle.state.specs.Queue.{nothing, message, oldest}
 use Rattle.state_queues.specs.declared.OldestEntry.{OldestEntry}
 use Rattle.state_queues.specs.declared.OldestEntry.TheVariants.{Nothing, Entry}

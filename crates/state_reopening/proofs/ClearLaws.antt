@@ -27,7 +27,7 @@ use Rattle.network_row_parts.specs.RowSets.{itself_row, rows_to, branch_rows, on
 use Rattle.network_row_parts.specs.RowSetLaws.{rows-by, row-sets-none, branches-none, branches-one, branches-more}
 use Rattle.state.specs.Places.{slot_size, row_size, rows_place, kept_place, row_start}
 use Rattle.state.specs.Bytes.{zeros, progress_bytes}
-use Rattle.state.specs.PartLaws.{length-zeros, byte-zeros}
+use Rattle.state.proofs.PartLaws.{length-zeros, byte-zeros}
 use Rattle.state_progress.specs.declared.Progress.TheVariants.{Undone}
 use Rattle.state_progress.specs.Meaning.{meaning}
 use Rattle.state_reopening.specs.Reopening.{in_rows, with_undone, rows_below, Clears, ClearsBranches}

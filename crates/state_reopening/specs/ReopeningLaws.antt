@@ -13,10 +13,10 @@ use Rattle.network_syntax.specs.Rows.{has_row}
 use Rattle.state.specs.Places.{slot_size, row_size, rows_size, rows_place, kept_place, slot_start}
 use Rattle.state.specs.Session.{Progress, undone, Progresses, reopen, Session, with_progress, Slot, live, State, set_slot}
 use Rattle.state.specs.Bytes.{progress_bytes, rows_bytes, slot_bytes, state_bytes}
-use Rattle.state.specs.PartLaws.{HoldsAt, holds-whole, holds-byte, byte-zeros}
-use Rattle.state.specs.SizeLaws.{progress-size, rows-size, SessionFits, Sized, sized-length}
-use Rattle.state.specs.ReadLaws.{holds_row, slot-parts, state-slot}
-use Rattle.state.specs.ChangeLaws.{set-part, change-rows}
+use Rattle.state.proofs.PartLaws.{HoldsAt, holds-whole, holds-byte, byte-zeros}
+use Rattle.state.proofs.SizeLaws.{progress-size, rows-size, SessionFits, Sized, sized-length}
+use Rattle.state.proofs.ReadLaws.{holds_row, slot-parts, state-slot}
+use Rattle.state.proofs.ChangeLaws.{set-part, change-rows}
 use Rattle.state_reopening.specs.Reopening.{in_rows, undone_from, with_undone, Clears}
 
 -- ---- byte for byte

@@ -10,7 +10,7 @@ use borrow.Author.Tests.{eq-eqb, ne_eqb, lt-ltb, not-true, not-false}
 use Rattle.wire.specs.Wire.{byte_at}
 use Rattle.network.specs.Layout.{behaviour_count, service_count}
 use Rattle.network.specs.Decode.{network_of}
-use Rattle.network.specs.NetworkLaws.{service-length}
+use Rattle.network.proofs.NetworkLaws.{service-length}
 use Rattle.network_rows.specs.declared.BehaviourRow.{BehaviourRow}
 use Rattle.network_rows.specs.Readers.{behaviour_row_of}
 use Rattle.state.specs.Session.{Progress}

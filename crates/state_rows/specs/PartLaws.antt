@@ -12,10 +12,10 @@ use Rattle.network.specs.Form.{WellFormed}
 use Rattle.network.specs.Layout.{behaviour_count, behaviour_at}
 use Rattle.network.specs.Rows.{field_a, field_b, kind_at}
 use Rattle.network.specs.Decode.{branches_from, behaviour_from, behaviour_of}
-use Rattle.network.specs.UseLaws.{Child, BranchKept, RowKept, behaviour-kept, branch_kept}
-use Rattle.network.specs.BehaviourLaws.{BranchesKept, Later, behaviour-row, row-kind}
+use Rattle.network.proofs.UseLaws.{Child, BranchKept, RowKept, behaviour-kept, branch_kept}
+use Rattle.network.proofs.BehaviourLaws.{BranchesKept, Later, behaviour-row, row-kind}
 use Rattle.state.specs.RowShape.{PartOf, PartOfBranches, BranchRow, BranchRowIn, BranchRowOf, InBranch}
-use Rattle.state.specs.RowLaws.{at-row, row-found}
+use Rattle.state.proofs.RowLaws.{at-row, row-found}
 use Rattle.state_rows.specs.Parts.{IsBranchRow, OfItsRow}
 
 module _ (s : List ℕ) (w : WellFormed s) where

@@ -13,16 +13,16 @@ use Rattle.network.specs.Layout.{behaviour_count, behaviour_at}
 use Rattle.network.specs.Rows.{field_a, field_b, field_c, field_d, kind_at}
 use Rattle.network.specs.Form.{WellFormed}
 use Rattle.network.specs.Decode.{branches_from, behaviour_from, behaviour_of, network_of}
-use Rattle.network.specs.RowLaws.{counts-kept}
-use Rattle.network.specs.UseLaws.{RowKept, behaviour-kept}
-use Rattle.network.specs.BehaviourLaws.{behaviour-row}
+use Rattle.network.proofs.RowLaws.{counts-kept}
+use Rattle.network.proofs.UseLaws.{RowKept, behaviour-kept}
+use Rattle.network.proofs.BehaviourLaws.{behaviour-row}
 use Rattle.network_rows.specs.Readers.{behaviour_row_as, behaviour_row_of}
 use Rattle.state.specs.Session.{Progress, undone, done, waits, received, taken, Progresses}
 use Rattle.state.specs.Bytes.{read_progress}
 use Rattle.state.specs.Shape.{is_undone, undone_or_done, undone_done_or_waits, undone_done_or_received, undone_or_taken, undone_done_or_body, branches, suits, quiet_elsewhere}
-use Rattle.state.specs.ShapeLaws.{below_next}
+use Rattle.state.proofs.ShapeLaws.{below_next}
 use Rattle.state.specs.RowShape.{suits_row, PartOf, InBranch, PartSuits}
-use Rattle.state.specs.RowLaws.{suits-row, rows-suit, at-row, row-found, part-row, quiet_each}
+use Rattle.state.proofs.RowLaws.{suits-row, rows-suit, at-row, row-found, part-row, quiet_each}
 use Rattle.state.specs.Places.{row_size}
 use Rattle.state_rows.specs.Marks.{marked, mark_for, RowsOf}
 use Rattle.state_rows.specs.Parts.{IsBranchRow}

@@ -12,7 +12,7 @@ use Rattle.wire.specs.Wire.{byte_at}
 use Rattle.network.specs.Layout.{service_count}
 use Rattle.network.specs.Rows.{service_key}
 use Rattle.network.specs.Decode.{service_of, network_of}
-use Rattle.network.specs.NetworkLaws.{service-key}
+use Rattle.network.proofs.NetworkLaws.{service-key}
 use Rattle.state.specs.Places.{slot_start}
 use Rattle.state.specs.Session.{free, live}
 use Rattle.state.specs.Bytes.{read_key, read_session, read_slot, read_state}

@@ -18,12 +18,12 @@ use Rattle.network.specs.Layout.{behaviour_count, service_count}
 use Rattle.network.specs.Rows.{kind_at, is_branch_kind, is_choice_kind, starter_row, client_row, no_row, starter_fits, client_fits}
 use Rattle.network.specs.Form.{WellFormed}
 use Rattle.network.specs.Decode.{service_of, rows_from, network_of, behaviour_of, optional_behaviour}
-use Rattle.network.specs.RowLaws.{service-kept}
+use Rattle.network.proofs.RowLaws.{service-kept}
 use Rattle.state.specs.Places.{slot_size, queue_place, rows_place}
 use Rattle.state.specs.Bytes.{read_queue, read_session, read_slot, read_state}
 use Rattle.state.specs.Shape.{service_of_row, behaviour_in, suits, quiet_elsewhere, suits_queue, suits_behaviour, suits_all_keys, decode_state}
 use Rattle.state.specs.Form.{slot_form, slots_stand}
-use Rattle.state.specs.FormLaws.{decode-slots}
+use Rattle.state.proofs.FormLaws.{decode-slots}
 use Rattle.state_rows.specs.Marks.{RowsOf}
 use Rattle.state_rows.specs.Allowed.{permitted}
 use Rattle.state_rows.specs.ProgressLaws.{permitted-suits}

@@ -13,8 +13,8 @@ use Rattle.tree_edit.specs.Wrote.{stored}
 use Rattle.state.specs.Places.{slot_size, tree_room, length_place, key_place, tree_place}
 use Rattle.state.specs.Bytes.{zeros, padded, slot_bytes, tree_length}
 use Rattle.wire.specs.Wire.{u16_bytes}
-use Rattle.state.specs.PartLaws.{length-padded}
-use Rattle.state.specs.FreshLaws.{replicate-zeros}
+use Rattle.state.proofs.PartLaws.{length-padded}
+use Rattle.state.proofs.FreshLaws.{replicate-zeros}
 use Rattle.state_slots.specs.Slots.{tree_in, begun, tree_stored, key_stored, freed}
 
 pub begin-sets : (s : List ℕ) (at : ℕ) {s₁ s₂ s₃ : List ℕ} → at + slot_size ≤ length s → s₁ ≡ with_part s at (1 ∷ [])

@@ -12,13 +12,13 @@ use Rattle.state.specs.Session.{Progress, advance, Session, with_tree, with_prog
 use Rattle.state.specs.Bytes.{zeros, padded, progress_bytes, tree_bytes, slot_bytes, tree_length, read_key, state_bytes}
 use Rattle.wire.specs.Wire.{u16_bytes, u32_bytes}
 use Rattle.state.specs.Shape.{WellMade, MadeSlot, Stands}
-use Rattle.state.specs.ShapeLaws.{new-made}
-use Rattle.state.specs.SizeLaws.{Sized, slot-size, session-tree-size, progress-size, made-fits, shape-sized, sized-length}
-use Rattle.state.specs.PartLaws.{HoldsAt, holds-first, holds-part, length-padded, replace-within, replace-both, replace-again, part-replaced}
-use Rattle.state.specs.HeadLaws.{head-length, head-key}
-use Rattle.state.specs.ReadLaws.{slot-parts}
-use Rattle.state.specs.FreshLaws.{store-part, part-back, new-stores}
-use Rattle.state.specs.ChangeLaws.{set-bytes, slot-part, change-tree, change-key, change-row}
+use Rattle.state.proofs.ShapeLaws.{new-made}
+use Rattle.state.proofs.SizeLaws.{Sized, slot-size, session-tree-size, progress-size, made-fits, shape-sized, sized-length}
+use Rattle.state.proofs.PartLaws.{HoldsAt, holds-first, holds-part, length-padded, replace-within, replace-both, replace-again, part-replaced}
+use Rattle.state.proofs.HeadLaws.{head-length, head-key}
+use Rattle.state.proofs.ReadLaws.{slot-parts}
+use Rattle.state.proofs.FreshLaws.{store-part, part-back, new-stores}
+use Rattle.state.proofs.ChangeLaws.{set-bytes, slot-part, change-tree, change-key, change-row}
 use Rattle.state_slots.specs.Slots.{tree_in, begun, tree_stored, key_stored, freed}
 use Rattle.state_progress.specs.Stored.{row_stored}
 use Rattle.state_slots.specs.Living.{Living}

@@ -24,7 +24,7 @@ use Rattle.network_row_parts.specs.PathLaws.{ids-path, path-is}
 use Rattle.state.specs.Places.{tree_room}
 use Rattle.state.specs.Session.{Session}
 use Rattle.state.specs.Bytes.{tree_bytes}
-use Rattle.state.specs.SizeLaws.{message-size, session-tree-size}
+use Rattle.state.proofs.SizeLaws.{message-size, session-tree-size}
 use Rattle.scalar.specs.Value.{void_value}
 use Rattle.state_slots.specs.Slots.{tree_in}
 use Rattle.state_slots.specs.SlotLaws.{living-tree}

@@ -18,7 +18,7 @@ use Rattle.network.specs.Shapes.{NodesShape, TreeNodesShape}
 use Rattle.type_text.specs.Spelling.{Token}
 use Rattle.type_text.specs.Grammar.{same_word, among, Children, no_more, written, named, Declaration, declaration, TreeFrom, leaf_tree, braced_tree}
 use Rattle.type_text.specs.Grammar.{ChildrenFrom, no_child, written_child, named_child, DeclarationsFrom, no_declaration, one_declaration}
-use Rattle.type_text.specs.ReaderLaws.{same-word-self}
+use Rattle.type_text.proofs.ReaderLaws.{same-word-self}
 use Rattle.type_text.specs.Meaning.{names_in, child_names, id_names, id_of, NamedType, named_type, type_named, as_child, forest_from, type_from, types_from, types_of}
 use Rattle.type_text.specs.Sizes.{nodes_in, levels_in, roots_in}
 use Rattle.type_text.specs.TypeRows.{rows_in, row_count, is_too_large}

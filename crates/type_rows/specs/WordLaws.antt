@@ -4,7 +4,7 @@ use Rattle.std.proofs.Common.{sym, ◌∙◌, ap, arith}
 use Rattle.basics.specs.Choice.{pick}
 use Rattle.basics.specs.TestLaws.{apart, true-false, clash, or_left, or_right}
 use Rattle.type_text.specs.Grammar.{same_word, among}
-use Rattle.type_text.specs.ReaderLaws.{same-word-is, same-word-self}
+use Rattle.type_text.proofs.ReaderLaws.{same-word-is, same-word-self}
 use Rattle.type_text.specs.Meaning.{first_uses, id_of}
 
 -- ---- a word among words

@@ -5,10 +5,3 @@ pub mod Meaning
 pub mod TypeRows
 pub mod Sizes
 pub mod TextExamples
-pub mod SpellingLaws
-pub mod LookaheadLaws
-pub mod ReaderLaws
-pub mod PlaceLaws
-pub mod TextLaws
-pub mod ViableLaws
-pub mod BeginsLaws

@@ -13,7 +13,7 @@ use Rattle.basics.specs.TestLaws.{clash, true-false}
 use Rattle.wire.specs.Wire.{part}
 use Rattle.wire.specs.WireLaws.{length_part}
 use Rattle.type_text.specs.Spelling.{is_blank, in_word, is_mark, Token, word, colon, opening, closing, dot, question, zero_to_one, one_to_one}
-use Rattle.type_text.specs.SpellingLaws.{items-skip}
+use Rattle.type_text.proofs.SpellingLaws.{items-skip}
 use Rattle.type_text.specs.Reader.{Lexeme, space, found, broken, word_bytes, mark_at, lexeme_at, Item, token, items_by, items_from, items_at, token_kind}
 use Rattle.type_words.specs.declared.Item.TheVariants.{Word}
 use Rattle.type_words.specs.Told.{mark_token, run_of, ItemTold}

@@ -19,8 +19,8 @@ use Rattle.network_syntax.specs.Syntax.{MessageType, none, some}
 use Rattle.type_text.specs.Spelling.{Token}
 use Rattle.type_text.specs.Grammar.{Declaration, declaration, TypeText}
 use Rattle.type_text.specs.Reader.{Item, items_at, Reading, parsed, offends, read_text}
-use Rattle.type_text.specs.SpellingLaws.{Carries, carries_none, carries_more, spelled-items, items-shorter}
-use Rattle.type_text.specs.TextLaws.{read-sound, read-complete}
+use Rattle.type_text.proofs.SpellingLaws.{Carries, carries_none, carries_more, spelled-items, items-shorter}
+use Rattle.type_text.proofs.TextLaws.{read-sound, read-complete}
 use Rattle.type_text.specs.Meaning.{NamedType, named_type, id_names, first_uses, type_from, types_from, types_of}
 use Rattle.type_text.specs.TypeRows.{rows_in, row_count, type_rows_from, is_too_large}
 use Rattle.type_reading.specs.Tables.{held, declared_names, Noted}

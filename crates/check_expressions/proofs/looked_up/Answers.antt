@@ -1,7 +1,7 @@
 use mathlib.Core.Path.{◌≡◌, ◌∙◌}
 use native.Mathlib.Omega.{arith}
 use Rattle.check_expressions.specs.Table.{column_of}
-use Rattle.check_expressions.specs.TableLaws.{column-small}
+use Rattle.check_expressions.proofs.TableLaws.{column-small}
 use Rattle.check_expressions.proofs.TypingLaws.{column-past, column-own, entry-none, entry-some}
 use Rattle.check_expressions.proofs.looked_up.Goals as goal
 use Rattle.check_expressions.proofs.looked_up.Goals.{then-operand-gt-LAST_BASIC, else-operand-gt-LAST_BASIC}

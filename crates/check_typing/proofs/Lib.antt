@@ -1,0 +1,10 @@
+pub mod BranchesLaws
+pub mod CheckerLaws
+pub mod DerivesLaws
+pub mod EnvironmentLaws
+pub mod ExpressionRulesLaws
+pub mod KeyLaws
+pub mod NetworkLaws
+pub mod OccursLaws
+pub mod ResultLaws
+pub mod TypedLaws

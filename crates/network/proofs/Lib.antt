@@ -1,0 +1,11 @@
+pub mod BehaviourLaws
+pub mod DecodeLaws
+pub mod FoldLaws
+pub mod LeastLaws
+pub mod LowestLaws
+pub mod MeetsLaws
+pub mod NetworkLaws
+pub mod OnceLaws
+pub mod OwnerLaws
+pub mod RowLaws
+pub mod UseLaws

@@ -1,0 +1,14 @@
+pub mod ChangeLaws
+pub mod Example
+pub mod FormLaws
+pub mod FreshLaws
+pub mod HeadLaws
+pub mod HoldLaws
+pub mod KeepLaws
+pub mod KeyLaws
+pub mod OctetLaws
+pub mod PartLaws
+pub mod ReadLaws
+pub mod RowLaws
+pub mod ShapeLaws
+pub mod SizeLaws
