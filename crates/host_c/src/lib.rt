@@ -1,6 +1,7 @@
 // The exports for C: each calls the function of `host` of its name, with its clauses. include/pokhveti.h has the declarations; a slice is
 // passed as a pointer and a length.
 #![tactic(auto)]
+
 ghost use Rattle.std.specs.Prelude.{◌≡◌, [], ◌∷◌};
 ghost use Rattle.check_files.specs.FileChecker.{check_file};
 ghost use Rattle.check_listing.specs.Listed.{listed_number, listed_count, listed_bytes};
@@ -107,7 +108,9 @@ pub extern "C" fn pokhveti_send(
 ) -> u32
     ensures { RunsCall file.now state.old out.old (send service session row target) [] result bytes.new place.new state.new out.new }
 {
-    host::pokhveti_send(file, state, out, service, session, row, target, bytes, place)
+    host::pokhveti_send(
+        file, state, out, service, session, row, target, bytes, place,
+    )
 }
 
 // A request-response whose body is done answers.
@@ -143,7 +146,9 @@ pub extern "C" fn pokhveti_outer_message(
 ) -> u32
     ensures { RunsCall file.now state.old out.old (definition.outer_message service id target number) outside.now result bytes.new place.new state.new out.new }
 {
-    host::pokhveti_outer_message(file, state, out, outside, service, id, target, number, bytes, place)
+    host::pokhveti_outer_message(
+        file, state, out, outside, service, id, target, number, bytes, place,
+    )
 }
 
 // A reply from outside to a waiting row.
@@ -161,7 +166,9 @@ pub extern "C" fn pokhveti_outer_reply(
 ) -> u32
     ensures { RunsCall file.now state.old out.old (outer_reply service session row) outside.now result bytes.new place.new state.new out.new }
 {
-    host::pokhveti_outer_reply(file, state, out, outside, service, session, row, bytes, place)
+    host::pokhveti_outer_reply(
+        file, state, out, outside, service, session, row, bytes, place,
+    )
 }
 
 // A done session becomes free.
