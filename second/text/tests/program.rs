@@ -193,6 +193,8 @@ fn the_input_is_never_written_over() {
     assert_eq!(ended.status.code(), Some(2));
     assert_eq!(fs::read(folder.join("a.net")).expect("a file"), CASE_D.as_bytes());
     assert_eq!(fs::read_dir(&folder).expect("a folder").count(), 4);
+    // `rt ci` takes no link in the checkout, where this folder is.
+    fs::remove_dir_all(&folder).expect("a folder");
 }
 
 #[test]
@@ -221,6 +223,8 @@ fn a_file_is_written_whole_where_its_name_leads() {
     let (status, out, _) = run(&folder, &["disassemble", "-"], &expected, Stdio::piped());
     assert!(status == 0 && out == CASE_D.replace(" c", "\n    c").replace(" }", "\n}").as_bytes());
     assert_eq!(fs::read_dir(&folder).expect("a folder").count(), 4);
+    // `rt ci` takes no link in the checkout, where this folder is.
+    fs::remove_dir_all(&folder).expect("a folder");
 }
 
 #[test]
