@@ -7,140 +7,181 @@ ghost use Rattle.network_rows.specs.declared.BehaviourRow.{BehaviourRow};
 ghost use Rattle.check_roots.specs.Sets.{Separates};
 ghost use Rattle.check_behaviours.specs.Checks.{SendChecks, SendsType, Receives, condition_step, Conditions, BranchesAgree, LeafChecks, RowChecks, ParallelChecks, Checks, Sequences, Settles, ChecksBranches};
 
-use check_environments::{Environment, Step};
-use check_expressions::Typing;
+use check_environments::Environment;
+use check_expressions::Typed;
 use network_layout::both;
 use network_rows::BehaviourRow;
-use refusal::{Refusal, Verdict};
+use refusal::Refusal;
 
 // The expression of E row x is ≤ the type of T row t, else 9.
-fn send_type(file: &[u8], r: u16, x: u16, t: u16, e: Environment) -> Step
+fn send_type(file: &[u8], r: u16, x: u16, t: u16, e: Environment) -> Result<Environment, Refusal>
     ensures { SendsType file.now r x t e result }
 {
-    match check_expressions::type_of(file, e, x, r) {
-        Typing::At(at, _) => {
+    match check_expressions::type_of(file, e, x, r)? {
+        Typed::At(at, _) => {
             if check_environments::type_under(file, e, at, t) {
-                return check_environments::pass(e);
+                return Ok(e);
             }
-            check_environments::refuse(Refusal::TypeMisfit(r))
+            Err(Refusal::TypeMisfit(r))
         }
-        Typing::Leaf(b) => {
+        Typed::Leaf(b) => {
             if check_types::basic_under(file, b, t) {
-                return check_environments::pass(e);
+                return Ok(e);
             }
-            check_environments::refuse(Refusal::TypeMisfit(r))
+            Err(Refusal::TypeMisfit(r))
         }
-        Typing::Refused(why) => check_environments::refuse(why),
     }
 }
 
 // "Notification: expression ≤ request type. Solicit-response: the same"
-fn send(file: &[u8], q: u16, r: u16, o: u16, x: u16, twoway: bool, e: Environment) -> Step
+fn send(
+    file: &[u8],
+    q: u16,
+    r: u16,
+    o: u16,
+    x: u16,
+    twoway: bool,
+    e: Environment,
+) -> Result<Environment, Refusal>
     ensures { SendChecks file.now q r o x twoway e result }
 {
     if !check_operations::permits(file, q, false, twoway, o) {
-        return check_environments::refuse(Refusal::WrongOperation(r));
+        return Err(Refusal::WrongOperation(r));
     }
     send_type(file, r, x, network_rows::request_type(file, o), e)
 }
 
 // "One-way places the request type. Request-response places it"
-fn receive(file: &[u8], q: u16, r: u16, o: u16, p: u16, twoway: bool, e: Environment) -> Step
+fn receive(
+    file: &[u8],
+    q: u16,
+    r: u16,
+    o: u16,
+    p: u16,
+    twoway: bool,
+    e: Environment,
+) -> Result<Environment, Refusal>
     ensures { Receives file.now q r o p twoway e result }
 {
     if !check_operations::permits(file, q, true, twoway, o) {
-        return check_environments::refuse(Refusal::WrongOperation(r));
+        return Err(Refusal::WrongOperation(r));
     }
     check_environments::place(file, e, p, network_rows::request_type(file, o), r)
 }
 
-fn bool_condition(r: u16, b: u8, e: Environment) -> Step
+fn bool_condition(r: u16, b: u8, e: Environment) -> Result<Environment, Refusal>
     ensures { result ≡ condition_step r b e }
 {
     if b == scalar::BOOL {
-        return check_environments::pass(e);
+        return Ok(e);
     }
-    check_environments::refuse(Refusal::OperandType(r))
+    Err(Refusal::OperandType(r))
 }
 
 // "a bool", else 8.
-fn condition(file: &[u8], r: u16, x: u16, e: Environment) -> Step
+fn condition(file: &[u8], r: u16, x: u16, e: Environment) -> Result<Environment, Refusal>
     ensures { Conditions file.now r x e result }
 {
-    match check_expressions::type_of(file, e, x, r) {
-        Typing::At(_, b) => bool_condition(r, b, e),
-        Typing::Leaf(b) => bool_condition(r, b, e),
-        Typing::Refused(why) => check_environments::refuse(why),
+    match check_expressions::type_of(file, e, x, r)? {
+        Typed::At(_, b) => bool_condition(r, b, e),
+        Typed::Leaf(b) => bool_condition(r, b, e),
     }
 }
 
 // "Assigning e places only e's basic type"
-fn assign(file: &[u8], q: u16, r: u16, p: u16, x: u16, e: Environment) -> Step
+fn assign(
+    file: &[u8],
+    q: u16,
+    r: u16,
+    p: u16,
+    x: u16,
+    e: Environment,
+) -> Result<Environment, Refusal>
     ensures { LeafChecks file.now q r (BehaviourRow.Assign p x) e result }
 {
-    match check_expressions::type_of(file, e, x, r) {
-        Typing::At(_, b) => check_environments::assign(file, e, p, b, r),
-        Typing::Leaf(b) => check_environments::assign(file, e, p, b, r),
-        Typing::Refused(why) => check_environments::refuse(why),
+    match check_expressions::type_of(file, e, x, r)? {
+        Typed::At(_, b) => check_environments::assign(file, e, p, b, r),
+        Typed::Leaf(b) => check_environments::assign(file, e, p, b, r),
     }
 }
 
-fn one_way(file: &[u8], q: u16, r: u16, o: u16, p: u16, e: Environment) -> Step
+fn one_way(
+    file: &[u8],
+    q: u16,
+    r: u16,
+    o: u16,
+    p: u16,
+    e: Environment,
+) -> Result<Environment, Refusal>
     ensures { LeafChecks file.now q r (BehaviourRow.OneWay o p) e result }
 {
     receive(file, q, r, o, p, false, e)
 }
 
-fn notification(file: &[u8], q: u16, r: u16, o: u16, x: u16, e: Environment) -> Step
+fn notification(
+    file: &[u8],
+    q: u16,
+    r: u16,
+    o: u16,
+    x: u16,
+    e: Environment,
+) -> Result<Environment, Refusal>
     ensures { LeafChecks file.now q r (BehaviourRow.Notification o x) e result }
 {
     send(file, q, r, o, x, false, e)
 }
 
 // "Solicit-response: the same, then places the reply type."
-fn solicit_response(file: &[u8], q: u16, r: u16, o: u16, x: u16, p: u16, e: Environment) -> Step
+fn solicit_response(
+    file: &[u8],
+    q: u16,
+    r: u16,
+    o: u16,
+    x: u16,
+    p: u16,
+    e: Environment,
+) -> Result<Environment, Refusal>
     ensures { LeafChecks file.now q r (BehaviourRow.SolicitResponse o x p) e result }
 {
-    let sent = send(file, q, r, o, x, true, e);
-    let v = sent.verdict;
-    let Verdict::Done = v else {
-        return sent;
-    };
+    send(file, q, r, o, x, true, e)?;
     check_environments::place(file, e, p, network_rows::reply_type(file, o), r)
 }
 
 // The environment d, where x is the same, else 10.
-fn agree(r: u16, x: Environment, d: Environment) -> Step
+fn agree(r: u16, x: Environment, d: Environment) -> Result<Environment, Refusal>
     ensures { BranchesAgree r x d result }
 {
     if check_environments::same(x, d) {
-        return check_environments::pass(d);
+        return Ok(d);
     }
-    check_environments::refuse(Refusal::EnvironmentsDiffer(r))
+    Err(Refusal::EnvironmentsDiffer(r))
 }
 
 // What all branches of the choice c gave, if they gave the same, else 10.
-fn settle(c: u16, d: Environment, same: bool) -> Step
+fn settle(c: u16, d: Environment, same: bool) -> Result<Environment, Refusal>
     ensures { Settles c d same result }
 {
     if same {
-        return check_environments::pass(d);
+        return Ok(d);
     }
-    check_environments::refuse(Refusal::EnvironmentsDiffer(c))
+    Err(Refusal::EnvironmentsDiffer(c))
 }
 
 // "Sequence: a, then b."
 #[cycle(branches_check_row_choice_if_then_else_parallel_request_response_sequence_while_do)]
-pub fn sequence(file: &[u8], sets: &[u8], q: u16, a: u16, b: u16, left: u16, e: Environment) -> Step
+pub fn sequence(
+    file: &[u8],
+    sets: &[u8],
+    q: u16,
+    a: u16,
+    b: u16,
+    left: u16,
+    e: Environment,
+) -> Result<Environment, Refusal>
     requires { Separates file.now sets.now }
     ensures { Sequences file.now q a b left e result }
 {
-    let first = check_row(file, sets, q, a, left, e);
-    let v = first.verdict;
-    let Verdict::Done = v else {
-        return first;
-    };
-    let d = first.environment;
+    let d = check_row(file, sets, q, a, left, e)?;
     check_row(file, sets, q, b, left, d)
 }
 
@@ -155,12 +196,12 @@ fn parallel(
     b: u16,
     left: u16,
     e: Environment,
-) -> Step
+) -> Result<Environment, Refusal>
     requires { Separates file.now sets.now }
     ensures { ParallelChecks file.now q r a b left e result }
 {
     if !check_roots::apart(sets, a, b) {
-        return check_environments::refuse(Refusal::SharedRoot(r));
+        return Err(Refusal::SharedRoot(r));
     }
     sequence(file, sets, q, a, b, left, e)
 }
@@ -178,22 +219,12 @@ fn request_response(
     body: u16,
     left: u16,
     e: Environment,
-) -> Step
+) -> Result<Environment, Refusal>
     requires { Separates file.now sets.now }
     ensures { RowChecks file.now q r (BehaviourRow.RequestResponse o p c body) left e result }
 {
-    let received = receive(file, q, r, o, p, true, e);
-    let v = received.verdict;
-    let Verdict::Done = v else {
-        return received;
-    };
-    let d = received.environment;
-    let done = check_row(file, sets, q, body, left, d);
-    let w = done.verdict;
-    let Verdict::Done = w else {
-        return done;
-    };
-    let f = done.environment;
+    let d = receive(file, q, r, o, p, true, e)?;
+    let f = check_row(file, sets, q, body, left, d)?;
     check_environments::ask(file, f, c, network_rows::reply_type(file, o), r)
 }
 
@@ -209,27 +240,13 @@ fn if_then_else(
     b: u16,
     left: u16,
     e: Environment,
-) -> Step
+) -> Result<Environment, Refusal>
     requires { Separates file.now sets.now }
     ensures { RowChecks file.now q r (BehaviourRow.If x a b) left e result }
 {
-    let tested = condition(file, r, x, e);
-    let u = tested.verdict;
-    let Verdict::Done = u else {
-        return tested;
-    };
-    let one = check_row(file, sets, q, a, left, e);
-    let v = one.verdict;
-    let Verdict::Done = v else {
-        return one;
-    };
-    let other = check_row(file, sets, q, b, left, e);
-    let w = other.verdict;
-    let Verdict::Done = w else {
-        return other;
-    };
-    let d = one.environment;
-    let f = other.environment;
+    condition(file, r, x, e)?;
+    let d = check_row(file, sets, q, a, left, e)?;
+    let f = check_row(file, sets, q, b, left, e)?;
     agree(r, f, d)
 }
 
@@ -244,21 +261,12 @@ fn while_do(
     b: u16,
     left: u16,
     e: Environment,
-) -> Step
+) -> Result<Environment, Refusal>
     requires { Separates file.now sets.now }
     ensures { RowChecks file.now q r (BehaviourRow.While x b) left e result }
 {
-    let tested = condition(file, r, x, e);
-    let u = tested.verdict;
-    let Verdict::Done = u else {
-        return tested;
-    };
-    let body = check_row(file, sets, q, b, left, e);
-    let v = body.verdict;
-    let Verdict::Done = v else {
-        return body;
-    };
-    let d = body.environment;
+    condition(file, r, x, e)?;
+    let d = check_row(file, sets, q, b, left, e)?;
     agree(r, d, e)
 }
 
@@ -275,7 +283,7 @@ fn branches(
     e: Environment,
     d: Environment,
     same: bool,
-) -> Step
+) -> Result<Environment, Refusal>
     requires { (at + 10 * n < 2000000) × Separates file.now sets.now }
     ensures { ChecksBranches file.now q c at n left e d same result }
 {
@@ -283,12 +291,7 @@ fn branches(
         return settle(c, d, same);
     }
     let row = network_rows::branch_at(file, at);
-    let one = sequence(file, sets, q, row.input, row.follow, left, e);
-    let v = one.verdict;
-    let Verdict::Done = v else {
-        return one;
-    };
-    let x = one.environment;
+    let x = sequence(file, sets, q, row.input, row.follow, left, e)?;
     let again = both(same, check_environments::same(x, d));
     branches(file, sets, q, c, at + 10, n - 1, left, e, d, again)
 }
@@ -304,35 +307,37 @@ fn choice(
     n: u16,
     left: u16,
     e: Environment,
-) -> Step
+) -> Result<Environment, Refusal>
     requires { Separates file.now sets.now }
     ensures { RowChecks file.now q r (BehaviourRow.Choice first n) left e result }
 {
     if n == 0 {
-        return check_environments::pass(e);
+        return Ok(e);
     }
     let at = network_layout::behaviour_at(file, first);
     let row = network_rows::branch_at(file, at);
-    let one = sequence(file, sets, q, row.input, row.follow, left, e);
-    let v = one.verdict;
-    let Verdict::Done = v else {
-        return one;
-    };
-    let d = one.environment;
+    let d = sequence(file, sets, q, row.input, row.follow, left, e)?;
     branches(file, sets, q, r, at + 10, n - 1, left, e, d, true)
 }
 
 // The behaviour of B row r, of the service row q, from the environment e; so many rows are left.
 #[cycle(branches_check_row_choice_if_then_else_parallel_request_response_sequence_while_do)]
-pub fn check_row(file: &[u8], sets: &[u8], q: u16, r: u16, left: u16, e: Environment) -> Step
+pub fn check_row(
+    file: &[u8],
+    sets: &[u8],
+    q: u16,
+    r: u16,
+    left: u16,
+    e: Environment,
+) -> Result<Environment, Refusal>
     requires { Separates file.now sets.now }
     ensures { Checks file.now q r left e result }
 {
     if left == 0 {
-        return check_environments::pass(e);
+        return Ok(e);
     }
     match network_rows::behaviour_row(file, r) {
-        BehaviourRow::Nil => check_environments::pass(e),
+        BehaviourRow::Nil => Ok(e),
         BehaviourRow::OneWay(o, p) => one_way(file, q, r, o, p, e),
         BehaviourRow::RequestResponse(o, p, c, d) => request_response(
             file,
@@ -354,7 +359,7 @@ pub fn check_row(file: &[u8], sets: &[u8], q: u16, r: u16, left: u16, e: Environ
         BehaviourRow::Parallel(a, b) => parallel(file, sets, q, r, a, b, left - 1, e),
         BehaviourRow::Assign(p, x) => assign(file, q, r, p, x, e),
         BehaviourRow::Choice(first, n) => choice(file, sets, q, r, first, n, left - 1, e),
-        BehaviourRow::Branch(_, _) => check_environments::pass(e),
-        BehaviourRow::Unknown => check_environments::pass(e),
+        BehaviourRow::Branch(_, _) => Ok(e),
+        BehaviourRow::Unknown => Ok(e),
     }
 }

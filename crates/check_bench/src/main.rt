@@ -6,7 +6,7 @@
 use check_network::Pair;
 use console::Status;
 use controller::Answer;
-use refusal::Verdict;
+use refusal::Refusal;
 use std::env::FillError;
 use std::io;
 use std::io::{Read, Write};
@@ -14,29 +14,20 @@ use std::process::ExitCode;
 use std::rt::{Env, Files};
 
 fn bytes(p: Pair) -> u64 {
-    let a = p.starter;
-    let b = p.client;
-    (a.len as u64).wrapping_add(b.len as u64)
+    (p.starter.len as u64).wrapping_add(p.client.len as u64)
 }
 
-fn refused(v: Verdict) -> u64 {
+fn refused(v: Result<(), Refusal>) -> u64 {
     match v {
-        Verdict::Done => 0,
-        Verdict::Refused(why) => (refusal::number_of(why) as u64).wrapping_add(
-            refusal::place_of(why) as u64,
-        ),
+        Ok(()) => 0,
+        Err(why) => u64::from(refusal::number_of(why)).wrapping_add(refusal::place_of(why) as u64),
     }
 }
 
 fn number(x: Answer) -> u64 {
-    let v = x.verdict;
-    let a = x.first;
-    let b = x.second;
-    let c = x.third;
-    let d = x.fourth;
-    let front = bytes(a).wrapping_add(bytes(b));
-    let back = bytes(c).wrapping_add(bytes(d));
-    refused(v).wrapping_add(front.wrapping_add(back))
+    let front = bytes(x.first).wrapping_add(bytes(x.second));
+    let back = bytes(x.third).wrapping_add(bytes(x.fourth));
+    refused(x.verdict).wrapping_add(front.wrapping_add(back))
 }
 
 fn touch(s: &mut [u8], value: u8) {
@@ -60,17 +51,10 @@ fn repeat(s: &mut [u8], times: u32) -> u64 {
 fn decimal(text: &[u8]) -> u32 {
     let mut n: u32 = 0;
     for x in text {
-        let c = *x;
-        if c < 48 {
+        if !x.is_ascii_digit() || 99999999 < n {
             return n;
         }
-        if 57 < c {
-            return n;
-        }
-        if 99999999 < n {
-            return n;
-        }
-        n = 10 * n + (c - 48) as u32;
+        n = 10 * n + u32::from(*x - b'0');
     }
     n
 }
@@ -78,8 +62,7 @@ fn decimal(text: &[u8]) -> u32 {
 fn measure<R: Read, W: Write>(reader: &mut R, out: &mut W, times: u32) -> io::Result<()> {
     let mut buf = [0u8; 32769];
     let file = console::read(reader, &mut buf);
-    let n = file.len;
-    let sum = repeat(&mut buf[..n], times);
+    let sum = repeat(&mut buf[..file.len], times);
     writeln!(out, " {sum}")
 }
 
@@ -92,10 +75,9 @@ fn named<F: Files, W: Write, E: Write>(
     times: u32,
 ) -> io::Result<()> {
     match console::open(files, name) {
-        Ok(file) => {
-            let mut reader = file;
+        Ok(mut file) => {
             out.write_all(name)?;
-            measure(&mut reader, out, times)
+            measure(&mut file, out, times)
         }
         Err(error) => {
             console::fail(errors, name, error);

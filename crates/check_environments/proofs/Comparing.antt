@@ -5,7 +5,8 @@ use mathlib.Core.Bool.{Bool, true, false, not, ◌&&◌}
 use Prim.Native.Nat.{ℕ, ◌+◌, ◌-◌, ◌≤◌, ◌<◌}
 use native.Mathlib.Omega.{arith}
 use native.Mathlib.Numerals.{add-one}
-use lib.ListN.{length, get_or, take, drop, length-take, length-drop}
+use lib.ListN.{length, get_or, take, drop}
+use lib.Pointwise.{pointwise, bytes_decides}
 use lib.Seq.{get_or-take, get_or-drop, take-suc, take-take, take_all}
 use lib.Dec.{T, eqb, eqb_refl}
 use borrow.Author.Tests.{not-true, not-false, eqb-true, eqb-false}
@@ -26,9 +27,6 @@ use Rattle.tree.specs.DecodeLaws.{encode_injective}
 use Rattle.tree.specs.Standing.{Row, Root, Spot, Ended, Below}
 use Rattle.tree.specs.StandingLaws.{row-root, row-rest, root-kids, root-inside, root-part, seen, unseen, root-seen, root-unseen, row_moved}
 use Rattle.tree.specs.declared.Head.{Head}
-use Rattle.tree.specs.declared.Head.TheVariants.{Node, Fault}
-use Rattle.tree.specs.declared.Found.{Found}
-use Rattle.tree.specs.declared.Found.TheVariants.{At, Nothing}
 use Rattle.check_types.specs.Image.{flag, mark_value, image, type_as}
 use Rattle.check_types.specs.ImageLaws.{type-back}
 use Rattle.check_environments.specs.declared.Environment.{Environment}
@@ -37,78 +35,8 @@ use Rattle.check_environments.specs.EnvironmentLaws.{stands-root, root-once}
 use Rattle.check_environments.specs.UnionLaws.{same-tree-eq}
 use Rattle.check_environments.specs.Walk.{SameLists, SameParts, RootSame, OneFrom}
 use Rattle.check_environments.specs.Tells.{SameEnvironments, OneTyped}
-
--- ---- bytes
-
-at_part : (a : List ℕ) (i k : ℕ) → get_or (drop i a) k 0 ≡ get_or a (i + k) 0
-at_part a i k = get_or-drop i a k 0
-
-pub same_more : (a b : List ℕ) (i j k : ℕ) → i + k < length a → j + k < length b → get_or a (i + k) 0 ≡ get_or b (j + k) 0 → take k (drop i a) ≡ take k (drop j b) →
-    take (k + 1) (drop i a) ≡ take (k + 1) (drop j b)
-same_more a b i j k p q e h =
-    let la : k < length (drop i a) = rw (length-drop i a) (omega arith) in
-    let lb : k < length (drop j b) = rw (length-drop j b) (omega arith) in
-    rw (add-one k) (take-suc (drop i a) k 0 la ∙ rw (h, at_part a i k, e, ← at_part b j k) (sym (take-suc (drop j b) k 0 lb)))
-
-pub same_start : SameLists [] [] true
-same_start = record { yes = λ x. refl; no = λ x. absurd (let z : ◌≡◌ {A = ℕ} 0 1 = cc in omega arith) }
-
-pub same_next : (a b : List ℕ) (i j k : ℕ) (x y : Bool) → i + k < length a → j + k < length b → y ≡ (x && eqb (get_or a (i + k) 0) (get_or b (j + k) 0)) →
-    SameLists (take k (drop i a)) (take k (drop j b)) x → SameLists (take (k + 1) (drop i a)) (take (k + 1) (drop j b)) y
-same_next a b i j k x y p q e w = by x (eqb (get_or a (i + k) 0) (get_or b (j + k) 0)) refl refl e
-  where
-    shorter : take (k + 1) (drop i a) ≡ take (k + 1) (drop j b) → take k (drop i a) ≡ take k (drop j b)
-    shorter h = sym (take-take k (k + 1) (drop i a) (omega arith)) ∙ ap (take k) h ∙ take-take k (k + 1) (drop j b) (omega arith)
-
-    last : take (k + 1) (drop i a) ≡ take (k + 1) (drop j b) → get_or a (i + k) 0 ≡ get_or b (j + k) 0
-    last h =
-        sym (at_part a i k) ∙ sym (get_or-take (k + 1) (drop i a) k 0 (omega arith)) ∙ ap (λ (z : List ℕ). get_or z k 0) h
-        ∙ get_or-take (k + 1) (drop j b) k 0 (omega arith) ∙ at_part b j k
-
-    by : (u v : Bool) → x ≡ u → eqb (get_or a (i + k) 0) (get_or b (j + k) 0) ≡ v → y ≡ (u && v) → SameLists (take (k + 1) (drop i a)) (take (k + 1) (drop j b)) y
-    by true true g h f = record { yes = λ z. same_more a b i j k p q (eqb-true _ _ h) (w.yes g); no = λ z. absurd (let z : ◌≡◌ {A = ℕ} 0 1 = cc in omega arith) }
-    by true false g h f = record { yes = λ z. absurd (let z : ◌≡◌ {A = ℕ} 0 1 = cc in omega arith); no = λ z t. eqb-false _ _ h (last t) }
-    by false v g h f = record { yes = λ z. absurd (let z : ◌≡◌ {A = ℕ} 0 1 = cc in omega arith); no = λ z t. w.no g (shorter t) }
-
-pub same-done : (a b : List ℕ) (k n : ℕ) (x : Bool) → n ≤ k → k ≤ n → SameLists (take k a) (take k b) x → SameLists (take n a) (take n b) x
-same-done a b k n x p q h =
-    let e : k ≡ n = omega arith in
-    subst (λ (z : ℕ). SameLists (take z a) (take z b) x) e h
-
--- ---- parts
-
-module _ (s : List ℕ) (at e : ℕ) (d : List ℕ) (p q : ℕ) where
-  pub part-past : length s < e → SameParts s at e d p q false
-  part-past l = record { tells = λ a b c f. absurd (omega arith) }
-
-  pub part-past-other : length d < q → SameParts s at e d p q false
-  part-past-other l = record { tells = λ a b c f. absurd (omega arith) }
-
-  pub part-back : e < at → SameParts s at e d p q false
-  part-back l = record { tells = λ a b c f. absurd (omega arith) }
-
-  pub part-back-other : q < p → SameParts s at e d p q false
-  part-back-other l = record { tells = λ a b c f. absurd (omega arith) }
-
-  part-size : (s : List ℕ) (at e : ℕ) → at ≤ e → e ≤ length s → length (take (e - at) (drop at s)) ≡ e - at
-  part-size s at e a b = simp (length-take, length-drop) (omega arith)
-
-  pub part-longer : (e - at ≡ q - p → ⊥) → SameParts s at e d p q false
-  part-longer f = record {
-    tells = λ a b c g. record {
-      yes = λ x. absurd (let z : ◌≡◌ {A = ℕ} 0 1 = cc in omega arith);
-      no = λ x eq. f (sym (part-size s at e a b) ∙ ap length eq ∙ part-size d p q c g);
-    };
-  }
-
-  pub part-on : (n : ℕ) → n ≡ e - at → n ≡ q - p → (x : Bool) → SameLists (take n (drop at s)) (take n (drop p d)) x → SameParts s at e d p q x
-  part-on n h k x w = record {
-    tells = λ a b c g.
-        subst (λ (z : ℕ). SameLists (take (e - at) (drop at s)) (take z (drop p d)) x) k
-        (subst (λ (z : ℕ). SameLists (take z (drop at s)) (take n (drop p d)) x) h w);
-  }
-
-pub ruleset part-laws = (part-past, part-past-other, part-back, part-back-other, part-longer, part-on)
+use Rattle.std.specs.Prelude.{Option, Some, None}
+use Rattle.tree.specs.Decode.{header}
 
 -- ---- one tree
 
@@ -131,23 +59,22 @@ same-types-by Γ Δ x f g =
 
 -- ---- whole environments
 
-whole : (a : List ℕ) → length a ≡ 512 → take 512 a ≡ a
-whole a h = take_all 512 a (omega arith)
-
-pub same-is : (e d : Environment) (x : Bool) → length e.bytes ≡ 512 → length d.bytes ≡ 512 → SameLists (take 512 (drop 0 e.bytes)) (take 512 (drop 0 d.bytes)) x →
-    SameEnvironments e d x
-same-is e d x le ld h = record { tells = go }
+pub same-is : (e d : Environment) (x : Bool) → x ≡ pointwise eqb e.bytes d.bytes → SameEnvironments e d x
+same-is e d x p = record { tells = go }
   where
+    b : (pointwise eqb e.bytes d.bytes ≡ true → e.bytes ≡ d.bytes) × (e.bytes ≡ d.bytes → pointwise eqb e.bytes d.bytes ≡ true)
+    b = bytes_decides e.bytes d.bytes
+
     go : (Γ Δ : Types) → EnvironmentFor e Γ → EnvironmentFor d Δ → x ≡ same_types Γ Δ
     go Γ Δ v w = same-types-by Γ Δ x yes no
       where
         yes : x ≡ true → Γ ≡ Δ
-        yes q =
-            let b : e.bytes ≡ d.bytes = sym (whole e.bytes le) ∙ h.yes q ∙ whole d.bytes ld in
-            root-once d.bytes Γ Δ (subst (λ (s : List ℕ). Root s 0 0 (tree_of Γ)) b (stands-root e Γ v)) (stands-root d Δ w)
+        yes q = root-once d.bytes Γ Δ (subst (λ (s : List ℕ). Root s 0 0 (tree_of Γ)) (b.0 (sym p ∙ q)) (stands-root e Γ v)) (stands-root d Δ w)
 
         no : x ≡ false → Γ ≡ Δ → ⊥
-        no q r = h.no q (ap (λ (z : Environment). take 512 z.bytes) (v.is ∙ ap standing r ∙ sym w.is))
+        no q r =
+            let y = b.1 (ap (λ (z : Environment). z.bytes) (v.is ∙ ap standing r ∙ sym w.is)) in
+            absurd (cc (y, p, q))
 
 -- ---- one root
 
@@ -171,22 +98,22 @@ found_none : (l : Lookup Mark) → map_lookup mark_value l ≡ absent → l ≡ 
 found_none absent e = refl
 found_none (present u) e = cc
 
-module _ (s : List ℕ) (at e i : ℕ) (d : List ℕ) (y : Found) (b : Below d 0 i y) where
-  spot-as : (y' : Found) → y ≡ y' → (Δ : Types) → Root d 0 0 (tree_of Δ) → Spot d i y' (find i (image Δ))
-  spot-as y' z Δ w = subst (λ (v : Found). Spot d i v (find i (image Δ))) z (b.tells 0 (tree_of Δ) w)
+module _ (s : List ℕ) (at e i : ℕ) (d : List ℕ) (y : Option ℕ) (b : Below d 0 i y) where
+  spot-as : (y' : Option ℕ) → y ≡ y' → (Δ : Types) → Root d 0 0 (tree_of Δ) → Spot d i y' (find i (image Δ))
+  spot-as y' z Δ w = subst (λ (v : Option ℕ). Spot d i v (find i (image Δ))) z (b.tells 0 (tree_of Δ) w)
 
-  pub root-free : y ≡ Nothing → RootSame s at e i d true
+  pub root-free : y ≡ None → RootSame s at e i d true
   root-free z = record {
-    tells = λ t Δ v le w. sym (ap (one_type_at t) (found_none (find i Δ) (sym (find-map mark_value i Δ) ∙ spot-as Nothing z Δ w)));
+    tells = λ t Δ v le w. sym (ap (one_type_at t) (found_none (find i Δ) (sym (find-map mark_value i Δ) ∙ spot-as None z Δ w)));
   }
 
-  pub root-bound : (p : ℕ) → y ≡ At p → (q : ℕ) → Ended d p q → (x : Bool) → SameParts s at e d p q x → RootSame s at e i d x
+  pub root-bound : (p : ℕ) → y ≡ Some p → (q : ℕ) → Ended d p q → (x : Bool) → SameParts s at e d p q x → RootSame s at e i d x
   root-bound p z q en x h = record { tells = go }
     where
       go : (t : MessageType) (Δ : Types) → Root s at i (map_tree mark_value t) → e ≡ at + length (encode (node_of i (map_tree mark_value t) end)) → Root d 0 0 (tree_of Δ) →
           x ≡ one_type_at t (find i Δ)
       go t Δ v le w =
-          let st = spot-as (At p) z Δ w in
+          let st = spot-as (Some p) z Δ w in
           let fu = found-value (find i Δ) st.there (sym (find-map mark_value i Δ) ∙ st.is) in
           let u = fu.0 in
           let ru : Root d p i (map_tree mark_value u) = subst (Root d p i) fu.2 st.root in
@@ -215,8 +142,8 @@ module _ (s : List ℕ) (at n : ℕ) (d : List ℕ) where
       go end Δ w e v = refl
       go (node i a k r) Δ w e v = absurd (omega arith)
 
-  module _ (z : n ≡ 0 → ⊥) (h : Head) (p : h ≡ head_at s at) where
-    pub one-fault : h ≡ Fault → OneFrom s at n d false
+  module _ (z : n ≡ 0 → ⊥) (h : Option Head) (p : h ≡ head_at s at) where
+    pub one-fault : h ≡ None → OneFrom s at n d false
     unfolding root_count map_forest
     one-fault q = record { tells = go }
       where
@@ -224,24 +151,24 @@ module _ (s : List ℕ) (at n : ℕ) (d : List ℕ) where
         go end Δ w e v = absurd (z (sym e))
         go (node i (mark m b) k r) Δ w e v = unseen s at i 5 (flag m ∷ b ∷ []) (image k) (image r) w h p q
 
-    module _ (i b c m : ℕ) (q : h ≡ Node i b c m) (e : ℕ) (en : Ended s at e) (x : Bool) (rs : RootSame s at e i d x) where
+    module _ (top : Head) (q : h ≡ Some top) (e : ℕ) (en : Ended s at e) (x : Bool) (rs : RootSame s at e top.id d x) where
       first : (j : ℕ) (f : Bool) (g : ℕ) (k r Δ : Types) → Row s at (node j (value 5 (flag f ∷ g ∷ [])) (image k) (image r)) → Root d 0 0 (tree_of Δ) →
           x ≡ one_type_at (tree (mark f g) k) (find j Δ)
       first j f g k r Δ w v =
-          let o = seen s at j 5 (flag f ∷ g ∷ []) (image k) (image r) w h i b c m p q in
+          let o = seen s at j 5 (flag f ∷ g ∷ []) (image k) (image r) w h top.id top.basic top.count top.start p q in
           let rt = row-root s at j 5 (flag f ∷ g ∷ []) (image k) (image r) w in
           let ri = subst (λ (y : ℕ). Root s at y (map_tree mark_value (tree (mark f g) k))) (sym o.id) rt in
-          rs.tells (tree (mark f g) k) Δ ri (en.ends i (map_tree mark_value (tree (mark f g) k)) ri) v ∙ ap (λ (y : ℕ). one_type_at (tree (mark f g) k) (find y Δ)) o.id
+          rs.tells (tree (mark f g) k) Δ ri (en.ends top.id (map_tree mark_value (tree (mark f g) k)) ri) v ∙ ap (λ (y : ℕ). one_type_at (tree (mark f g) k) (find y Δ)) o.id
 
-      pub one-differs : not x ≡ true → OneFrom s at n d false
+      pub one-differs : x ≡ false → OneFrom s at n d false
       unfolding root_count map_forest one_type
       one-differs nx = record { tells = go }
         where
           go : (Γ Δ : Types) → Row s at (image Γ) → root_count (image Γ) ≡ n → Root d 0 0 (tree_of Δ) → false ≡ one_type Γ Δ
           go end Δ w ce v = absurd (z (sym ce))
-          go (node j (mark f g) k r) Δ w ce v = sym (ap (λ (y : Bool). y && one_type r Δ) (sym (first j f g k r Δ w v) ∙ not-true x nx))
+          go (node j (mark f g) k r) Δ w ce v = sym (ap (λ (y : Bool). y && one_type r Δ) (sym (first j f g k r Δ w v) ∙ nx))
 
-      pub one_on : not x ≡ false → (y : Bool) → OneFrom s e (n - 1) d y → OneFrom s at n d y
+      pub one_on : x ≡ true → (y : Bool) → OneFrom s e (n - 1) d y → OneFrom s at n d y
       unfolding root_count map_forest one_type
       one_on nx y ih = record { tells = go }
         where
@@ -251,20 +178,20 @@ module _ (s : List ℕ) (at n : ℕ) (d : List ℕ) where
               let rt = row-root s at j 5 (flag f ∷ g ∷ []) (image k) (image r) w in
               let le = en.ends j (map_tree mark_value (tree (mark f g) k)) rt in
               ih.tells r Δ (row_moved s e _ (image r) le (row-rest s at j 5 (flag f ∷ g ∷ []) (image k) (image r) w)) (omega arith) v
-              ∙ sym (ap (λ (b : Bool). b && one_type r Δ) (sym (first j f g k r Δ w v) ∙ not-false x nx))
+              ∙ sym (ap (λ (b : Bool). b && one_type r Δ) (sym (first j f g k r Δ w v) ∙ nx))
 
 pub ruleset one_laws = (one_none, one-fault, one-differs, one_on)
 
-module _ (e d : Environment) (h : Head) (p : h ≡ head_at e.bytes 0) where
-  pub typed-fault : h ≡ Fault → OneTyped e d false
+module _ (e d : Environment) (h : Option Head) (p : h ≡ head_at e.bytes 0) where
+  pub typed-fault : h ≡ None → OneTyped e d false
   typed-fault q = record { tells = λ Γ Δ v w. root-unseen e.bytes 0 0 (tree_of Γ) (stands-root e Γ v) h p q }
 
-  pub typed-on : (i b c m : ℕ) → h ≡ Node i b c m → (x : Bool) → OneFrom e.bytes m c d.bytes x → OneTyped e d x
-  typed-on i b c m q x o = record {
+  pub typed-on : (top : Head) → h ≡ Some top → (x : Bool) → OneFrom e.bytes top.start top.count d.bytes x → OneTyped e d x
+  typed-on top q x o = record {
     tells = λ Γ Δ v w.
         let r = stands-root e Γ v in
-        let u = root-seen e.bytes 0 0 void [] (image Γ) r h i b c m p q in
-        o.tells Γ Δ (row_moved e.bytes m _ (image Γ) u.next (root-kids e.bytes 0 0 void [] (image Γ) r)) (sym u.count) (stands-root d Δ w);
+        let u = root-seen e.bytes 0 0 void [] (image Γ) r h top.id top.basic top.count top.start p q in
+        o.tells Γ Δ (row_moved e.bytes top.start _ (image Γ) u.next (root-kids e.bytes 0 0 void [] (image Γ) r)) (sym u.count) (stands-root d Δ w);
   }
 
 pub ruleset typed-laws = (typed-fault, typed-on)

@@ -4,7 +4,7 @@ use mathlib.Core.List.{List, [], ◌∷◌, ◌++◌}
 use mathlib.Core.Bool.{Bool, true, false}
 use Prim.Native.Nat.{ℕ, zero, suc, ◌+◌, ◌-◌, ◌*◌, ◌/◌, ◌≤◌, ◌<◌}
 use native.Mathlib.Omega.{arith}
-use lib.ListN.{length, get_or, set, replicate, length-append}
+use lib.ListN.{length, set, replicate, length-append}
 use Rattle.basics.specs.TestLaws.{one_less}
 use Rattle.tree_forest.specs.Forest.{end, node, tree, measure, nodes, levels, map_forest}
 use Rattle.scalar.specs.Basic.{void}
@@ -19,26 +19,31 @@ use Rattle.tree.specs.declared.Head.{Head}
 use Rattle.check_types.specs.Image.{flag, image, type_head_at}
 use Rattle.check_types.specs.ImageLaws.{type-seen, type-unseen, length-image, mark-back}
 use Rattle.check_types.specs.declared.TypeHead.{TypeHead}
-use Rattle.check_types.specs.declared.TypeHead.TheVariants.{Node, Fault}
 use Rattle.check_environments.specs.declared.Environment.{Environment}
 use Rattle.check_environments.specs.declared.Entry.{Entry}
 use Rattle.check_environments.specs.Environment.{tree_of}
 use Rattle.check_environments.specs.EnvironmentLaws.{stands-root, length-preorder}
-use Rattle.check_environments.specs.Listing.{entry_at, no_entry, preorder, Lists, ListsFrom}
+use Rattle.check_environments.specs.Listing.{entry_at, preorder, node_in, Lists, ListsFrom}
+use Rattle.std.specs.Prelude.{Option, Some, None}
+use Rattle.tree.specs.Decode.{header}
+use Rattle.check_types.specs.Image.{type_header}
 
 -- ---- lists
 
-get_first : (l t : List Entry) (i : ℕ) → i < length l → get_or (l ++ t) i no_entry ≡ get_or l i no_entry
+get_first : (l t : List Entry) (i : ℕ) → i < length l → node_in (l ++ t) i ≡ node_in l i
+unfolding node_in
 get_first [] t i h = absurd (omega arith)
 get_first (x ∷ l) t zero h = refl
 get_first (x ∷ l) t (suc i) h = get_first l t i (omega arith)
 
-get-second : (l t : List Entry) (i j : ℕ) → i ≡ length l + j → get_or (l ++ t) i no_entry ≡ get_or t j no_entry
-get-second [] t i j h = let e : i ≡ j = omega arith in ap (λ (z : ℕ). get_or t z no_entry) e
+get-second : (l t : List Entry) (i j : ℕ) → i ≡ length l + j → node_in (l ++ t) i ≡ node_in t j
+unfolding node_in
+get-second [] t i j h = let e : i ≡ j = omega arith in ap (node_in t) e
 get-second (x ∷ l) t zero j h = absurd (omega arith)
 get-second (x ∷ l) t (suc i) j h = get-second l t i j (omega arith)
 
-get-later : (x : Entry) (l : List Entry) (i j : ℕ) → i ≡ suc j → get_or (x ∷ l) i no_entry ≡ get_or l j no_entry
+get-later : (x : Entry) (l : List Entry) (i j : ℕ) → i ≡ suc j → node_in (x ∷ l) i ≡ node_in l j
+unfolding node_in
 get-later x l i j e = rw e refl
 
 -- the next id of a path
@@ -58,28 +63,28 @@ path-next above ids d i e q l =
     ∙ ap (λ (z : ℕ). (above ++ (i ∷ [])) ++ replicate (6 - z) 0) (sym (length-next above i))
 
 entry-is : (path ids : List ℕ) (d : ℕ) (m n : Bool) (b c : ℕ) → ids ≡ path ++ replicate (6 - length path) 0 → d ≡ length path → mark m b ≡ mark n c →
-    record { there = true; ids = ids; depth = d; mandatory = m; basic = b } ≡ entry_at path n c
+    record { ids = ids; depth = d; mandatory = m; basic = b } ≡ entry_at path n c
 entry-is path ids d m n b c e q h = let x : m ≡ n = cc in let y : b ≡ c = cc in rw (e, q, x, y) refl
 
 -- ---- the ways out of entry_from
 
-module _ (s : List ℕ) (at n i : ℕ) (ids : List ℕ) (depth : ℕ) (x : Entry) where
-  pub list-none : n ≡ 0 → x ≡ no_entry → ListsFrom s at n i ids depth x
-  unfolding root_count map_forest preorder
+module _ (s : List ℕ) (at n i : ℕ) (ids : List ℕ) (depth : ℕ) (x : Option Entry) where
+  pub list-none : n ≡ 0 → x ≡ None → ListsFrom s at n i ids depth x
+  unfolding root_count map_forest preorder node_in
   list-none z q = record { tells = go }
     where
       go : (Γ : Types) (above : List ℕ) → Row s at (image Γ) → root_count (image Γ) ≡ n → ids ≡ above ++ replicate (6 - length above) 0 → depth ≡ length above → depth + levels Γ ≤ 6 →
-          x ≡ get_or (preorder above Γ) i no_entry
+          x ≡ node_in (preorder above Γ) i
       go end above w e p d l = q
       go (node j a k r) above w e p d l = absurd (omega arith)
 
-  module _ (z : n ≡ 0 → ⊥) (h : TypeHead) (hp : h ≡ type_head_at false s at) where
-    pub list-fault : h ≡ Fault → ListsFrom s at n i ids depth x
+  module _ (z : n ≡ 0 → ⊥) (h : Option TypeHead) (hp : h ≡ type_head_at false s at) where
+    pub list-fault : h ≡ None → ListsFrom s at n i ids depth x
     unfolding root_count map_forest
     list-fault q = record { tells = go }
       where
         go : (Γ : Types) (above : List ℕ) → Row s at (image Γ) → root_count (image Γ) ≡ n → ids ≡ above ++ replicate (6 - length above) 0 → depth ≡ length above → depth + levels Γ ≤ 6 →
-            x ≡ get_or (preorder above Γ) i no_entry
+            x ≡ node_in (preorder above Γ) i
         go end above w e p d l = absurd (z (sym e))
         go (node j (mark m b) k r) above w e p d l = type-unseen false s at j 5 (flag m ∷ b ∷ []) (image k) (image r) w h hp q
 
@@ -88,11 +93,11 @@ module _ (s : List ℕ) (at n i : ℕ) (ids : List ℕ) (depth : ℕ) (x : Entry
     list-deep o = record { tells = go }
       where
         go : (Γ : Types) (above : List ℕ) → Row s at (image Γ) → root_count (image Γ) ≡ n → ids ≡ above ++ replicate (6 - length above) 0 → depth ≡ length above → depth + levels Γ ≤ 6 →
-            x ≡ get_or (preorder above Γ) i no_entry
+            x ≡ node_in (preorder above Γ) i
         go end above w e p d l = absurd (z (sym e))
         go (node j a k r) above w e p d l = absurd (omega arith)
 
-    module _ (id : ℕ) (must : Bool) (b c mid : ℕ) (q : h ≡ Node id must b c mid) (o : depth ≤ 5) (e : ℕ) (en : Ended s at e) where
+    module _ (head : TypeHead) (q : h ≡ Some head) (o : depth ≤ 5) (e : ℕ) (en : Ended s at e) where
       ends_at : (j : ℕ) (m : Bool) (g : ℕ) (k r : Types) → Row s at (node j (value 5 (flag m ∷ g ∷ [])) (image k) (image r)) → e ≡ at + 7 * (1 + nodes k)
       unfolding encode
       ends_at j m g k r w =
@@ -104,48 +109,48 @@ module _ (s : List ℕ) (at n i : ℕ) (ids : List ℕ) (depth : ℕ) (x : Entry
       list_back l' = record { tells = go }
         where
           go : (Γ : Types) (above : List ℕ) → Row s at (image Γ) → root_count (image Γ) ≡ n → ids ≡ above ++ replicate (6 - length above) 0 → depth ≡ length above → depth + levels Γ ≤ 6 →
-              x ≡ get_or (preorder above Γ) i no_entry
+              x ≡ node_in (preorder above Γ) i
           go end above w ce p d l = absurd (z (sym ce))
           go (node j (mark m g) k r) above w ce p d l = absurd (omega (arith, ends_at j m g k r w))
 
-      head-is : (j : ℕ) (m : Bool) (g : ℕ) (k r : Types) → Row s at (node j (value 5 (flag m ∷ g ∷ [])) (image k) (image r)) → (id ≡ j) × (mark must b ≡ mark m g)
+      head-is : (j : ℕ) (m : Bool) (g : ℕ) (k r : Types) → Row s at (node j (value 5 (flag m ∷ g ∷ [])) (image k) (image r)) → (head.id ≡ j) × (mark head.mandatory head.basic ≡ mark m g)
       head-is j m g k r w =
-          let u = type-seen false s at j 5 (flag m ∷ g ∷ []) (image k) (image r) w h id must b c mid hp q in
+          let u = type-seen false s at j 5 (flag m ∷ g ∷ []) (image k) (image r) w h head.id head.mandatory head.basic head.count head.start hp q in
           (u.id, u.type ∙ mark-back (mark m g))
 
-      path-is : (above : List ℕ) (j : ℕ) → id ≡ j → ids ≡ above ++ replicate (6 - length above) 0 → depth ≡ length above →
-          set ids depth id ≡ (above ++ (j ∷ [])) ++ replicate (6 - length (above ++ (j ∷ []))) 0
+      path-is : (above : List ℕ) (j : ℕ) → head.id ≡ j → ids ≡ above ++ replicate (6 - length above) 0 → depth ≡ length above →
+          set ids depth head.id ≡ (above ++ (j ∷ [])) ++ replicate (6 - length (above ++ (j ∷ []))) 0
       path-is above j e1 p d = ap (set ids depth) e1 ∙ path-next above ids depth j p d (omega arith)
 
-      pub list-here : i ≡ 0 → x ≡ record { there = true; ids = set ids depth id; depth = depth + 1; mandatory = must; basic = b } → ListsFrom s at n i ids depth x
-      unfolding root_count map_forest preorder
+      pub list-here : i ≡ 0 → x ≡ Some (record { ids = set ids depth head.id; depth = depth + 1; mandatory = head.mandatory; basic = head.basic }) → ListsFrom s at n i ids depth x
+      unfolding root_count map_forest preorder node_in
       list-here i0 xe = record { tells = go }
         where
           go : (Γ : Types) (above : List ℕ) → Row s at (image Γ) → root_count (image Γ) ≡ n → ids ≡ above ++ replicate (6 - length above) 0 → depth ≡ length above → depth + levels Γ ≤ 6 →
-              x ≡ get_or (preorder above Γ) i no_entry
+              x ≡ node_in (preorder above Γ) i
           go end above w ce p d l = absurd (z (sym ce))
           go (node j (mark m g) k r) above w ce p d l =
               let hd = head-is j m g k r w in
               let dn : depth + 1 ≡ length (above ++ (j ∷ [])) = omega (arith, length-next above j) in
-              xe ∙ entry-is (above ++ (j ∷ [])) (set ids depth id) (depth + 1) must m b g (path-is above j hd.0 p d) dn hd.1
-              ∙ ap (λ (y : ℕ). get_or (preorder above (node j (mark m g) k r)) y no_entry) (sym i0)
+              xe ∙ ap (λ (y : Entry). Some y) (entry-is (above ++ (j ∷ [])) (set ids depth head.id) (depth + 1) head.mandatory m head.basic g (path-is above j hd.0 p d) dn hd.1)
+              ∙ ap (node_in (preorder above (node j (mark m g) k r))) (sym i0)
 
       module _ (i0 : i ≡ 0 → ⊥) (l0 : at ≤ e) where
-        pub list-below : i < (e - at) / 7 → ListsFrom s mid c (i - 1) (set ids depth id) (depth + 1) x → ListsFrom s at n i ids depth x
+        pub list-below : i < (e - at) / 7 → ListsFrom s head.start head.count (i - 1) (set ids depth head.id) (depth + 1) x → ListsFrom s at n i ids depth x
         unfolding root_count map_forest preorder measure
         list-below lt ih = record { tells = go }
           where
             go : (Γ : Types) (above : List ℕ) → Row s at (image Γ) → root_count (image Γ) ≡ n → ids ≡ above ++ replicate (6 - length above) 0 → depth ≡ length above → depth + levels Γ ≤ 6 →
-                x ≡ get_or (preorder above Γ) i no_entry
+                x ≡ node_in (preorder above Γ) i
             go end above w ce p d l = absurd (z (sym ce))
             go (node j (mark m g) k r) above w ce p d l =
                 let hd = head-is j m g k r w in
-                let u = type-seen false s at j 5 (flag m ∷ g ∷ []) (image k) (image r) w h id must b c mid hp q in
+                let u = type-seen false s at j 5 (flag m ∷ g ∷ []) (image k) (image r) w h head.id head.mandatory head.basic head.count head.start hp q in
                 let dn : depth + 1 ≡ length (above ++ (j ∷ [])) = omega (arith, length-next above j) in
                 let ea = ends_at j m g k r w in
                 let is = one_less i i0 in
                 let less : i - 1 < length (preorder (above ++ (j ∷ [])) k) = omega (arith, length-preorder k (above ++ (j ∷ []))) in
-                ih.tells k (above ++ (j ∷ [])) (row_moved s mid _ (image k) u.next (row-kids s at j 5 (flag m ∷ g ∷ []) (image k) (image r) w)) (sym u.kids)
+                ih.tells k (above ++ (j ∷ [])) (row_moved s head.start _ (image k) u.next (row-kids s at j 5 (flag m ∷ g ∷ []) (image k) (image r) w)) (sym u.kids)
                 (path-is above j hd.0 p d) dn (omega arith)
                 ∙ sym (get_first (preorder (above ++ (j ∷ [])) k) (preorder above r) (i - 1) less)
                 ∙ sym (get-later (entry_at (above ++ (j ∷ [])) m g) (preorder (above ++ (j ∷ [])) k ++ preorder above r) i (i - 1) is)
@@ -155,7 +160,7 @@ module _ (s : List ℕ) (at n i : ℕ) (ids : List ℕ) (depth : ℕ) (x : Entry
         list-past le ih = record { tells = go }
           where
             go : (Γ : Types) (above : List ℕ) → Row s at (image Γ) → root_count (image Γ) ≡ n → ids ≡ above ++ replicate (6 - length above) 0 → depth ≡ length above → depth + levels Γ ≤ 6 →
-                x ≡ get_or (preorder above Γ) i no_entry
+                x ≡ node_in (preorder above Γ) i
             go end above w ce p d l = absurd (z (sym ce))
             go (node j (mark m g) k r) above w ce p d l =
                 let ea = ends_at j m g k r w in
@@ -171,16 +176,16 @@ pub ruleset list-laws = (list-none, list-fault, list-deep, list_back, list-here,
 
 -- ---- from the root
 
-module _ (e : Environment) (i : ℕ) (x : Entry) (h : Head) (p : h ≡ head_at e.bytes 0) where
-  pub listed-fault : h ≡ Head.Fault → Lists e i x
+module _ (e : Environment) (i : ℕ) (x : Option Entry) (h : Option Head) (p : h ≡ head_at e.bytes 0) where
+  pub listed-fault : h ≡ None → Lists e i x
   listed-fault q = record { tells = λ Γ v. root-unseen e.bytes 0 0 (tree_of Γ) (stands-root e Γ v) h p q }
 
-  pub listed-on : (j b c m : ℕ) → h ≡ Head.Node j b c m → ListsFrom e.bytes m c i (replicate 6 0) 0 x → Lists e i x
-  listed-on j b c m q l = record {
+  pub listed-on : (top : Head) → h ≡ Some top → ListsFrom e.bytes top.start top.count i (replicate 6 0) 0 x → Lists e i x
+  listed-on top q l = record {
     tells = λ Γ v.
         let r = stands-root e Γ v in
-        let u = root-seen e.bytes 0 0 void [] (image Γ) r h j b c m p q in
-        l.tells Γ [] (row_moved e.bytes m _ (image Γ) u.next (root-kids e.bytes 0 0 void [] (image Γ) r)) (sym u.count) refl refl (omega (arith, v.shape.shallow));
+        let u = root-seen e.bytes 0 0 void [] (image Γ) r h top.id top.basic top.count top.start p q in
+        l.tells Γ [] (row_moved e.bytes top.start _ (image Γ) u.next (root-kids e.bytes 0 0 void [] (image Γ) r)) (sym u.count) refl refl (omega (arith, v.shape.shallow));
   }
 
 pub ruleset listed-laws = (listed-fault, listed-on)

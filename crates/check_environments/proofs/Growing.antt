@@ -12,7 +12,6 @@ use Rattle.tree_forest.specs.Forest.{Forest, end, node, Tree, tree, Lookup, abse
 use Rattle.tree_forest.specs.ForestLaws.{find-map, map-set}
 use Rattle.tree_forest.specs.Path.{Path, path, write_steps, replace_at}
 use Rattle.refusal.specs.declared.Refusal.TheVariants.{EnvironmentTooLarge}
-use Rattle.refusal.specs.declared.Verdict.TheVariants.{Done}
 use Rattle.scalar.specs.Basic.{last_basic}
 use Rattle.scalar.specs.Value.{Value}
 use Rattle.network_syntax.specs.Syntax.{Mark, mark, Types, MessageType}
@@ -40,12 +39,14 @@ use Rattle.check_types.specs.ImageLaws.{measure-map, length-image, image-sound, 
 use Rattle.check_types.specs.Tells.{TypeWritten}
 use Rattle.check_types.specs.TypeRowsLaws.{TypeKeeps, type-keeps}
 use Rattle.check_environments.specs.declared.Environment.{Environment}
-use Rattle.check_environments.specs.declared.Step.{Step}
-use Rattle.check_environments.specs.Environment.{tree_of, bytes_for, standing, Shape, step_of}
-use Rattle.check_environments.specs.EnvironmentLaws.{answers-as, answers-refuse, bytes-encode, bytes-length, stands-bytes, stands-len}
-use Rattle.check_environments.specs.Walk.{row_ids_of, Placeable, PutsType, Grows, GrowsRow, GrowsLeaf}
+use Rattle.check_environments.specs.Environment.{tree_of, bytes_for, standing, Shape}
+use Rattle.check_environments.specs.EnvironmentLaws.{answers-as, bytes-encode, bytes-length, stands-bytes, stands-len}
+use Rattle.network_rows.specs.Readers.{path_ids}
+use Rattle.check_environments.specs.Walk.{Placeable, PutsType, Grows, GrowsRow, GrowsLeaf}
 use Rattle.check_environments.proofs.Looking.{path-is}
-use Rattle.check_environments.proofs.Assigning.{pass-answers}
+use Rattle.check_environments.proofs.Assigning.{pass-answers, err-answers}
+use Rattle.std.specs.Prelude.{Result, Ok, Err}
+use Rattle.refusal.specs.declared.Refusal.{Refusal}
 
 -- ---- a change carried over by a map
 
@@ -177,7 +178,7 @@ environment-is e bs k Δ q p n = q ∙ rw (p, n) refl
 
 -- ---- the ways out of put-type
 
-module _ (g ids m : List ℕ) (row : ℕ) (s : Step) (o o' : List ℕ) (k : ℕ) (w : Wrote o o' 0 k k (replaced true (path_from_ids ids) (decode 6 48 m) (decode 6 48 g)))
+module _ (g ids m : List ℕ) (row : ℕ) (s : Result Environment Refusal) (o o' : List ℕ) (k : ℕ) (w : Wrote o o' 0 k k (replaced true (path_from_ids ids) (decode 6 48 m) (decode 6 48 g)))
     (x : Bool) (v : Within 6 48 o' x) where
   abbrev new : Types → MessageType → Types
   new Γ t = replace_at missing_step (path_from_ids ids) t Γ
@@ -209,11 +210,11 @@ module _ (g ids m : List ℕ) (row : ℕ) (s : Step) (o o' : List ℕ) (k : ℕ)
       (image-sound (new Γ t) (range-replace ids t Γ wo f (ranged-of t p) h.ranged))
       (rising-map mark_value (new Γ t) (replace-rising missing_step (path_from_ids ids) t Γ p.rising h.rising)))
 
-  pub put-type-large : not x ≡ true → s ≡ step_of (refused (EnvironmentTooLarge row)) → PutsType g ids m row s
+  pub put-type-large : not x ≡ true → s ≡ Err (EnvironmentTooLarge row) → PutsType g ids m row s
   put-type-large n z = record {
     tells = λ Γ t e h wo f q p.
         answers-as (sym (ap (λ (b : Bool). with_row row (demand b EnvironmentTooLarge (yields (new Γ t)))) (sym (told Γ t e h wo f q p) ∙ not-true x n)))
-        (answers-refuse (EnvironmentTooLarge row) z);
+        (err-answers s (EnvironmentTooLarge row) z);
   }
 
   long : (Γ : Types) (t : MessageType) → g ≡ bytes_for Γ → Shape Γ → m ≡ encode (rooted (map_tree mark_value t)) → Placeable t → k ≡ length (bytes_for (new Γ t))
@@ -229,7 +230,7 @@ module _ (g ids m : List ℕ) (row : ℕ) (s : Step) (o o' : List ℕ) (k : ℕ)
     }
 
     pub put-type-fits : (b' : List ℕ) (r : ℕ) → Wrote (replicate 512 0) b' 0 r k (take k (drop 0 o')) → (d : Environment) → d ≡ record { bytes = b'; len = k } →
-        s ≡ record { environment = d; verdict = Done } → PutsType g ids m row s
+        s ≡ Ok d → PutsType g ids m row s
     put-type-fits b' r wb d de se = record {
       tells = λ Γ t e h wo f q p.
           let u = long Γ t e h q p in
@@ -249,7 +250,7 @@ no-tree deep many s t x e q n =
     let k = not-true x n in
     let z : ◌≡◌ {A = ℕ} 0 1 = cc in omega arith
 
-module _ (e : Environment) (ids m : List ℕ) (row : ℕ) (s : Step) where
+module _ (e : Environment) (ids m : List ℕ) (row : ℕ) (s : Result Environment Refusal) where
   pub grow-long : 341 < e.len → Grows e ids m row s
   grow-long l = record { tells = λ Γ t h f q p. absurd (omega (arith, stands-len e Γ h)) }
 
@@ -271,8 +272,8 @@ pub ruleset grow-laws = (grow-long, grow-wide, grow-no-tree, grow-no-type, grow-
 
 -- ---- a T row, a basic type
 
-first-id : (file : List ℕ) (p : ℕ) → form.WellFormed file → p < path_count file → 0 < get_or (row_ids_of file p) 0 0
-unfolding row_ids_of
+first-id : (file : List ℕ) (p : ℕ) → form.WellFormed file → p < path_count file → 0 < get_or (path_ids file p) 0 0
+unfolding path_ids
 first-id file p wf le = positive (u16_at file (path_at file p)) (path-kept file wf p le).first
   where
     positive : (n : ℕ) → (n ≡ 0 → ⊥) → 0 < n
@@ -285,7 +286,7 @@ mandatory-tree (tree (mark m b) k) = refl
 mandatory-placeable : (t : MessageType) → TypeKeeps t → Placeable (as_mandatory t)
 mandatory-placeable (tree (mark m b) k) h = record { basic = h.basic; rising = h.rising; ranged = h.ranged; shallow = omega (arith, h.shallow); few = omega (arith, h.few) }
 
-pub row-grown : (file : List ℕ) (e : Environment) (p r row : ℕ) (s : Step) (ids o o' : List ℕ) (n : ℕ) → Octets file → ids ≡ row_ids_of file p → TypeWritten file r o o' n →
+pub row-grown : (file : List ℕ) (e : Environment) (p r row : ℕ) (s : Result Environment Refusal) (ids o o' : List ℕ) (n : ℕ) → Octets file → ids ≡ path_ids file p → TypeWritten file r o o' n →
     Grows e ids (take n o') row s → GrowsRow file e p r row s
 row-grown file e p r row s ids o o' n oct d w h = record {
   tells = λ Γ st wf lp lr.
@@ -303,7 +304,7 @@ leaf-placeable : (b : ℕ) → b ≤ last_basic → Placeable (basic_leaf b)
 unfolding Rising InRange measure
 leaf-placeable b h = record { basic = h; rising = tt; ranged = tt; shallow = omega arith; few = omega arith }
 
-pub leaf-grown : (file : List ℕ) (e : Environment) (p b row : ℕ) (s : Step) (ids o o' : List ℕ) (n : ℕ) → ids ≡ row_ids_of file p →
+pub leaf-grown : (file : List ℕ) (e : Environment) (p b row : ℕ) (s : Result Environment Refusal) (ids o o' : List ℕ) (n : ℕ) → ids ≡ path_ids file p →
     Wrote o o' 0 n 7 (0 % 256 ∷ 0 / 256 ∷ 5 ∷ 0 ∷ 2 ∷ flag true ∷ b ∷ []) → Grows e ids (take n o') row s → GrowsLeaf file e p b row s
 leaf-grown file e p b row s ids o o' n d w h = record {
   tells = λ Γ st wf lp lb.

@@ -10,7 +10,6 @@ use Rattle.tree_forest.specs.Forest.{Forest, end, node, tree, absent, present, f
 use Rattle.tree_forest.specs.ForestLaws.{find-eq, find-lt, find-gt}
 use Rattle.tree_forest.specs.Path.{Path, path, read}
 use Rattle.refusal.specs.declared.Refusal.{Refusal}
-use Rattle.refusal.specs.declared.Verdict.TheVariants.{Refused}
 use Rattle.scalar.specs.Basic.{void}
 use Rattle.scalar.specs.Value.{Value, value}
 use Rattle.network_syntax.specs.Syntax.{Mark, mark, Types}
@@ -30,38 +29,32 @@ use Rattle.tree_edit.specs.ForestWrite.{read_none, read-gap, read-on, read-hit, 
 use Rattle.check_types.specs.Image.{image, types_as, type_head_at}
 use Rattle.check_types.specs.ImageLaws as types
 use Rattle.check_types.specs.declared.TypeHead.{TypeHead}
-use Rattle.check_types.specs.declared.TypeHead.TheVariants.{Node, Fault}
 use Rattle.network_row_parts.specs.PathLaws as paths
 use Rattle.network_rows.specs.Readers.{path_ids}
 use Rattle.check_environments.specs.declared.Environment.{Environment}
 use Rattle.check_environments.specs.declared.Reach.{Reach}
 use Rattle.check_environments.specs.declared.Reach.TheVariants.{Here, Gap, Loose}
-use Rattle.check_environments.specs.Environment.{tree_of, bytes_for, standing, step_of}
-use Rattle.check_environments.specs.Walk.{row_ids_of, SeenAt, Sees, Looked, WalkReached}
+use Rattle.check_environments.specs.Environment.{tree_of, bytes_for, standing}
+use Rattle.check_environments.specs.Walk.{SeenAt, Sees, Looked, WalkReached}
+use Rattle.std.specs.Prelude.{Option, Some, None}
+use Rattle.std.specs.Prelude.{Result, Ok, Err}
+use Rattle.tree.specs.Decode.{header}
+use Rattle.check_types.specs.Image.{type_header}
 
--- ---- the empty environment, a refusal
+-- ---- the empty environment
 
 pub empty-is : record { bytes = set (replicate 512 0) 2 6; len = 5 } ≡ standing end
 unfolding standing bytes_for encode root_count map_forest
 empty-is = refl
 
-pub refuse-is : (e : Environment) (why : Refusal) → e ≡ standing end → record { environment = e; verdict = Refused why } ≡ step_of (refused why)
-unfolding step_of
-refuse-is e why h = ap (λ (z : Environment). record { environment = z; verdict = Refused why }) h
-
 -- ---- the path of a P row
 
-pub ids-are : (file : List ℕ) (p at a b c d : ℕ) → at ≡ path_at file p → a ≡ u16_at file at → b ≡ u16_at file (at + 2) → c ≡ u16_at file (at + 4) → d ≡ u16_at file (at + 6) →
-    a ∷ b ∷ c ∷ d ∷ [] ≡ row_ids_of file p
-unfolding row_ids_of
-ids-are file p at a b c d e p1 p2 p3 p4 = rw (p1, p2, p3, p4, e) refl
-
-pub path-is : (file : List ℕ) (p : ℕ) → path_from_ids (row_ids_of file p) ≡ network.path_of file p
-unfolding row_ids_of path_ids
+pub path-is : (file : List ℕ) (p : ℕ) → path_from_ids (path_ids file p) ≡ network.path_of file p
+unfolding path_ids
 path-is file p = paths.path-is file p
 
-pub ids-four : (file : List ℕ) (p : ℕ) → length (row_ids_of file p) ≡ 4
-unfolding row_ids_of
+pub ids-four : (file : List ℕ) (p : ℕ) → length (path_ids file p) ≡ 4
+unfolding path_ids
 ids-four file p = refl
 
 -- ---- edges above a path's end, at the first node
@@ -132,8 +125,8 @@ module _ (s : List ℕ) (i : ℕ) (is : List ℕ) (at n : ℕ) where
       go end w e = sees-end s i is
       go (node x a ks rest) w e = absurd (omega arith)
 
-  module _ (z : n ≡ 0 → ⊥) (h : TypeHead) (p : h ≡ type_head_at false s at) where
-    pub look-fault : h ≡ Fault → Looked s i is at n Loose
+  module _ (z : n ≡ 0 → ⊥) (h : Option TypeHead) (p : h ≡ type_head_at false s at) where
+    pub look-fault : h ≡ None → Looked s i is at n Loose
     unfolding root_count
     look-fault q = record { looks = go }
       where
@@ -141,110 +134,110 @@ module _ (s : List ℕ) (i : ℕ) (is : List ℕ) (at n : ℕ) where
         go end w e = absurd (z (sym e))
         go (node x (value d v) ks rest) w e = types.type-unseen false s at x d v ks rest w h p q
 
-    module _ (j : ℕ) (must : Bool) (b c m : ℕ) (q : h ≡ Node j must b c m) where
-      pub look-gap : i < j → Looked s i is at n Gap
+    module _ (head : TypeHead) (q : h ≡ Some head) where
+      pub look-gap : i < head.id → Looked s i is at n Gap
       unfolding root_count
       look-gap l = record { looks = go }
         where
           go : (v : Forest Value) → Row s at v → root_count v ≡ n → Sees s Gap (path i is) (types_as false v)
           go end w e = absurd (z (sym e))
           go (node x (value d v) ks rest) w e =
-              let u = types.type-seen false s at x d v ks rest w h j must b c m p q in
-              sees s Gap (path i is) u.whole (sees-gap s i is j (mark must b) (types_as false ks) (types_as false rest) l)
+              let u = types.type-seen false s at x d v ks rest w h head.id head.mandatory head.basic head.count head.start p q in
+              sees s Gap (path i is) u.whole (sees-gap s i is head.id (mark head.mandatory head.basic) (types_as false ks) (types_as false rest) l)
 
-      pub look-on : j < i → (e : ℕ) (r : Reach) → Ended s at e → Looked s i is e (n - 1) r → Looked s i is at n r
+      pub look-on : head.id < i → (e : ℕ) (r : Reach) → Ended s at e → Looked s i is e (n - 1) r → Looked s i is at n r
       unfolding root_count
       look-on l e r en ih = record { looks = go }
         where
           go : (v : Forest Value) → Row s at v → root_count v ≡ n → Sees s r (path i is) (types_as false v)
           go end w k = absurd (z (sym k))
           go (node x (value d v) ks rest) w k =
-              let u = types.type-seen false s at x d v ks rest w h j must b c m p q in
+              let u = types.type-seen false s at x d v ks rest w h head.id head.mandatory head.basic head.count head.start p q in
               let le = en.ends x (tree (value d v) ks) (row-root s at x d v ks rest w) in
-              sees s r (path i is) u.whole (sees-on s r i is j (mark must b) (types_as false ks) (types_as false rest) l
+              sees s r (path i is) u.whole (sees-on s r i is head.id (mark head.mandatory head.basic) (types_as false ks) (types_as false rest) l
               (ih.looks rest (row_moved s e _ rest le (row-rest s at x d v ks rest w)) (omega arith)))
 
-      pub look_hit : j ≤ i → i ≤ j → (t : Bool) → t ≡ is_none is → t ≡ true → Looked s i is at n (Here at)
+      pub look_hit : head.id ≤ i → i ≤ head.id → (t : Bool) → t ≡ is_none is → t ≡ true → Looked s i is at n (Here at)
       unfolding root_count
       look_hit l g t y o = record { looks = go }
         where
           here : (x d : ℕ) (v : List ℕ) (ks rest : Forest Value) → Row s at (node x (value d v) ks rest) → (is' : List ℕ) → is' ≡ [] →
-              SeenAt s at (path i is') (node j (mark must b) (types_as false ks) (types_as false rest))
+              SeenAt s at (path i is') (node head.id (mark head.mandatory head.basic) (types_as false ks) (types_as false rest))
           here x d v ks rest w is' ei =
-              let u = types.type-seen false s at x d v ks rest w h j must b c m p q in
-              let ij : j ≡ i = omega arith in
+              let u = types.type-seen false s at x d v ks rest w h head.id head.mandatory head.basic head.count head.start p q in
+              let ij : head.id ≡ i = omega arith in
               record {
                 id = x;
                 held = tree (value d v) ks;
                 root = row-root s at x d v ks rest w;
-                there = ap (λ (k : List ℕ). read (path i k) (node j (mark must b) (types_as false ks) (types_as false rest))) ei
-                    ∙ ap (λ (k : ℕ). read (path i []) (node k (mark must b) (types_as false ks) (types_as false rest))) ij
-                    ∙ read-hit i (mark must b) (types_as false ks) (types_as false rest)
+                there = ap (λ (k : List ℕ). read (path i k) (node head.id (mark head.mandatory head.basic) (types_as false ks) (types_as false rest))) ei
+                    ∙ ap (λ (k : ℕ). read (path i []) (node k (mark head.mandatory head.basic) (types_as false ks) (types_as false rest))) ij
+                    ∙ read-hit i (mark head.mandatory head.basic) (types_as false ks) (types_as false rest)
                     ∙ ap (λ (a : Mark). present (tree a (types_as false ks))) u.type;
-                firm = ap (λ (k : List ℕ). firm_above (path i k) (node j (mark must b) (types_as false ks) (types_as false rest))) ei
-                    ∙ firm-hit i (node j (mark must b) (types_as false ks) (types_as false rest));
+                firm = ap (λ (k : List ℕ). firm_above (path i k) (node head.id (mark head.mandatory head.basic) (types_as false ks) (types_as false rest))) ei
+                    ∙ firm-hit i (node head.id (mark head.mandatory head.basic) (types_as false ks) (types_as false rest));
               }
 
           go : (v : Forest Value) → Row s at v → root_count v ≡ n → Sees s (Here at) (path i is) (types_as false v)
           go end w k = absurd (z (sym k))
           go (node x (value d v) ks rest) w k =
-              let u = types.type-seen false s at x d v ks rest w h j must b c m p q in
+              let u = types.type-seen false s at x d v ks rest w h head.id head.mandatory head.basic head.count head.start p q in
               sees s (Here at) (path i is) u.whole (here x d v ks rest w is (none_is is (sym y ∙ o)))
 
-      deeper : j ≤ i → i ≤ j → (x : ℕ) (xs : List ℕ) → is ≡ x ∷ xs → (r : Reach) → ((ks rest : Forest Value) → Sees s r (path i (x ∷ xs)) (node i (mark must b) (types_as false ks) (types_as false rest))
-          → Sees s r (path i is) (node j (mark must b) (types_as false ks) (types_as false rest)))
+      deeper : head.id ≤ i → i ≤ head.id → (x : ℕ) (xs : List ℕ) → is ≡ x ∷ xs → (r : Reach) → ((ks rest : Forest Value) → Sees s r (path i (x ∷ xs)) (node i (mark head.mandatory head.basic) (types_as false ks) (types_as false rest))
+          → Sees s r (path i is) (node head.id (mark head.mandatory head.basic) (types_as false ks) (types_as false rest)))
       deeper l g x xs e r ks rest k =
-          let ij : j ≡ i = omega arith in
-          subst (λ (y : List ℕ). Sees s r (path i y) (node j (mark must b) (types_as false ks) (types_as false rest))) (sym e)
-          (subst (λ (y : ℕ). Sees s r (path i (x ∷ xs)) (node y (mark must b) (types_as false ks) (types_as false rest))) (sym ij) k)
+          let ij : head.id ≡ i = omega arith in
+          subst (λ (y : List ℕ). Sees s r (path i y) (node head.id (mark head.mandatory head.basic) (types_as false ks) (types_as false rest))) (sym e)
+          (subst (λ (y : ℕ). Sees s r (path i (x ∷ xs)) (node y (mark head.mandatory head.basic) (types_as false ks) (types_as false rest))) (sym ij) k)
 
-      stuck : j ≤ i → i ≤ j → (x : ℕ) (xs : List ℕ) → is ≡ x ∷ xs → must ≡ false → Looked s i is at n Loose
+      stuck : head.id ≤ i → i ≤ head.id → (x : ℕ) (xs : List ℕ) → is ≡ x ∷ xs → head.mandatory ≡ false → Looked s i is at n Loose
       unfolding root_count
       stuck l g x xs e o = record { looks = go }
         where
           go : (v : Forest Value) → Row s at v → root_count v ≡ n → Sees s Loose (path i is) (types_as false v)
           go end w k = absurd (z (sym k))
           go (node y (value d v) ks rest) w k =
-              let u = types.type-seen false s at y d v ks rest w h j must b c m p q in
-              sees s Loose (path i is) u.whole (deeper l g x xs e Loose ks rest (loose-by i x xs must b (types_as false ks) (types_as false rest) o))
+              let u = types.type-seen false s at y d v ks rest w h head.id head.mandatory head.basic head.count head.start p q in
+              sees s Loose (path i is) u.whole (deeper l g x xs e Loose ks rest (loose-by i x xs head.mandatory head.basic (types_as false ks) (types_as false rest) o))
 
-      down_to : j ≤ i → i ≤ j → (x : ℕ) (xs : List ℕ) → is ≡ x ∷ xs → must ≡ true → (r : Reach) → Looked s x xs m c r → Looked s i is at n r
+      down_to : head.id ≤ i → i ≤ head.id → (x : ℕ) (xs : List ℕ) → is ≡ x ∷ xs → head.mandatory ≡ true → (r : Reach) → Looked s x xs head.start head.count r → Looked s i is at n r
       unfolding root_count
       down_to l g x xs e o r ih = record { looks = go }
         where
           go : (v : Forest Value) → Row s at v → root_count v ≡ n → Sees s r (path i is) (types_as false v)
           go end w k = absurd (z (sym k))
           go (node y (value d v) ks rest) w k =
-              let u = types.type-seen false s at y d v ks rest w h j must b c m p q in
-              sees s r (path i is) u.whole (deeper l g x xs e r ks rest (sees-deep s r i x xs must b (types_as false ks) (types_as false rest) o
-              (ih.looks ks (row_moved s m _ ks u.next (row-kids s at y d v ks rest w)) (sym u.kids))))
+              let u = types.type-seen false s at y d v ks rest w h head.id head.mandatory head.basic head.count head.start p q in
+              sees s r (path i is) u.whole (deeper l g x xs e r ks rest (sees-deep s r i x xs head.mandatory head.basic (types_as false ks) (types_as false rest) o
+              (ih.looks ks (row_moved s head.start _ ks u.next (row-kids s at y d v ks rest w)) (sym u.kids))))
 
 pub ruleset look-laws = (look_none, look-fault, look-gap, look-on, look_hit)
 
-module _ (s ids : List ℕ) (four : length ids ≡ 4) (k at n : ℕ) (h : TypeHead) (z : n ≡ 0 → ⊥) (p : h ≡ type_head_at false s at) (j : ℕ) (must : Bool) (b c m : ℕ)
-    (q : h ≡ Node j must b c m) (l : j ≤ get_or ids k 0) (g : get_or ids k 0 ≤ j) (t : Bool) (y : t ≡ is_none (steps (drop (k + 1) ids))) (o : t ≡ false) where
-  pub look-loose : must ≡ false → Looked s (get_or ids k 0) (steps (drop (k + 1) ids)) at n Loose
-  look-loose u = stuck s _ _ at n z h p j must b c m q l g _ _ (steps_next ids k four (sym y ∙ o)).1 u
+module _ (s ids : List ℕ) (four : length ids ≡ 4) (k at n : ℕ) (h : Option TypeHead) (z : n ≡ 0 → ⊥) (p : h ≡ type_head_at false s at) (head : TypeHead)
+    (q : h ≡ Some head) (l : head.id ≤ get_or ids k 0) (g : get_or ids k 0 ≤ head.id) (t : Bool) (y : t ≡ is_none (steps (drop (k + 1) ids))) (o : t ≡ false) where
+  pub look-loose : head.mandatory ≡ false → Looked s (get_or ids k 0) (steps (drop (k + 1) ids)) at n Loose
+  look-loose u = stuck s _ _ at n z h p head q l g _ _ (steps_next ids k four (sym y ∙ o)).1 u
 
-  pub look-deep : must ≡ true → (r : Reach) → Looked s (get_or ids (k + 1) 0) (steps (drop (k + 1 + 1) ids)) m c r → Looked s (get_or ids k 0) (steps (drop (k + 1) ids)) at n r
-  look-deep u r ih = down_to s _ _ at n z h p j must b c m q l g _ _ (steps_next ids k four (sym y ∙ o)).1 u r ih
+  pub look-deep : head.mandatory ≡ true → (r : Reach) → Looked s (get_or ids (k + 1) 0) (steps (drop (k + 1 + 1) ids)) head.start head.count r → Looked s (get_or ids k 0) (steps (drop (k + 1) ids)) at n r
+  look-deep u r ih = down_to s _ _ at n z h p head q l g _ _ (steps_next ids k four (sym y ∙ o)).1 u r ih
 
 -- ---- the path of a P row in an environment
 
-module _ (file s : List ℕ) (p : ℕ) (ids : List ℕ) (d : ids ≡ row_ids_of file p) (h : Head) (q : h ≡ head_at s 0) where
-  pub reach-fault : h ≡ Head.Fault → WalkReached file s p Loose
+module _ (file s : List ℕ) (p : ℕ) (h : Option Head) (q : h ≡ head_at s 0) where
+  pub reach-fault : h ≡ None → WalkReached file s p Loose
   reach-fault e = record { tells = λ Γ w. root-unseen s 0 0 (tree_of Γ) w h q e }
 
-  pub reach-on : (i b c m : ℕ) → h ≡ Head.Node i b c m → (r : Reach) → Looked s (get_or ids 0 0) (steps (drop 1 ids)) m c r → WalkReached file s p r
-  reach-on i b c m e r l = record { tells = go }
+  pub reach-on : (ids : List ℕ) → ids ≡ path_ids file p → (top : Head) → h ≡ Some top → (r : Reach) → Looked s (get_or ids 0 0) (steps (drop 1 ids)) top.start top.count r → WalkReached file s p r
+  reach-on ids d top e r l = record { tells = go }
     where
       four : length ids ≡ 4
       four = ap length d ∙ ids-four file p
 
       go : (Γ : Types) → Root s 0 0 (tree_of Γ) → Sees s r (network.path_of file p) Γ
       go Γ w =
-          let u = root-seen s 0 0 void [] (image Γ) w h i b c m q e in
-          let v = l.looks (image Γ) (row_moved s m _ (image Γ) u.next (root-kids s 0 0 void [] (image Γ) w)) (sym u.count) in
+          let u = root-seen s 0 0 void [] (image Γ) w h top.id top.basic top.count top.start q e in
+          let v = l.looks (image Γ) (row_moved s top.start _ (image Γ) u.next (root-kids s 0 0 void [] (image Γ) w)) (sym u.count) in
           let v1 = subst (Sees s r (path (get_or ids 0 0) (steps (drop 1 ids)))) (types.image-back Γ) v in
           subst (λ (x : Path). Sees s r x Γ) (sym (path-at ids four) ∙ ap path_from_ids d ∙ path-is file p) v1
 

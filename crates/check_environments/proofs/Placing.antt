@@ -6,7 +6,6 @@ use Prim.Native.Nat.{ℕ, ◌<◌}
 use Rattle.tree_forest.specs.Forest.{Lookup, absent, present}
 use Rattle.tree_forest.specs.Path.{Path, path, read}
 use Rattle.refusal.specs.declared.Refusal.TheVariants.{PathNotFirm, TypeMisfit}
-use Rattle.refusal.specs.declared.Verdict.TheVariants.{Done}
 use Rattle.network_syntax.specs.Syntax.{Mark, Types, MessageType}
 use Rattle.check_typing.specs.Result.{Attempt, yields, demand, Checked, refused, with_row}
 use Rattle.check_typing.specs.Environment.{firm_above, place_at, place, assign_at, assign_to}
@@ -17,14 +16,15 @@ use Rattle.network.specs.Decode as network
 use Rattle.check_types.specs.Image.{type_as}
 use Rattle.check_types.specs.Tells.{RowUnder}
 use Rattle.check_environments.specs.declared.Environment.{Environment}
-use Rattle.check_environments.specs.declared.Step.{Step}
 use Rattle.check_environments.specs.declared.Reach.{Reach}
 use Rattle.check_environments.specs.declared.Reach.TheVariants.{Here, Gap, Loose}
-use Rattle.check_environments.specs.Environment.{EnvironmentFor, step_of}
-use Rattle.check_environments.specs.EnvironmentLaws.{answers-as, answers-refuse, stands-root}
+use Rattle.check_environments.specs.Environment.{EnvironmentFor}
+use Rattle.check_environments.specs.EnvironmentLaws.{answers-as, stands-root}
 use Rattle.check_environments.specs.Walk.{Sees, WalkReached, AssignsAt, GrowsRow, GrowsLeaf}
 use Rattle.check_environments.specs.Tells.{Places, Assigns}
-use Rattle.check_environments.proofs.Assigning.{pass-answers}
+use Rattle.check_environments.proofs.Assigning.{pass-answers, err-answers}
+use Rattle.std.specs.Prelude.{Result, Ok, Err}
+use Rattle.refusal.specs.declared.Refusal.{Refusal}
 
 -- what follows a path that stands firm above its end, and one that does not
 place-by : (x : Path) (t : MessageType) (Γ : Types) (l : Lookup Mark) → firm_above x Γ ≡ true → read x Γ ≡ l → place x t Γ ≡ place_at x t Γ l
@@ -46,11 +46,11 @@ module _ (file : List ℕ) (e : Environment) (p : ℕ) (y : Reach) (l : WalkReac
   seen_as : (y' : Reach) → y ≡ y' → (Γ : Types) → EnvironmentFor e Γ → Sees e.bytes y' (network.path_of file p) Γ
   seen_as y' z Γ h = subst (λ (w : Reach). Sees e.bytes w (network.path_of file p) Γ) z (l.tells Γ (stands-root e Γ h))
 
-  module _ (r row : ℕ) (s : Step) where
-    pub place-loose : y ≡ Loose → s ≡ step_of (refused (PathNotFirm row)) → Places file e p r row s
+  module _ (r row : ℕ) (s : Result Environment Refusal) where
+    pub place-loose : y ≡ Loose → s ≡ Err (PathNotFirm row) → Places file e p r row s
     place-loose z q = record {
       tells = λ Γ h wf lp lr.
-          answers-as (sym (place-not (network.path_of file p) (network.type_of file r) Γ row (seen_as Loose z Γ h))) (answers-refuse (PathNotFirm row) q);
+          answers-as (sym (place-not (network.path_of file p) (network.type_of file r) Γ row (seen_as Loose z Γ h))) (err-answers s (PathNotFirm row) q);
     }
 
     pub place-gap : y ≡ Gap → GrowsRow file e p r row s → Places file e p r row s
@@ -68,22 +68,22 @@ module _ (file : List ℕ) (e : Environment) (p : ℕ) (y : Reach) (l : WalkReac
           ap (limited_at row) (place-by (network.path_of file p) (network.type_of file r) Γ (present (type_as false v.held)) v.firm v.there
           ∙ ap (λ (t : Bool). demand t TypeMisfit (yields Γ)) (sym (u.tells v.id v.held wf lr v.root)))
 
-      pub place-stays : x ≡ true → s ≡ record { environment = e; verdict = Done } → Places file e p r row s
+      pub place-stays : x ≡ true → s ≡ Ok e → Places file e p r row s
       place-stays o q = record {
         tells = λ Γ h wf lp lr.
             answers-as (sym (placed Γ h wf lr ∙ ap (λ (t : Bool). limited_at row (demand t TypeMisfit (yields Γ))) o)) (pass-answers s e Γ row q h);
       }
 
-      pub place-clash : x ≡ false → s ≡ step_of (refused (TypeMisfit row)) → Places file e p r row s
+      pub place-clash : x ≡ false → s ≡ Err (TypeMisfit row) → Places file e p r row s
       place-clash o q = record {
         tells = λ Γ h wf lp lr.
-            answers-as (sym (placed Γ h wf lr ∙ ap (λ (t : Bool). limited_at row (demand t TypeMisfit (yields Γ))) o)) (answers-refuse (TypeMisfit row) q);
+            answers-as (sym (placed Γ h wf lr ∙ ap (λ (t : Bool). limited_at row (demand t TypeMisfit (yields Γ))) o)) (err-answers s (TypeMisfit row) q);
       }
 
-  module _ (b row : ℕ) (s : Step) where
-    pub assign-loose : y ≡ Loose → s ≡ step_of (refused (PathNotFirm row)) → Assigns file e p b row s
+  module _ (b row : ℕ) (s : Result Environment Refusal) where
+    pub assign-loose : y ≡ Loose → s ≡ Err (PathNotFirm row) → Assigns file e p b row s
     assign-loose z q = record {
-      tells = λ Γ h wf lp lb. answers-as (sym (assign-not (network.path_of file p) b Γ row (seen_as Loose z Γ h))) (answers-refuse (PathNotFirm row) q);
+      tells = λ Γ h wf lp lb. answers-as (sym (assign-not (network.path_of file p) b Γ row (seen_as Loose z Γ h))) (err-answers s (PathNotFirm row) q);
     }
 
     pub assign-gap : y ≡ Gap → GrowsLeaf file e p b row s → Assigns file e p b row s

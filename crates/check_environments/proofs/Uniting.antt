@@ -11,7 +11,6 @@ use Rattle.tree_forest.specs.Forest.{end, node, Tree, tree, node_of, find, set, 
 use Rattle.tree_forest.specs.Path.{write_steps, replace_at}
 use Rattle.refusal.specs.declared.Refusal.{Refusal}
 use Rattle.refusal.specs.declared.Refusal.TheVariants.{EnvironmentTooLarge}
-use Rattle.refusal.specs.declared.Verdict.TheVariants.{Done, Refused}
 use Rattle.scalar.specs.Basic.{void}
 use Rattle.scalar.specs.Value.{Value, value}
 use Rattle.network_syntax.specs.Syntax.{Mark, mark, Types, MessageType}
@@ -28,19 +27,20 @@ use Rattle.tree.specs.Ids.{steps, path_from_ids}
 use Rattle.tree.specs.Standing.{Row, Root, Ended}
 use Rattle.tree.specs.StandingLaws.{row-root, row-rest, root-kids, root-inside, root-part, seen, unseen, root-seen, root-unseen, row_moved}
 use Rattle.tree.specs.declared.Head.{Head}
-use Rattle.tree.specs.declared.Head.TheVariants.{Node, Fault}
 use Rattle.tree_edit.specs.Wrote.{Wrote}
 use Rattle.tree_edit.specs.WroteLaws.{wrote-more}
 use Rattle.check_types.specs.Image.{flag, mark_value, image, InRange}
 use Rattle.check_types.specs.ImageLaws.{length-image}
 use Rattle.check_environments.specs.declared.Environment.{Environment}
-use Rattle.check_environments.specs.declared.Step.{Step}
 use Rattle.check_environments.specs.Environment.{tree_of, Shape, EnvironmentFor, StepAnswers}
 use Rattle.check_environments.specs.EnvironmentLaws.{answers-as, answers-done, answers-refused, stands-root}
 use Rattle.check_environments.specs.UnionLaws.{one-parts, root-within}
 use Rattle.check_environments.specs.Walk.{Placeable, Grows, PutsRoot, UnitesFrom}
 use Rattle.check_environments.specs.Tells.{Unites}
 use Rattle.check_environments.proofs.Assigning.{pass-answers}
+use Rattle.std.specs.Prelude.{Option, Some, None}
+use Rattle.std.specs.Prelude.{Result, Ok, Err}
+use Rattle.tree.specs.Decode.{header}
 
 -- ---- a root put in
 
@@ -56,7 +56,7 @@ root-path : (i : ℕ) (t : MessageType) (Δ : Types) → replace_at missing_step
 unfolding path_from_ids steps write_steps
 root-path i t Δ = refl
 
-module _ (b : List ℕ) (at e i : ℕ) (f : Environment) (row : ℕ) (s : Step) where
+module _ (b : List ℕ) (at e i : ℕ) (f : Environment) (row : ℕ) (s : Result Environment Refusal) where
   pub put-past : length b < e → PutsRoot b at e i f row s
   put-past l = record { tells = λ Δ t st w q p pl. absurd (omega (arith, root-inside b at i (map_tree mark_value t) w)) }
 
@@ -135,8 +135,8 @@ roots-of i (mark m b) k r h =
 
 -- ---- the ways out of unite_from
 
-module _ (b : List ℕ) (at n : ℕ) (d : Environment) (row : ℕ) (s : Step) where
-  pub unite-none : n ≡ 0 → s ≡ record { environment = d; verdict = Done } → UnitesFrom b at n d row s
+module _ (b : List ℕ) (at n : ℕ) (d : Environment) (row : ℕ) (s : Result Environment Refusal) where
+  pub unite-none : n ≡ 0 → s ≡ Ok d → UnitesFrom b at n d row s
   unfolding root_count map_forest union
   unite-none z q = record { tells = go }
     where
@@ -144,8 +144,8 @@ module _ (b : List ℕ) (at n : ℕ) (d : Environment) (row : ℕ) (s : Step) wh
       go end Δ w e h st o = pass-answers s d Δ row q st
       go (node i a k r) Δ w e h st o = absurd (omega arith)
 
-  module _ (z : n ≡ 0 → ⊥) (h : Head) (p : h ≡ head_at b at) where
-    pub unite-fault : h ≡ Fault → UnitesFrom b at n d row s
+  module _ (z : n ≡ 0 → ⊥) (h : Option Head) (p : h ≡ head_at b at) where
+    pub unite-fault : h ≡ None → UnitesFrom b at n d row s
     unfolding root_count map_forest
     unite-fault q = record { tells = go }
       where
@@ -153,7 +153,7 @@ module _ (b : List ℕ) (at n : ℕ) (d : Environment) (row : ℕ) (s : Step) wh
         go end Δ w e sh st o = absurd (z (sym e))
         go (node i (mark m c) k r) Δ w e sh st o = unseen b at i 5 (flag m ∷ c ∷ []) (image k) (image r) w h p q
 
-    module _ (i y c m : ℕ) (q : h ≡ Node i y c m) (e : ℕ) (en : Ended b at e) (v : Step) (ih : UnitesFrom b e (n - 1) d row v) where
+    module _ (top : Head) (q : h ≡ Some top) (e : ℕ) (en : Ended b at e) (v : Result Environment Refusal) (ih : UnitesFrom b e (n - 1) d row v) where
       others : (j : ℕ) (f : Bool) (g : ℕ) (k r Δ : Types) → Row b at (node j (value 5 (flag f ∷ g ∷ [])) (image k) (image r)) → suc (root_count (image r)) ≡ n →
           Shape (node j (mark f g) k r) → EnvironmentFor d Δ → one_type (node j (mark f g) k r) Δ ≡ true → StepAnswers v (with_row row (limited (yields (union r Δ))))
       others j f g k r Δ w ce sh st o =
@@ -161,7 +161,7 @@ module _ (b : List ℕ) (at n : ℕ) (d : Environment) (row : ℕ) (s : Step) wh
           ih.tells r Δ (row_moved b e _ (image r) le (row-rest b at j 5 (flag f ∷ g ∷ []) (image k) (image r) w)) (omega arith) (roots-of j (mark f g) k r sh).rest st
           (one-parts j (mark f g) k r Δ o).1
 
-      pub unite-stop : (why : Refusal) → v.verdict ≡ Refused why → s ≡ v → UnitesFrom b at n d row s
+      pub unite-stop : (why : Refusal) → v ≡ Err why → s ≡ Err why → UnitesFrom b at n d row s
       unfolding root_count map_forest union
       unite-stop why vr sv = record { tells = go }
         where
@@ -172,12 +172,12 @@ module _ (b : List ℕ) (at n : ℕ) (d : Environment) (row : ℕ) (s : Step) wh
               let n = refused-within row (union r Δ) why (answers-refused a why vr).0 in
               let ro = roots-of j (mark f g) k r sh in
               let n' = within-not j (mark f g) k r Δ ro.above ro.rest.rising (one-parts j (mark f g) k r Δ o).0 n in
-              subst (λ (x : Step). StepAnswers x (with_row row (limited (yields (set j (tree (mark f g) k) (union r Δ)))))) (sym sv)
+              subst (λ (x : Result Environment Refusal). StepAnswers x (with_row row (limited (yields (set j (tree (mark f g) k) (union r Δ)))))) (vr ∙ sym sv)
               (answers-as (too_large row (union r Δ) n ∙ sym (too_large row (set j (tree (mark f g) k) (union r Δ)) n')) a)
 
-      pub unite-on : v.verdict ≡ Done → PutsRoot b at e i v.environment row s → UnitesFrom b at n d row s
+      pub unite-on : (f : Environment) → v ≡ Ok f → PutsRoot b at e top.id f row s → UnitesFrom b at n d row s
       unfolding root_count map_forest union
-      unite-on vd pr = record { tells = go }
+      unite-on fe vd pr = record { tells = go }
         where
           go : (Γ Δ : Types) → Row b at (image Γ) → root_count (image Γ) ≡ n → Shape Γ → EnvironmentFor d Δ → one_type Γ Δ ≡ true → StepAnswers s (with_row row (limited (yields (union Γ Δ))))
           go end Δ w ce sh st o = absurd (z (sym ce))
@@ -185,25 +185,25 @@ module _ (b : List ℕ) (at n : ℕ) (d : Environment) (row : ℕ) (s : Step) wh
               let a = answers-done (others j f g k r Δ w ce sh st o) vd in
               let is = passed_is row (union r Δ) a.0 a.1 in
               let ro = roots-of j (mark f g) k r sh in
-              let u = seen b at j 5 (flag f ∷ g ∷ []) (image k) (image r) w h i y c m p q in
+              let u = seen b at j 5 (flag f ∷ g ∷ []) (image k) (image r) w h top.id top.basic top.count top.start p q in
               let rt = row-root b at j 5 (flag f ∷ g ∷ []) (image k) (image r) w in
               let ri = subst (λ (x : ℕ). Root b at x (map_tree mark_value (tree (mark f g) k))) (sym u.id) rt in
-              let ans = pr.tells a.0 (tree (mark f g) k) a.2 ri (en.ends i (map_tree mark_value (tree (mark f g) k)) ri) (subst (λ (x : ℕ). 0 < x) (sym u.id) ro.positive) ro.root in
+              let ans = pr.tells a.0 (tree (mark f g) k) a.2 ri (en.ends top.id (map_tree mark_value (tree (mark f g) k)) ri) (subst (λ (x : ℕ). 0 < x) (sym u.id) ro.positive) ro.root in
               answers-as (ap (λ (x : ℕ). with_row row (limited (yields (set x (tree (mark f g) k) a.0)))) u.id
               ∙ ap (λ (x : Types). with_row row (limited (yields (set j (tree (mark f g) k) x)))) (sym is)) ans
 
 pub ruleset unite-laws = (unite-none, unite-fault, unite-stop, unite-on)
 
-module _ (e d : Environment) (row : ℕ) (s : Step) (h : Head) (p : h ≡ head_at e.bytes 0) where
-  pub union-fault : h ≡ Fault → Unites e d row s
+module _ (e d : Environment) (row : ℕ) (s : Result Environment Refusal) (h : Option Head) (p : h ≡ head_at e.bytes 0) where
+  pub union-fault : h ≡ None → Unites e d row s
   union-fault q = record { tells = λ Γ Δ v w o. root-unseen e.bytes 0 0 (tree_of Γ) (stands-root e Γ v) h p q }
 
-  pub union-on : (i b c m : ℕ) → h ≡ Node i b c m → UnitesFrom e.bytes m c d row s → Unites e d row s
-  union-on i b c m q u = record {
+  pub union-on : (top : Head) → h ≡ Some top → UnitesFrom e.bytes top.start top.count d row s → Unites e d row s
+  union-on top q u = record {
     tells = λ Γ Δ v w o.
         let r = stands-root e Γ v in
-        let k = root-seen e.bytes 0 0 void [] (image Γ) r h i b c m p q in
-        u.tells Γ Δ (row_moved e.bytes m _ (image Γ) k.next (root-kids e.bytes 0 0 void [] (image Γ) r)) (sym k.count) v.shape w o;
+        let k = root-seen e.bytes 0 0 void [] (image Γ) r h top.id top.basic top.count top.start p q in
+        u.tells Γ Δ (row_moved e.bytes top.start _ (image Γ) k.next (root-kids e.bytes 0 0 void [] (image Γ) r)) (sym k.count) v.shape w o;
   }
 
 pub ruleset union-laws = (union-fault, union-on)

@@ -2,14 +2,14 @@
 -- "Γ, that union too, has at most 48 nodes and 6 levels below its empty root."
 use Rattle.std.specs.Prelude.{◌≡◌, List, ◌++◌, ℕ, ◌-◌, ◌≤◌, length, replicate}
 use Rattle.tree_forest.specs.Forest.{end, Tree, tree, Rising, nodes, levels}
-use Rattle.refusal.specs.declared.Verdict.TheVariants.{Done, Refused}
 use Rattle.scalar.specs.Value.{Value}
 use Rattle.network_syntax.specs.Syntax.{Types}
 use Rattle.check_typing.specs.Result.{Checked, refused, passed}
 use Rattle.tree.specs.Encode.{encode, rooted, empty}
 use Rattle.check_types.specs.Image.{image, InRange}
 use Rattle.check_environments.specs.declared.Environment.{Environment}
-use Rattle.check_environments.specs.declared.Step.{Step}
+use Rattle.std.specs.Prelude.{Result, Ok, Err}
+use Rattle.refusal.specs.declared.Refusal.{Refusal}
 
 -- Γ as a tree of values under an empty root.
 abbrev pub tree_of : Types → Tree Value
@@ -36,15 +36,15 @@ pub record EnvironmentFor (e : Environment) (Γ : Types) : Type 0 where
   pub shape : Shape Γ
 
 -- What a step answers: the environment and that it is done, or the refusal (with the empty environment).
-unfoldable pub step_of : Checked Types → Step
-step_of (passed Γ) = record { environment = standing Γ; verdict = Done }
-step_of (refused why) = record { environment = standing end; verdict = Refused why }
+unfoldable pub step_of : Checked Types → Result Environment Refusal
+step_of (passed Γ) = Ok (standing Γ)
+step_of (refused why) = Err why
 
 abbrev pub ShapeIn : Checked Types → Type 0
 ShapeIn (passed Γ) = Shape Γ
 ShapeIn (refused why) = Unit {0}
 
 -- s is what the checker's step c answers.
-pub record StepAnswers (s : Step) (c : Checked Types) : Type 0 where
+pub record StepAnswers (s : Result Environment Refusal) (c : Checked Types) : Type 0 where
   pub is : s ≡ step_of c
   pub shape : ShapeIn c

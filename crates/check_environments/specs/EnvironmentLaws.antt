@@ -4,8 +4,6 @@ use Rattle.std.proofs.Common.{ap, sym, subst, ◌∙◌, arith, length-append}
 use Rattle.std.proofs.Math.Seq.{take-append_seam}
 use Rattle.tree_forest.specs.Forest.{end, node, Rising, measure, nodes}
 use Rattle.refusal.specs.declared.Refusal.{Refusal}
-use Rattle.refusal.specs.declared.Verdict.{Verdict}
-use Rattle.refusal.specs.declared.Verdict.TheVariants.{Done, Refused}
 use Rattle.scalar.specs.Basic.{void}
 use Rattle.network_syntax.specs.Syntax.{Types, mark}
 use Rattle.check_typing.specs.Result.{Checked, refused, passed}
@@ -17,49 +15,42 @@ use Rattle.tree.specs.StandingLaws.{root-fields}
 use Rattle.check_types.specs.Image.{mark_value, image, InRange, types_as}
 use Rattle.check_types.specs.ImageLaws.{image-back, measure-map, length-image, image-sound, rising-map}
 use Rattle.check_environments.specs.declared.Environment.{Environment}
-use Rattle.check_environments.specs.declared.Step.{Step}
 use Rattle.check_environments.specs.Environment.{tree_of, bytes_for, standing, Shape, EnvironmentFor, step_of, StepAnswers}
 use Rattle.check_environments.specs.Listing.{preorder}
+use Rattle.std.specs.Prelude.{Result, Ok, Err}
 
 -- ---- what a step answers
 
-verdict-of : Checked Types → Verdict
-verdict-of (passed Γ) = Done
-verdict-of (refused why) = Refused why
-
-pub answers-as : {s : Step} {c d : Checked Types} → c ≡ d → StepAnswers s c → StepAnswers s d
+pub answers-as : {s : Result Environment Refusal} {c d : Checked Types} → c ≡ d → StepAnswers s c → StepAnswers s d
 answers-as {s} e h = subst (StepAnswers s) e h
 
-done-by : (s : Step) (c : Checked Types) → StepAnswers s c → s.verdict ≡ Done → (Γ : Types) × (c ≡ passed Γ) × EnvironmentFor s.environment Γ
+done-by : (s : Result Environment Refusal) (c : Checked Types) (d : Environment) → StepAnswers s c → s ≡ Ok d → (Γ : Types) × (c ≡ passed Γ) × EnvironmentFor d Γ
 unfolding step_of
-done-by s (passed Γ) h e = (Γ, refl, record { is = ap (λ (z : Step). z.environment) h.is; shape = h.shape })
-done-by s (refused why) h e =
-    let p : s.verdict ≡ Refused why = ap (λ (z : Step). z.verdict) h.is in
-    let z : ◌≡◌ {A = ℕ} 0 1 = cc in absurd (omega arith)
+done-by s (passed Γ) d h e =
+    let p : d ≡ standing Γ = cc (h.is, e) in
+    (Γ, refl, record { is = p; shape = h.shape })
+done-by s (refused why) d h e = absurd (cc (h.is, e))
 
-pub answers-done : {s : Step} {c : Checked Types} → StepAnswers s c → s.verdict ≡ Done → (Γ : Types) × (c ≡ passed Γ) × EnvironmentFor s.environment Γ
-answers-done {s} {c} h e = done-by s c h e
+pub answers-done : {s : Result Environment Refusal} {c : Checked Types} {d : Environment} → StepAnswers s c → s ≡ Ok d → (Γ : Types) × (c ≡ passed Γ) × EnvironmentFor d Γ
+answers-done {s} {c} {d} h e = done-by s c d h e
 
-refused-by : (s : Step) (c : Checked Types) → StepAnswers s c → (why : Refusal) → s.verdict ≡ Refused why → (c ≡ refused why) × (s ≡ step_of (refused why))
+refused-by : (s : Result Environment Refusal) (c : Checked Types) → StepAnswers s c → (why : Refusal) → s ≡ Err why → (c ≡ refused why) × (s ≡ step_of (refused why))
 unfolding step_of
-refused-by s (passed Γ) h why e =
-    let p : s.verdict ≡ Done = ap (λ (z : Step). z.verdict) h.is in
-    let z : ◌≡◌ {A = ℕ} 0 1 = cc in absurd (omega arith)
+refused-by s (passed Γ) h why e = absurd (cc (h.is, e))
 refused-by s (refused x) h why e =
-    let p : s.verdict ≡ Refused x = ap (λ (z : Step). z.verdict) h.is in
-    let q : x ≡ why = cc in
-    (ap refused q, h.is ∙ ap (λ (z : Refusal). record { environment = standing end; verdict = Refused z }) q)
+    let q : x ≡ why = cc (h.is, e) in
+    (ap refused q, e)
 
-pub answers-refused : {s : Step} {c : Checked Types} → StepAnswers s c → (why : Refusal) → s.verdict ≡ Refused why
+pub answers-refused : {s : Result Environment Refusal} {c : Checked Types} → StepAnswers s c → (why : Refusal) → s ≡ Err why
     → (c ≡ refused why) × (s ≡ step_of (refused why))
 answers-refused {s} {c} h why e = refused-by s c h why e
 
-pub answers-refuse : {s : Step} (why : Refusal) → s ≡ step_of (refused why) → StepAnswers s (refused why)
+pub answers-refuse : {s : Result Environment Refusal} (why : Refusal) → s ≡ step_of (refused why) → StepAnswers s (refused why)
 answers-refuse why e = record { is = e; shape = tt }
 
-pub answers-pass : {e : Environment} {Γ : Types} → EnvironmentFor e Γ → StepAnswers (record { environment = e; verdict = Done }) (passed Γ)
+pub answers-pass : {e : Environment} {Γ : Types} → EnvironmentFor e Γ → StepAnswers (Ok e) (passed Γ)
 unfolding step_of
-answers-pass h = record { is = ap (λ (z : Environment). record { environment = z; verdict = Done }) h.is; shape = h.shape }
+answers-pass h = record { is = ap (λ (z : Environment). Ok z) h.is; shape = h.shape }
 
 -- ---- environments in bytes
 

@@ -18,23 +18,23 @@ use Rattle.network.specs.Decode.{path_of, type_of}
 use Rattle.tree.specs.Standing.{Root}
 use Rattle.check_types.specs.Image.{type_as}
 use Rattle.check_environments.specs.declared.Environment.{Environment}
-use Rattle.check_environments.specs.declared.Step.{Step}
-use Rattle.check_environments.specs.declared.Reading.{Reading}
-use Rattle.check_environments.specs.declared.Reading.TheVariants.{Firm, NotFirm}
 use Rattle.check_environments.specs.Environment.{EnvironmentFor, StepAnswers}
+use Rattle.std.specs.Prelude.{Option, Some, None}
+use Rattle.std.specs.Prelude.{Result, Ok, Err}
+use Rattle.refusal.specs.declared.Refusal.{Refusal}
 
 -- s is what placing the type of T row r at the path of P row p answers, for the B row `row`: 7, 9, 12 or the environment.
-pub record Places (file : List ℕ) (e : Environment) (p r row : ℕ) (s : Step) : Type 0 where
+pub record Places (file : List ℕ) (e : Environment) (p r row : ℕ) (s : Result Environment Refusal) : Type 0 where
   pub tells : (Γ : Types) → EnvironmentFor e Γ → WellFormed file → p < path_count file → r < type_count file →
       StepAnswers s (with_row row (limited (place (path_of file p) (type_of file r) Γ)))
 
 -- s is what assigning the basic type b at the path of P row p answers, for the B row `row`: 7, 9, 7, 12 or the environment.
-pub record Assigns (file : List ℕ) (e : Environment) (p b row : ℕ) (s : Step) : Type 0 where
+pub record Assigns (file : List ℕ) (e : Environment) (p b row : ℕ) (s : Result Environment Refusal) : Type 0 where
   pub tells : (Γ : Types) → EnvironmentFor e Γ → WellFormed file → p < path_count file → b ≤ last_basic →
       StepAnswers s (with_row row (limited (assign_to (path_of file p) b Γ)))
 
 -- s is what asking that the path of P row p stands firm and is ≤ the type of T row r answers, for the B row `row`: 7, 9 or Γ.
-pub record Asks (file : List ℕ) (e : Environment) (p r row : ℕ) (s : Step) : Type 0 where
+pub record Asks (file : List ℕ) (e : Environment) (p r row : ℕ) (s : Result Environment Refusal) : Type 0 where
   pub tells : (Γ : Types) → EnvironmentFor e Γ → WellFormed file → p < path_count file → r < type_count file →
       StepAnswers s (with_row row (answers (path_of file p) Γ (type_of file r)))
 
@@ -56,12 +56,12 @@ pub record ReadAt (e : Environment) (at b : ℕ) (found : Attempt MessageType) :
   pub basic : b ≡ root_basic there
   pub spot : TypeAt e at there
 
-abbrev pub ReadsAs : Environment → Reading → Attempt MessageType → Type 0
-ReadsAs e (Firm at b) found = ReadAt e at b found
-ReadsAs e NotFirm found = found ≡ fails PathNotFirm
+abbrev pub ReadsAs : Environment → Option (ℕ × ℕ) → Attempt MessageType → Type 0
+ReadsAs e (Some (at, b)) found = ReadAt e at b found
+ReadsAs e None found = found ≡ fails PathNotFirm
 
 -- x says where the path of P row p stands firm in Γ, or that it does not.
-pub record ReadsFirm (file : List ℕ) (e : Environment) (p : ℕ) (x : Reading) : Type 0 where
+pub record ReadsFirm (file : List ℕ) (e : Environment) (p : ℕ) (x : Option (ℕ × ℕ)) : Type 0 where
   pub tells : (Γ : Types) → EnvironmentFor e Γ → WellFormed file → p < path_count file → ReadsAs e x (read_firm (path_of file p) Γ)
 
 -- x tells whether the type that stands at `at` is ≤ the type of T row r.
@@ -77,5 +77,5 @@ pub record OneTyped (e d : Environment) (x : Bool) : Type 0 where
   pub tells : (Γ Δ : Types) → EnvironmentFor e Γ → EnvironmentFor d Δ → x ≡ one_type Γ Δ
 
 -- s is the union of two environments in which each root has one type, or 12 for the B row `row`.
-pub record Unites (e d : Environment) (row : ℕ) (s : Step) : Type 0 where
+pub record Unites (e d : Environment) (row : ℕ) (s : Result Environment Refusal) : Type 0 where
   pub tells : (Γ Δ : Types) → EnvironmentFor e Γ → EnvironmentFor d Δ → one_type Γ Δ ≡ true → StepAnswers s (with_row row (limited (yields (union Γ Δ))))

@@ -11,23 +11,19 @@ use Rattle.check_typing.specs.Environment.{firm_above, missing_step, as_mandator
 use Rattle.check_typing.specs.Checker.{limited}
 use Rattle.check_typing.specs.NetworkRules.{union}
 use Rattle.check_typing.specs.NetworkChecker.{one_type_at, one_type}
-use Rattle.wire.specs.Wire.{u16_at}
 use Rattle.network.specs.Form.{WellFormed}
-use Rattle.network.specs.Layout.{path_count, type_count, path_at}
+use Rattle.network.specs.Layout.{path_count, type_count}
 use Rattle.network.specs.Decode as network
 use Rattle.tree.specs.Encode.{root_count, encode, rooted}
 use Rattle.tree.specs.Ids.{path_from_ids, Words}
 use Rattle.tree.specs.Standing.{Row, Root}
 use Rattle.check_types.specs.Image.{mark_value, image, InRange, types_as, type_as}
 use Rattle.check_environments.specs.declared.Environment.{Environment}
-use Rattle.check_environments.specs.declared.Step.{Step}
 use Rattle.check_environments.specs.declared.Reach.{Reach}
 use Rattle.check_environments.specs.declared.Reach.TheVariants.{Here, Gap, Loose}
 use Rattle.check_environments.specs.Environment.{tree_of, bytes_for, Shape, EnvironmentFor, StepAnswers}
-
--- The four ids of P row p.
-unfoldable pub row_ids_of : List ℕ → ℕ → List ℕ
-row_ids_of file p = u16_at file (path_at file p) ∷ u16_at file (path_at file p + 2) ∷ u16_at file (path_at file p + 4) ∷ u16_at file (path_at file p + 6) ∷ []
+use Rattle.std.specs.Prelude.{Result, Ok, Err}
+use Rattle.refusal.specs.declared.Refusal.{Refusal}
 
 -- What stands at the path x in Γ stands at p, and the path above it stands firm.
 pub record SeenAt (s : List ℕ) (p : ℕ) (x : Path) (Γ : Types) : Type 0 where
@@ -60,7 +56,7 @@ pub record NoneMandatory (s : List ℕ) (at n : ℕ) (x : Bool) : Type 0 where
   pub tells : (v : Forest Value) → Row s at v → root_count v ≡ n → x ≡ no_mandatory (types_as false v)
 
 -- s is what assigning the basic type b answers where a type stands at `at`.
-pub record AssignsAt (e : Environment) (at b row : ℕ) (s : Step) : Type 0 where
+pub record AssignsAt (e : Environment) (at b row : ℕ) (s : Result Environment Refusal) : Type 0 where
   pub tells : (Γ : Types) (x : Path) (i : ℕ) (held : Tree Value) → EnvironmentFor e Γ → Root e.bytes at i held →
       StepAnswers s (with_row row (limited (assign_at x b Γ (present (type_as false held)))))
 
@@ -73,22 +69,22 @@ pub record Placeable (t : MessageType) : Type 0 where
   pub few : nodes (root_children t) ≤ 47
 
 -- s is what putting the type whose bytes m are at a path of Γ, whose bytes g are, answers: 12 or the environment.
-pub record PutsType (g ids m : List ℕ) (row : ℕ) (s : Step) : Type 0 where
+pub record PutsType (g ids m : List ℕ) (row : ℕ) (s : Result Environment Refusal) : Type 0 where
   pub tells : (Γ : Types) (t : MessageType) → g ≡ bytes_for Γ → Shape Γ → Words ids → 0 < get_or ids 0 0 →
       m ≡ encode (rooted (map_tree mark_value t)) → Placeable t →
       StepAnswers s (with_row row (limited (yields (replace_at missing_step (path_from_ids ids) t Γ))))
 
 -- The same with the environment by value.
-pub record Grows (e : Environment) (ids m : List ℕ) (row : ℕ) (s : Step) : Type 0 where
+pub record Grows (e : Environment) (ids m : List ℕ) (row : ℕ) (s : Result Environment Refusal) : Type 0 where
   pub tells : (Γ : Types) (t : MessageType) → EnvironmentFor e Γ → 0 < get_or ids 0 0 → m ≡ encode (rooted (map_tree mark_value t)) → Placeable t →
       StepAnswers s (with_row row (limited (yields (replace_at missing_step (path_from_ids ids) t Γ))))
 
 -- s is what putting the type of T row r, or the basic type b alone, at the path of P row p answers.
-pub record GrowsRow (file : List ℕ) (e : Environment) (p r row : ℕ) (s : Step) : Type 0 where
+pub record GrowsRow (file : List ℕ) (e : Environment) (p r row : ℕ) (s : Result Environment Refusal) : Type 0 where
   pub tells : (Γ : Types) → EnvironmentFor e Γ → WellFormed file → p < path_count file → r < type_count file →
       StepAnswers s (with_row row (limited (yields (replace_at missing_step (network.path_of file p) (as_mandatory (network.type_of file r)) Γ))))
 
-pub record GrowsLeaf (file : List ℕ) (e : Environment) (p b row : ℕ) (s : Step) : Type 0 where
+pub record GrowsLeaf (file : List ℕ) (e : Environment) (p b row : ℕ) (s : Result Environment Refusal) : Type 0 where
   pub tells : (Γ : Types) → EnvironmentFor e Γ → WellFormed file → p < path_count file → b ≤ last_basic →
       StepAnswers s (with_row row (limited (yields (replace_at missing_step (network.path_of file p) (basic_leaf b) Γ))))
 
@@ -111,11 +107,11 @@ pub record OneFrom (s : List ℕ) (at n : ℕ) (d : List ℕ) (x : Bool) : Type 
   pub tells : (Γ Δ : Types) → Row s at (image Γ) → root_count (image Γ) ≡ n → Root d 0 0 (tree_of Δ) → x ≡ one_type Γ Δ
 
 -- s is the environment with the type that stands from `at` to e put at the root i, or 12.
-pub record PutsRoot (b : List ℕ) (at e i : ℕ) (f : Environment) (row : ℕ) (s : Step) : Type 0 where
+pub record PutsRoot (b : List ℕ) (at e i : ℕ) (f : Environment) (row : ℕ) (s : Result Environment Refusal) : Type 0 where
   pub tells : (Δ : Types) (t : MessageType) → EnvironmentFor f Δ → Root b at i (map_tree mark_value t) →
       e ≡ at + length (encode (node_of i (map_tree mark_value t) end)) → 0 < i → Placeable t → StepAnswers s (with_row row (limited (yields (set i t Δ))))
 
 -- s is the union of the n roots at `at` with Δ, or 12.
-pub record UnitesFrom (b : List ℕ) (at n : ℕ) (d : Environment) (row : ℕ) (s : Step) : Type 0 where
+pub record UnitesFrom (b : List ℕ) (at n : ℕ) (d : Environment) (row : ℕ) (s : Result Environment Refusal) : Type 0 where
   pub tells : (Γ Δ : Types) → Row b at (image Γ) → root_count (image Γ) ≡ n → Shape Γ → EnvironmentFor d Δ → one_type Γ Δ ≡ true →
       StepAnswers s (with_row row (limited (yields (union Γ Δ))))

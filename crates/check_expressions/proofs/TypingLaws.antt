@@ -3,104 +3,51 @@ use Prim.Native.Nat.{ℕ, ◌<◌, ◌≤◌}
 use mathlib.Core.Path.{◌≡◌, refl, sym, ◌∙◌, ap, subst}
 use mathlib.Core.List.{List}
 use lib.Dec.{eqb}
-use lib.ListN.{length}
 use mathlib.Core.Bool.{Bool, true, false}
 use native.Mathlib.Omega.{arith}
-use borrow.Author.Tests.{ne_eqb, le-ltb}
+use borrow.Author.Tests.{ne_eqb}
 use Rattle.refusal.specs.declared.Refusal.{Refusal}
-use Rattle.refusal.specs.declared.Refusal.TheVariants.{PathNotFirm, OperandType}
-use Rattle.scalar.specs.Basic.{bool, raw, last_basic}
+use Rattle.refusal.specs.declared.Refusal.TheVariants.{OperandType}
+use Rattle.scalar.specs.Basic.{last_basic}
 use Rattle.scalar.specs.Value.{value}
 use Rattle.basics.specs.Choice.{pick}
-use Rattle.basics.specs.TestLaws.{of_eq, of_lt, eq_of}
+use Rattle.basics.specs.TestLaws.{of_eq, eq_of}
 use Rattle.network_syntax.specs.Syntax.{Types, MessageType}
 use Rattle.network_syntax.specs.Syntax.{Expression, constant, value_at, presence, unary, binary}
 use Rattle.check_subtyping.specs.Subtype.{root_basic}
-use Rattle.check_typing.specs.Result.{Attempt, fails, yields, demand, and_then, with_row}
+use Rattle.check_typing.specs.Result.{Attempt, fails, yields, and_then, refused}
 use Rattle.check_expressions.proofs.TypingsLaws.{refused-first}
-use Rattle.check_typing.specs.Environment.{read_firm, basic_leaf}
 use Rattle.check_typing.specs.ExpressionTyping.{unary_type, binary_type, expression_type}
 use Rattle.network.specs.Form.{WellFormed}
 use Rattle.network.specs.Layout.{expression_count, data_part}
 use Rattle.network.specs.Decode.{path_of, expression_of}
 use Rattle.check_environments.specs.declared.Environment.{Environment}
-use Rattle.check_environments.specs.declared.Reading.{Reading}
-use Rattle.check_environments.specs.declared.Reading.TheVariants.{Firm, NotFirm}
 use Rattle.check_environments.specs.Environment.{EnvironmentFor}
-use Rattle.check_environments.specs.Tells.{ReadsAs, ReadsFirm, IsIn}
 use Rattle.network_row_parts.specs.declared.UnaryOperator.{UnaryOperator}
 use Rattle.network_row_parts.specs.declared.BinaryOperator.{BinaryOperator}
 use Rattle.network_row_parts.specs.declared.Part.{Part}
-use Rattle.check_expressions.specs.declared.Typing.{Typing}
+use Rattle.check_expressions.specs.declared.Typed.{Typed}
 use Rattle.network_row_parts.specs.Parts.{unary_of, binary_of, expression_part}
-use Rattle.check_expressions.specs.Typings.{entry_typing, table_typing, is_refused, root_typed, with_basic}
+use Rattle.check_expressions.specs.Typings.{entry_typing, table_typing, root_typed, with_basic}
 use Rattle.check_expressions.specs.Typings.{operator_typed, TypedAs, ValueTyped, PresenceTyped, TypingTells}
 use Rattle.network_row_parts.specs.PartLaws.{part-is}
 use Rattle.check_expressions.proofs.SmallLaws.{Alone, unary-alone, binary-alone}
-use Rattle.check_expressions.specs.Table.{none, table_at, operator_rules, table_entry, unary_row, binary_row, column_of}
-use Rattle.check_expressions.proofs.TableLaws.{unlike-refused, column-small, unary-at-column, binary-at-column, unary-row, binary-row}
+use Rattle.check_expressions.specs.Table.{none, table_at, table_entry, unary_row, binary_row, column_of}
+use Rattle.check_expressions.proofs.TableLaws.{unlike-refused, column-small, unary-at-column, binary-at-column}
 use Rattle.check_expressions.proofs.TableLaws.{unary-table, binary-alike-table}
-
--- ---- enums by cases
-
-pub entry-none : (row o b : ℕ) {c : ℕ} → c ≡ column_of b → table_at o c ≡ none → Typing.Refused (OperandType row) ≡ entry_typing row (table_at o (column_of b))
-entry-none row o b f e = rw (sym f, of_eq _ none e) refl
-
-pub entry-some : (row o b : ℕ) {c : ℕ} → c ≡ column_of b → (table_at o c ≡ none → ⊥) → Typing.Leaf (table_at o c) ≡ entry_typing row (table_at o (column_of b))
-entry-some row o b {c} f h = rw (sym f, ne_eqb (table_at o c) none h) refl
-
-given : (x : Typing) → ((why : Refusal) → x ≡ Typing.Refused why → ⊥) → is_refused x ≡ false
-given (Typing.At at b) k = refl
-given (Typing.Leaf b) k = refl
-given (Typing.Refused why) k = absurd (k why refl)
-
-pub right-refused : (row o : ℕ) (x : Typing) {y : Typing} {why : Refusal} → ((why : Refusal) → x ≡ Typing.Refused why → ⊥) → y ≡ Typing.Refused why
-    → y ≡ operator_typed row o x y
-right-refused row o x k e = rw (given x k, e) refl
-
-pub alone : (row o : ℕ) (x : Typing) {i b : ℕ} {z : Typing} → ((why : Refusal) → x ≡ Typing.Refused why → ⊥) → i ≡ o → b ≡ root_typed x
-    → z ≡ entry_typing row (table_at i (column_of b)) → z ≡ operator_typed row o x x
-alone row o x {i} {b} k f g h = rw (given x k, sym g, of_eq b b refl, sym f) h
-
-module _ (row o : ℕ) (x y : Typing) (k : ((why : Refusal) → x ≡ Typing.Refused why → ⊥)) (l : ((why : Refusal) → y ≡ Typing.Refused why → ⊥)) where
-  pub unlike : {b c : ℕ} → b ≡ root_typed x → c ≡ root_typed y → (b ≡ c → ⊥) → Typing.Refused (OperandType row) ≡ operator_typed row o x y
-  unlike {b} {c} g h n = rw (given x k, given y l, sym g, sym h, ne_eqb b c n) refl
-
-  pub alike : {i b c : ℕ} {z : Typing} → b ≡ root_typed x → c ≡ root_typed y → b ≡ c → i ≡ o → z ≡ entry_typing row (table_at i (column_of b))
-      → z ≡ operator_typed row o x y
-  alike {i} {b} {c} g h e f d = rw (given x k, given y l, sym g, sym h, of_eq b c e, sym f) d
-
--- ---- paths
-
-pub value-missing : (s : List ℕ) (e : Environment) (p row : ℕ) {x : Reading} → ReadsFirm s e p x → x ≡ NotFirm
-    → ValueTyped s e p row (Typing.Refused (PathNotFirm row))
-value-missing s e p row h f = record {
-  tells = λ Γ g w l. ap (with_row row) (subst (λ (z : Reading). ReadsAs e z (read_firm (path_of s p) Γ)) f (h.tells Γ g w l));
-}
-
-pub value-firm : (s : List ℕ) (e : Environment) (p row : ℕ) {x : Reading} {at b : ℕ} → ReadsFirm s e p x → x ≡ Firm at b → ValueTyped s e p row (Typing.At at b)
-value-firm s e p row h f = record { tells = λ Γ g w l. subst (λ (z : Reading). ReadsAs e z (read_firm (path_of s p) Γ)) f (h.tells Γ g w l) }
-
-pub presence-in : (s : List ℕ) (e : Environment) (p row : ℕ) {x : Bool} → IsIn s e p x → x ≡ true → PresenceTyped s e p row (Typing.Leaf bool)
-presence-in s e p row h f = record { tells = λ Γ g w l. ap (λ (t : Bool). demand t PathNotFirm (yields (basic_leaf bool))) (sym (h.tells Γ g w l) ∙ f) }
-
-pub presence-out : (s : List ℕ) (e : Environment) (p row : ℕ) {x : Bool} → IsIn s e p x → x ≡ false
-    → PresenceTyped s e p row (Typing.Refused (PathNotFirm row))
-presence-out s e p row h f = record {
-  tells = λ Γ g w l. ap (λ (t : Bool). with_row row (demand t PathNotFirm (yields (basic_leaf bool)))) (sym (h.tells Γ g w l) ∙ f);
-}
+use Rattle.std.specs.Prelude.{Result, Ok, Err}
 
 -- ---- operators
 
 -- What an operator's rule answers: the basic type of the result alone, or a refusal, placed at the B row.
-abbrev typing_of : ℕ → Attempt MessageType → Typing
-typing_of row (fails why) = Typing.Refused (why row)
-typing_of row (yields t) = Typing.Leaf (root_basic t)
+abbrev typing_of : ℕ → Attempt MessageType → Result Typed Refusal
+typing_of row (fails why) = Err (why row)
+typing_of row (yields t) = Ok (Typed.Leaf (root_basic t))
 
-unfoldable unary_typing : ℕ → UnaryOperator → ℕ → Typing
+unfoldable unary_typing : ℕ → UnaryOperator → ℕ → Result Typed Refusal
 unary_typing row o b = typing_of row (unary_type (unary_of o) b)
 
-unfoldable binary_typing : ℕ → BinaryOperator → ℕ → ℕ → Typing
+unfoldable binary_typing : ℕ → BinaryOperator → ℕ → ℕ → Result Typed Refusal
 binary_typing row o b c = typing_of row (binary_type (binary_of o) b c)
 
 rule-right : (e : Environment) (row b : ℕ) (r : Attempt MessageType) → Alone b r → TypedAs e row (typing_of row r) r
@@ -118,7 +65,7 @@ binary-right e row o b c = rule-right e row b (binary_type (binary_of o) b c) (b
 -- ---- the table
 
 as-entry : (row b : ℕ) (r : Attempt MessageType) → b ≤ last_basic → Alone b r → entry_typing row (table_entry r) ≡ typing_of row r
-as-entry row b (fails why) l h = sym (ap (λ (w : ℕ → Refusal). Typing.Refused (w row)) h)
+as-entry row b (fails why) l h = sym (ap (λ (w : ℕ → Refusal). Err (w row)) h)
 as-entry row b (yields t) l h = let m = h.1 l in rw (ne_eqb (root_basic t) none (λ e. omega arith)) refl
 
 unary-looked : (row b : ℕ) (o : UnaryOperator) → table_typing row (unary_row o) b b ≡ unary_typing row o b
@@ -133,7 +80,7 @@ unfolding binary_typing
 binary-looked row b c o = go (eqb b c) refl
   where
     go : (t : Bool) → eqb b c ≡ t
-        → pick t (entry_typing row (table_at (binary_row o) (column_of b))) (Typing.Refused (OperandType row)) ≡ typing_of row (binary_type (binary_of o) b c)
+        → pick t (entry_typing row (table_at (binary_row o) (column_of b))) (Err (OperandType row)) ≡ typing_of row (binary_type (binary_of o) b c)
     go true e =
         ap (entry_typing row) (binary-alike-table o b)
         ∙ as-entry row (column_of b) (binary_type (binary_of o) b b) (column-small b)
@@ -141,65 +88,46 @@ binary-looked row b c o = go (eqb b c) refl
         ∙ ap (λ (d : ℕ). typing_of row (binary_type (binary_of o) b d)) (eq_of b c e)
     go false e = sym (ap (typing_of row) (unlike-refused (binary_of o) b c e))
 
-unary-by-table : (row : ℕ) (o : UnaryOperator) (x : Typing) → operator_typed row (unary_row o) x x ≡ with_basic (unary_typing row o) x
-unary-by-table row o (Typing.At at b) = unary-looked row b o
-unary-by-table row o (Typing.Leaf b) = unary-looked row b o
-unary-by-table row o (Typing.Refused why) = refl
+unary-by-table : (row : ℕ) (o : UnaryOperator) (x : Result Typed Refusal) → operator_typed row (unary_row o) x x ≡ with_basic (unary_typing row o) x
+unary-by-table row o (Ok x) = unary-looked row (root_typed x) o
+unary-by-table row o (Err why) = refl
 
-binary-by-table : (row : ℕ) (o : BinaryOperator) (x y : Typing) → operator_typed row (binary_row o) x y ≡ with_basic (λ b. with_basic (binary_typing row o b) y) x
-binary-by-table row o x y = go (is_refused x) (is_refused y)
-  where
-    go : (s t : Bool) → pick s x (pick t y (table_typing row (binary_row o) (root_typed x) (root_typed y)))
-        ≡ pick s x (pick t y (binary_typing row o (root_typed x) (root_typed y)))
-    go true t = refl
-    go false true = refl
-    go false false = binary-looked row (root_typed x) (root_typed y) o
-
-pub column-past : (b : ℕ) → last_basic < b → raw ≡ column_of b
-column-past b h = rw (of_lt last_basic b h) refl
-
-pub column-own : (b : ℕ) → b ≤ last_basic → b ≡ column_of b
-column-own b h = rw (le-ltb last_basic b h) refl
-
-pub unary-row-in : (o : UnaryOperator) {r : ℕ} → r ≡ unary_row o → r < length operator_rules
-unary-row-in o e = rw e (unary-row o).0
-
-pub binary-row-in : (o : BinaryOperator) {r : ℕ} → r ≡ binary_row o → r < length operator_rules
-binary-row-in o e = rw e (binary-row o).0
-
-pub ruleset table-laws = (unary-row-in, binary-row-in)
+binary-by-table : (row : ℕ) (o : BinaryOperator) (x y : Result Typed Refusal) → operator_typed row (binary_row o) x y ≡ with_basic (λ b. with_basic (binary_typing row o b) y) x
+binary-by-table row o (Ok x) (Ok y) = binary-looked row (root_typed x) (root_typed y) o
+binary-by-table row o (Ok x) (Err why) = refl
+binary-by-table row o (Err why) y = refl
 
 -- An operand, then what follows from its basic type.
-after-operand : (e : Environment) (row : ℕ) (x : Typing) (found : Attempt MessageType) (f : ℕ → Typing) (g : ℕ → Attempt MessageType) → TypedAs e row x found
+after-operand : (e : Environment) (row : ℕ) (x : Result Typed Refusal) (found : Attempt MessageType) (f : ℕ → Result Typed Refusal) (g : ℕ → Attempt MessageType) → TypedAs e row x found
     → ((b : ℕ) → TypedAs e row (f b) (g b)) → TypedAs e row (with_basic f x) (and_then found (λ t. g (root_basic t)))
-after-operand e row (Typing.At at b) found f g h k =
+after-operand e row (Ok (Typed.At at b)) found f g h k =
     subst (λ (r : Attempt MessageType). TypedAs e row (f b) (and_then r (λ t. g (root_basic t)))) (sym h.is)
     (subst (λ (n : ℕ). TypedAs e row (f b) (g n)) h.basic (k b))
-after-operand e row (Typing.Leaf b) found f g h k = subst (λ (r : Attempt MessageType). TypedAs e row (f b) (and_then r (λ t. g (root_basic t)))) (sym h) (k b)
-after-operand e row (Typing.Refused why) found f g h k = refused-first row found (λ t. g (root_basic t)) h
+after-operand e row (Ok (Typed.Leaf b)) found f g h k = subst (λ (r : Attempt MessageType). TypedAs e row (f b) (and_then r (λ t. g (root_basic t)))) (sym h) (k b)
+after-operand e row (Err why) found f g h k = refused-first row found (λ t. g (root_basic t)) h
 
 -- ---- rows
 
-typed-as : (s : List ℕ) (e : Environment) (r row : ℕ) {x : Typing} → ((Γ : Types) → EnvironmentFor e Γ → WellFormed s → r < expression_count s →
+typed-as : (s : List ℕ) (e : Environment) (r row : ℕ) {x : Result Typed Refusal} → ((Γ : Types) → EnvironmentFor e Γ → WellFormed s → r < expression_count s →
     (f : Expression) × (expression_of s r ≡ f) × TypedAs e row x (expression_type Γ f)) → TypingTells s e r row x
 typed-as s e r row {x} h = record { tells = λ Γ g w l. let u = h Γ g w l in subst (λ (f : Expression). TypedAs e row x (expression_type Γ f)) (sym u.1) u.2 }
 
-pub constant-typed : (s : List ℕ) (e : Environment) (r row : ℕ) {x : Part} {b v n : ℕ} → x ≡ expression_part s r → x ≡ Part.Constant b v n → TypingTells s e r row (Typing.Leaf b)
+pub constant-typed : (s : List ℕ) (e : Environment) (r row : ℕ) {x : Part} {b v n : ℕ} → x ≡ expression_part s r → x ≡ Part.Constant b v n → TypingTells s e r row (Ok (Typed.Leaf b))
 unfolding expression_type
 constant-typed s e r row {x} {b} {v} {n} p q = typed-as s e r row (λ Γ g w l. let u = part-is s w r l p q in (constant (value b (data_part s v n)), u.0, refl))
 
-pub value-typed : (s : List ℕ) (e : Environment) (r row : ℕ) {x : Part} {p : ℕ} {y : Typing} → x ≡ expression_part s r → x ≡ Part.ValueAt p → ValueTyped s e p row y → TypingTells s e r row y
+pub value-typed : (s : List ℕ) (e : Environment) (r row : ℕ) {x : Part} {p : ℕ} {y : Result Typed Refusal} → x ≡ expression_part s r → x ≡ Part.ValueAt p → ValueTyped s e p row y → TypingTells s e r row y
 unfolding expression_type
 value-typed s e r row {x} {p} m n v = typed-as s e r row (λ Γ g w l. let u = part-is s w r l m n in (value_at (path_of s p), u.0, v.tells Γ g w u.1))
 
-pub presence-typed : (s : List ℕ) (e : Environment) (r row : ℕ) {x : Part} {p : ℕ} {y : Typing} → x ≡ expression_part s r → x ≡ Part.Presence p → PresenceTyped s e p row y → TypingTells s e r row y
+pub presence-typed : (s : List ℕ) (e : Environment) (r row : ℕ) {x : Part} {p : ℕ} {y : Result Typed Refusal} → x ≡ expression_part s r → x ≡ Part.Presence p → PresenceTyped s e p row y → TypingTells s e r row y
 unfolding expression_type
 presence-typed s e r row {x} {p} m n v = typed-as s e r row (λ Γ g w l. let u = part-is s w r l m n in (presence (path_of s p), u.0, v.tells Γ g w u.1))
 
-pub unary-typed : (s : List ℕ) (e : Environment) (r row : ℕ) {x : Part} {o : UnaryOperator} {a : ℕ} {y z : Typing} → x ≡ expression_part s r → x ≡ Part.Unary o a
+pub unary-typed : (s : List ℕ) (e : Environment) (r row : ℕ) {x : Part} {o : UnaryOperator} {a : ℕ} {y z : Result Typed Refusal} → x ≡ expression_part s r → x ≡ Part.Unary o a
     → TypingTells s e a row y → z ≡ operator_typed row (unary_row o) y y → TypingTells s e r row z
 unfolding expression_type
-unary-typed s e r row {x} {o} {a} {y} {z} m n v k = subst (λ (t : Typing). TypingTells s e r row t)
+unary-typed s e r row {x} {o} {a} {y} {z} m n v k = subst (λ (t : Result Typed Refusal). TypingTells s e r row t)
     (sym (k ∙ unary-by-table row o y)) (typed-as s e r row (λ Γ g w l.
     let u = part-is s w r l m n in
     let i = u.1 in (
@@ -208,10 +136,10 @@ unary-typed s e r row {x} {o} {a} {y} {z} m n v k = subst (λ (t : Typing). Typi
       after-operand e row y (expression_type Γ (expression_of s a)) (unary_typing row o) (unary_type (unary_of o)) (v.tells Γ g w (omega arith)) (unary-right e row o),
     )))
 
-pub binary-typed : (s : List ℕ) (e : Environment) (r row : ℕ) {x : Part} {o : BinaryOperator} {a b : ℕ} {y t z : Typing} → x ≡ expression_part s r → x ≡ Part.Binary o a b
+pub binary-typed : (s : List ℕ) (e : Environment) (r row : ℕ) {x : Part} {o : BinaryOperator} {a b : ℕ} {y t z : Result Typed Refusal} → x ≡ expression_part s r → x ≡ Part.Binary o a b
     → TypingTells s e a row y → TypingTells s e b row t → z ≡ operator_typed row (binary_row o) y t → TypingTells s e r row z
 unfolding expression_type
-binary-typed s e r row {x} {o} {a} {b} {y} {t} {z} m n v v₂ k = subst (λ (c : Typing). TypingTells s e r row c)
+binary-typed s e r row {x} {o} {a} {b} {y} {t} {z} m n v v₂ k = subst (λ (c : Result Typed Refusal). TypingTells s e r row c)
     (sym (k ∙ binary-by-table row o y t)) (typed-as s e r row (λ Γ g w l.
     let u = part-is s w r l m n in
     let i = u.1 in
@@ -224,9 +152,22 @@ binary-typed s e r row {x} {o} {a} {b} {y} {t} {z} m n v v₂ k = subst (λ (c :
     )))
 
 -- An operand that stands on both sides is typed once.
-pub twice-typed : (s : List ℕ) (e : Environment) (r row : ℕ) {x : Part} {o : BinaryOperator} {a b : ℕ} {y z : Typing} → x ≡ expression_part s r → x ≡ Part.Binary o a b
+pub twice-typed : (s : List ℕ) (e : Environment) (r row : ℕ) {x : Part} {o : BinaryOperator} {a b : ℕ} {y z : Result Typed Refusal} → x ≡ expression_part s r → x ≡ Part.Binary o a b
     → TypingTells s e a row y → a ≡ b → z ≡ operator_typed row (binary_row o) y y → TypingTells s e r row z
 twice-typed s e r row {x} {o} {a} {b} {y} m n v i k = binary-typed s e r row m n v (subst (λ (d : ℕ). TypingTells s e d row y) i v) k
 
-pub broken-typed : (s : List ℕ) (e : Environment) (r row : ℕ) {x : Part} (y : Typing) → x ≡ expression_part s r → x ≡ Part.Broken → TypingTells s e r row y
+-- A left operand is refused, whatever the right one is.
+pub left-refused : (s : List ℕ) (e : Environment) (r row : ℕ) {x : Part} {o : BinaryOperator} {a b : ℕ} {why : Refusal} → x ≡ expression_part s r → x ≡ Part.Binary o a b
+    → TypingTells s e a row (Err why) → TypingTells s e r row (Err why)
+unfolding expression_type
+left-refused s e r row {x} {o} {a} {b} {why} m n v = typed-as s e r row (λ Γ g w l.
+    let u = part-is s w r l m n in
+    let i = u.1 in (
+      binary (binary_of o) (expression_of s a) (expression_of s b),
+      u.0,
+      refused-first row (expression_type Γ (expression_of s a))
+          (λ t. and_then (expression_type Γ (expression_of s b)) (λ d. binary_type (binary_of o) (root_basic t) (root_basic d))) (v.tells Γ g w (omega arith)),
+    ))
+
+pub broken-typed : (s : List ℕ) (e : Environment) (r row : ℕ) {x : Part} (y : Result Typed Refusal) → x ≡ expression_part s r → x ≡ Part.Broken → TypingTells s e r row y
 broken-typed s e r row y p q = record { tells = λ Γ g w l. absurd (part-is s w r l p q) }

@@ -1,8 +1,6 @@
 -- The checker accepts exactly what the rules derive, with the derived environments: for every file.
 use Rattle.std.specs.Prelude.{◌≡◌, refl, List, [], ◌∷◌, ℕ, zero, suc, ◌+◌, ◌<◌}
 use Rattle.std.proofs.Common.{sym, ap, ◌∙◌, arith}
-use Rattle.refusal.specs.declared.Verdict.{Verdict}
-use Rattle.refusal.specs.declared.Verdict.TheVariants.{Done, Refused}
 use Rattle.network_syntax.specs.Syntax.{Operation, Behaviour, nil, one_way, request_response, notification, solicit_response, if_then_else, while_do}
 use Rattle.network_syntax.specs.Syntax.{sequence, parallel, assign, choice, waiting, answering, Branches, last_branch, branch, Optional, none, some}
 use Rattle.network_syntax.specs.Syntax.{Service, Network}
@@ -17,6 +15,8 @@ use Rattle.check_typing.specs.NetworkRules.{Environments, DerivesNetwork, WellSo
 use Rattle.check_typing.specs.NetworkChecker.{check_network}
 use Rattle.check_typing.proofs.NetworkLaws.{checked-derived, derived-checked}
 use Rattle.check_files.specs.FileChecker.{after_form, check_file}
+use Rattle.std.specs.Prelude.{Result, Ok, Err}
+use Rattle.refusal.specs.declared.Refusal.{Refusal}
 
 operation-rising : (o : Operation) → OperationShape o → RisingOperation o
 operation-rising o h = (h.request.shape.rising, h.reply.shape.rising)
@@ -71,9 +71,9 @@ file-sorted s w =
       in_operations = operations-rising (network_of s).operations h.operations;
     }
 
-form-passed : {A : Type 0} (v : Verdict) (c : Checked A) {a : A} → after_form v c ≡ passed a → (v ≡ Done) × (c ≡ passed a)
-form-passed Done c e = (refl, e)
-form-passed (Refused why) c e = absurd (let z : ◌≡◌ {A = ℕ} 0 1 = cc in omega arith)
+form-passed : {A : Type 0} (v : Result (Unit {0}) Refusal) (c : Checked A) {a : A} → after_form v c ≡ passed a → (v ≡ (Ok tt)) × (c ≡ passed a)
+form-passed (Ok tt) c e = (refl, e)
+form-passed (Err why) c e = absurd (let z : ◌≡◌ {A = ℕ} 0 1 = cc in omega arith)
 
 -- What the checker accepts is derived ..
 pub accepted-derived : (s : List ℕ) (Es : List Environments) → check_file s ≡ passed Es → WellFormed s × DerivesNetwork (network_of s) Es

@@ -7,8 +7,6 @@ use native.Mathlib.Omega.{arith}
 use lib.Dec.{eqb}
 use borrow.Author.Tests.{eq-eqb, ne_eqb, eqb-true}
 use Rattle.refusal.specs.declared.Refusal.TheVariants.{UnfitKey}
-use Rattle.refusal.specs.declared.Verdict.{Verdict}
-use Rattle.refusal.specs.declared.Verdict.TheVariants.{Done, Refused}
 use Rattle.basics.specs.Choice.{pick}
 use Rattle.basics.specs.TestLaws.{not-false, not-true, one_less}
 use Rattle.scalar.specs.Basic.{int}
@@ -30,6 +28,8 @@ use Rattle.network.specs.Decode.{mark_of, siblings, written_out, type_of, operat
 use Rattle.network.proofs.DecodeLaws.{type-row, rows_more, rows_none}
 use Rattle.network.proofs.NetworkLaws.{service-key}
 use Rattle.check_keys.specs.Keys.{some_keyed, TypeTells, InputTells, KeysFrom, Keys}
+use Rattle.std.specs.Prelude.{Result, Ok, Err}
+use Rattle.refusal.specs.declared.Refusal.{Refusal}
 
 -- ---- the children of a type
 
@@ -65,7 +65,32 @@ module _ (file : List ℕ) (k r n : ℕ) where
         less : (i k : ℕ) → i ≤ k → (i ≡ k → ⊥) → i ≡ type_id file r → type_id file r < k
         less i k l e a = omega (arith, l, e, a)
 
-pub ruleset among-laws = (int-row, among_none, among-past, among-here, among_later)
+-- A loop over the n rows from r on is at row t.
+pub record AmongAt (file : List ℕ) (k r n t : ℕ) : Type 0 where
+  pub is : is_mandatory_int (find k (siblings file (type_of file) t (r + n - t))) ≡ is_mandatory_int (find k (siblings file (type_of file) r n))
+
+pub at-first : (file : List ℕ) (k r n : ℕ) → AmongAt file k r n r
+at-first file k r n = record { is = ap (λ (m : ℕ). is_mandatory_int (find k (siblings file (type_of file) r m))) (omega arith) }
+
+pub at-next : (file : List ℕ) (k r n t : ℕ) {i : ℕ} → t < r + n → i ≡ type_id file t → i ≤ k → (i ≡ k → ⊥) → AmongAt file k r n t → AmongAt file k r n (t + 1)
+at-next file k r n t l a u e h = record {
+  is =
+      ap (λ (m : ℕ). is_mandatory_int (find k (siblings file (type_of file) (t + 1) m))) (omega (arith, l))
+      ∙ (among_later file k t (r + n - t) (λ z. omega (arith, z, l)) a u e refl ∙ h.is);
+}
+
+pub at-past : (file : List ℕ) (k r n t : ℕ) {i : ℕ} → t < r + n → i ≡ type_id file t → k < i → AmongAt file k r n t
+    → false ≡ is_mandatory_int (find k (siblings file (type_of file) r n))
+at-past file k r n t l a u h = among-past file k t (r + n - t) (λ z. omega (arith, z, l)) a u ∙ h.is
+
+pub at-here : (file : List ℕ) (k r n t : ℕ) {i : ℕ} {x : Bool} → t < r + n → i ≡ type_id file t → i ≡ k → x ≡ is_mandatory_int (present (type_of file t))
+    → AmongAt file k r n t → x ≡ is_mandatory_int (find k (siblings file (type_of file) r n))
+at-here file k r n t l a e m h = among-here file k t (r + n - t) (λ z. omega (arith, z, l)) a e m ∙ h.is
+
+pub at-end : (file : List ℕ) (k r n t : ℕ) → r + n ≤ t → AmongAt file k r n t → false ≡ is_mandatory_int (find k (siblings file (type_of file) r n))
+at-end file k r n t l h = among_none file k t (r + n - t) (omega (arith, l)) ∙ h.is
+
+pub ruleset among-laws = (int-row, at-first, at-next, at-past, at-here, at-end)
 
 -- ---- the request type
 
@@ -147,7 +172,7 @@ pub ruleset input-laws = (input-output, input-unkeyed, input-typed)
 
 -- ---- operations
 
-pub keys_none : (file : List ℕ) (o n : ℕ) → n ≡ 0 → KeysFrom file o n Done
+pub keys_none : (file : List ℕ) (o n : ℕ) → n ≡ 0 → KeysFrom file o n (Ok tt)
 unfolding check_keys
 keys_none file o n z = record {
   tells = λ w l.
@@ -164,14 +189,14 @@ keys_step file o n t z e =
     ∙ ap (λ (y : Bool). next (with_row o (demand y UnfitKey (yields (tt {0}))))
     (λ u. check_keys (network_of file) (rows_from (operation_of file) (o + 1) (n - 1)))) (sym e)
 
-pub keys-first : (file : List ℕ) (o n : ℕ) {x : Bool} → (n ≡ 0 → ⊥) → InputTells file o x → not x ≡ true → KeysFrom file o n (Refused (UnfitKey o))
+pub keys-first : (file : List ℕ) (o n : ℕ) {x : Bool} → (n ≡ 0 → ⊥) → InputTells file o x → not x ≡ true → KeysFrom file o n (Err (UnfitKey o))
 unfolding next
 keys-first file o n {x} z k e = record {
   tells = λ w l.
       sym (ap (verdict_of {A = Unit {0}}) (keys_step file o n false z (sym (not-true x e) ∙ k.tells w (omega (arith, one_less n z)))));
 }
 
-pub keys-later : (file : List ℕ) (o n : ℕ) {x : Bool} {v : Verdict} → (n ≡ 0 → ⊥) → InputTells file o x → not x ≡ false → KeysFrom file (o + 1) (n - 1) v
+pub keys-later : (file : List ℕ) (o n : ℕ) {x : Bool} {v : Result (Unit {0}) Refusal} → (n ≡ 0 → ⊥) → InputTells file o x → not x ≡ false → KeysFrom file (o + 1) (n - 1) v
     → KeysFrom file o n v
 unfolding next
 keys-later file o n {x} z k e h = record {
@@ -202,7 +227,28 @@ keyed-later file q n z a e h =
     h ∙ sym (keyed-step file q n z
     ∙ ap (λ (t : Bool). not t || some_keyed (rows_from (service_of file) (q + 1) (n - 1))) (eq-eqb (service_key file q) 0 (sym a ∙ e)))
 
-pub ruleset keyed-laws = (keyed-none, keyed-here, keyed-later)
+-- A loop over the services is at row q, of n.
+pub record KeyedAt (file : List ℕ) (q n : ℕ) : Type 0 where
+  pub is : some_keyed (rows_from (service_of file) q (n - q)) ≡ some_keyed (rows_from (service_of file) 0 (service_count file))
+
+pub keyed-start : (file : List ℕ) {n : ℕ} → n ≡ service_count file → KeyedAt file 0 n
+keyed-start file {n} e = record { is = ap (λ (m : ℕ). some_keyed (rows_from (service_of file) 0 m)) (omega (arith, e)) }
+
+pub keyed-next : (file : List ℕ) (q n : ℕ) {k : ℕ} → q < n → k ≡ service_key file q → k ≡ 0 → KeyedAt file q n → KeyedAt file (q + 1) n
+keyed-next file q n l a e h = record {
+  is =
+      ap (λ (m : ℕ). some_keyed (rows_from (service_of file) (q + 1) m)) (omega (arith, l))
+      ∙ (keyed-later file q (n - q) (λ z. omega (arith, z, l)) a e refl ∙ h.is);
+}
+
+pub keyed-found : (file : List ℕ) (q n : ℕ) {k : ℕ} → q < n → k ≡ service_key file q → (k ≡ 0 → ⊥) → KeyedAt file q n
+    → true ≡ some_keyed (rows_from (service_of file) 0 (service_count file))
+keyed-found file q n l a e h = keyed-here file q (n - q) (λ z. omega (arith, z, l)) a e ∙ h.is
+
+pub keyed-end : (file : List ℕ) (q n : ℕ) → n ≤ q → KeyedAt file q n → false ≡ some_keyed (rows_from (service_of file) 0 (service_count file))
+keyed-end file q n l h = keyed-none file q (n - q) (omega (arith, l)) ∙ h.is
+
+pub ruleset keyed-laws = (keyed-start, keyed-next, keyed-found, keyed-end)
 
 -- ---- the file
 
@@ -233,16 +279,34 @@ unkeyed-passes N (o ∷ l) e =
     free true k h e = ap (λ (t : Bool). implies t h) e
     free false k h e = refl
 
-pub keys-unkeyed : (file : List ℕ) {n : ℕ} {x : Bool} → n ≡ service_count file → x ≡ some_keyed (rows_from (service_of file) 0 n) → not x ≡ true → Keys file Done
+pub keys-unkeyed : (file : List ℕ) {x : Bool} → x ≡ some_keyed (rows_from (service_of file) 0 (service_count file)) → not x ≡ true → Keys file (Ok tt)
 unfolding network_of
-keys-unkeyed file {n} {x} a b e = record {
+keys-unkeyed file {x} b e = record {
   tells = λ w.
-      sym (ap (verdict_of {A = Unit {0}}) (unkeyed-passes (network_of file) (network_of file).operations
-      (ap (λ (m : ℕ). some_keyed (rows_from (service_of file) 0 m)) (sym a) ∙ (sym b ∙ not-true x e))));
+      sym (ap (verdict_of {A = Unit {0}}) (unkeyed-passes (network_of file) (network_of file).operations (sym b ∙ not-true x e)));
 }
 
-pub keys-all : (file : List ℕ) {n : ℕ} {v : Verdict} → n ≡ operation_count file → KeysFrom file 0 n v → Keys file v
+pub keys-all : (file : List ℕ) {n : ℕ} {v : Result (Unit {0}) Refusal} → n ≡ operation_count file → KeysFrom file 0 n v → Keys file v
 unfolding network_of
 keys-all file {n} {v} e k = record { tells = λ w. (subst (λ (m : ℕ). KeysFrom file 0 m v) e k).tells w (omega arith) }
 
-pub ruleset keys-laws = (keys_none, keys-first, keys-later, keys-unkeyed, keys-all)
+-- A loop over the operations is at row o, of n: what those from o on answer is the answer.
+pub record KeysAt (file : List ℕ) (o n : ℕ) : Type 0 where
+  pub rest : (v : Result (Unit {0}) Refusal) → KeysFrom file o (n - o) v → Keys file v
+
+pub keys-start : (file : List ℕ) {n : ℕ} → n ≡ operation_count file → KeysAt file 0 n
+keys-start file {n} e = record { rest = λ v k. keys-all file (omega (arith, e)) k }
+
+pub keys-next : (file : List ℕ) (o n : ℕ) {x : Bool} → o < n → InputTells file o x → not x ≡ false → KeysAt file o n → KeysAt file (o + 1) n
+keys-next file o n l k e h = record {
+  rest = λ v m.
+      h.rest v (keys-later file o (n - o) (λ z. omega (arith, z, l)) k e (subst (λ (y : ℕ). KeysFrom file (o + 1) y v) (omega (arith, l)) m));
+}
+
+pub keys-unfit : (file : List ℕ) (o n : ℕ) {x : Bool} → o < n → InputTells file o x → not x ≡ true → KeysAt file o n → Keys file (Err (UnfitKey o))
+keys-unfit file o n l k e h = h.rest (Err (UnfitKey o)) (keys-first file o (n - o) (λ z. omega (arith, z, l)) k e)
+
+pub keys-end : (file : List ℕ) (o n : ℕ) → n ≤ o → KeysAt file o n → Keys file (Ok tt)
+keys-end file o n l h = h.rest (Ok tt) (keys_none file o (n - o) (omega (arith, l)))
+
+pub ruleset keys-laws = (keys-unkeyed, keys-start, keys-next, keys-unfit, keys-end)

@@ -3,12 +3,13 @@
 
 ghost use Rattle.std.specs.Prelude.{◌≡◌, ◌+◌, ◌≤◌};
 ghost use Rattle.tree_forest.specs.Forest.{present, find};
+ghost use Rattle.network.specs.Layout.{service_count};
 ghost use Rattle.network.specs.Decode.{siblings, type_of, service_of, rows_from};
 ghost use Rattle.check_typing.specs.NetworkChecker.{is_mandatory_int};
-ghost use Rattle.check_keys.specs.Keys.{some_keyed, TypeTells, InputTells, KeysFrom, Keys};
+ghost use Rattle.check_keys.specs.Keys.{some_keyed, TypeTells, InputTells, Keys};
 
 use network_layout::both;
-use refusal::{Refusal, Verdict};
+use refusal::Refusal;
 
 // Is T row r a mandatory int?
 fn mandatory_int(file: &[u8], r: u16) -> bool
@@ -23,17 +24,16 @@ fn int_among(file: &[u8], k: u16, r: u16, n: u16) -> bool
     requires { r + n ≤ 65535 }
     ensures { result ≡ is_mandatory_int (find k (siblings file.now (type_of file.now) r n)) }
 {
-    if n == 0 {
-        return false;
+    for t in r..r + n {
+        let id = network_rows::type_id(file, t);
+        if k < id {
+            return false;
+        }
+        if id == k {
+            return mandatory_int(file, t);
+        }
     }
-    let id = network_rows::type_id(file, r);
-    if k < id {
-        return false;
-    }
-    if id == k {
-        return mandatory_int(file, r);
-    }
-    int_among(file, k, r + 1, n - 1)
+    false
 }
 
 // Does the type of T row t have the id k "as a mandatory int child of its root"?
@@ -63,40 +63,31 @@ fn input_keyed(file: &[u8], o: u16) -> bool
     has_key(file, k, network_rows::request_type(file, o))
 }
 
-// The n operations from row o on: the first input that is unfit.
-fn keys_from(file: &[u8], o: u16, n: u16) -> Verdict
-    requires { o + n ≤ 65535 }
-    ensures { KeysFrom file.now o n result }
+// Is a service of the file keyed?
+fn any_keyed(file: &[u8]) -> bool
+    ensures { result ≡ some_keyed (rows_from (service_of file.now) 0 (service_count file.now)) }
 {
-    if n == 0 {
-        return Verdict::Done;
+    let n = network_layout::service_count(file);
+    for q in 0..n {
+        if network_rows::service_key(file, q) != 0 {
+            return true;
+        }
     }
-    if !input_keyed(file, o) {
-        return Verdict::Refused(Refusal::UnfitKey(o));
-    }
-    keys_from(file, o + 1, n - 1)
+    false
 }
 
-// Is one of the n services from row q on keyed?
-fn keyed_from(file: &[u8], q: u16, n: u16) -> bool
-    requires { q + n ≤ 65535 }
-    ensures { result ≡ some_keyed (rows_from (service_of file.now) q n) }
-{
-    if n == 0 {
-        return false;
-    }
-    if network_rows::service_key(file, q) != 0 {
-        return true;
-    }
-    keyed_from(file, q + 1, n - 1)
-}
-
-// All inputs of the file; where no service is keyed none is looked at.
-pub fn check_keys(file: &[u8]) -> Verdict
+// All inputs of the file: the first that is unfit. Where no service is keyed none is looked at.
+pub fn check_keys(file: &[u8]) -> Result<(), Refusal>
     ensures { Keys file.now result }
 {
-    if !keyed_from(file, 0, network_layout::service_count(file)) {
-        return Verdict::Done;
+    if !any_keyed(file) {
+        return Ok(());
     }
-    keys_from(file, 0, network_layout::operation_count(file))
+    let n = network_layout::operation_count(file);
+    for o in 0..n {
+        if !input_keyed(file, o) {
+            return Err(Refusal::UnfitKey(o));
+        }
+    }
+    Ok(())
 }

@@ -9,8 +9,6 @@ use borrow.Author.Tests.{le-leb, lt-leb}
 use Rattle.tree_forest.specs.Forest.{end, measure}
 use Rattle.refusal.specs.declared.Refusal.{Refusal}
 use Rattle.refusal.specs.Refusal.{number_of}
-use Rattle.refusal.specs.declared.Verdict.{Verdict}
-use Rattle.refusal.specs.declared.Verdict.TheVariants.{Done, Refused}
 use Rattle.basics.specs.Choice.{pick}
 use Rattle.network_syntax.specs.Syntax.{Types, Optional, none, some, Service}
 use Rattle.network.specs.Form.{form_of}
@@ -32,6 +30,7 @@ use Rattle.check_network.specs.Answer.{environment_of, pair_of, pair_at, check_a
 use Rattle.check_listing.specs.Listed.{nodes_bytes, if_there_bytes, pair_bytes, environments_bytes, if_there_nodes, environments_nodes, has_room, listed_number, listed_count, listed_bytes}
 use Rattle.check_listing.specs.Writing.{nodes_by, pair_nodes_by, answer_nodes_by, EnvironmentWritten, PairWritten}
 use Rattle.check_listing.proofs.Records.{nodes-told}
+use Rattle.std.specs.Prelude.{Result, Ok, Err}
 
 -- ---- an environment that may not be there
 
@@ -96,9 +95,9 @@ few file = by (form_of file) refl
     after (passed Es) (passed u) (refused w) h = omega arith
     after (passed Es) (passed u) (passed v) h = h
 
-    by : (v : Verdict) → form_of file ≡ v → length (environments_of (after_form v (check_network (network_of file)))) ≤ 4
-    by (Refused why) e = omega arith
-    by Done e =
+    by : (v : Result (Unit {0}) Refusal) → form_of file ≡ v → length (environments_of (after_form v (check_network (network_of file)))) ≤ 4
+    by (Err why) e = omega arith
+    by (Ok tt) e =
         after (check_services 0 (network_of file).services) (check_outputs (network_of file) (network_of file).operations)
         (check_keys (network_of file) (network_of file).operations)
         (omega (arith, services-few 0 (network_of file).services, service-length file, (counts-kept file e).services))
@@ -208,19 +207,19 @@ module _ (Es : List Environments) (f : length Es ≤ 4) {x : Answer} {n : ℕ} (
 -- ---- `list`
 
 pub list-refused : (c : Checked (List Environments)) {x : Answer} {why : Refusal} {number : ℕ} {o : List ℕ} → (x ≡ check_answer c) × IfPassed ShapedAll c
-    → x.verdict ≡ Refused why → number ≡ number_of why → Told c o o number 0
+    → x.verdict ≡ Err why → number ≡ number_of why → Told c o o number 0
 unfolding check_answer
 list-refused (refused w) {x} {why} k v e = let z : why ≡ w = cc in (e ∙ ap number_of z, (refl, refl))
 list-refused (passed Es) k v e = absurd (let z : ◌≡◌ {A = ℕ} 0 1 = cc in omega arith)
 
 pub list-small : (c : Checked (List Environments)) {x : Answer} {n : ℕ} {o : List ℕ} → length (environments_of c) ≤ 4 → (x ≡ check_answer c) × IfPassed ShapedAll c
-    → x.verdict ≡ Done → (n ≡ answer_nodes_by x) × (n ≤ 576) → length o < 18 * n → Told c o o 1 n
+    → x.verdict ≡ (Ok tt) → (n ≡ answer_nodes_by x) × (n ≤ 576) → length o < 18 * n → Told c o o 1 n
 unfolding check_answer
 list-small (refused w) f k v m l = absurd (let z : ◌≡◌ {A = ℕ} 0 1 = cc in omega arith)
 list-small (passed Es) f k v m l = told-small Es f k.0 k.1 m l
 
 pub list_all : (c : Checked (List Environments)) {x : Answer} {n : ℕ} {o o₁ o₂ o₃ o₄ : List ℕ} {a b d r : ℕ} → length (environments_of c) ≤ 4
-    → (x ≡ check_answer c) × IfPassed ShapedAll c → x.verdict ≡ Done → (n ≡ answer_nodes_by x) × (n ≤ 576) → 18 * n ≤ length o
+    → (x ≡ check_answer c) × IfPassed ShapedAll c → x.verdict ≡ (Ok tt) → (n ≡ answer_nodes_by x) × (n ≤ 576) → 18 * n ≤ length o
     → PairWritten x.first 0 o o₁ 0 a → PairWritten x.second 1 o₁ o₂ a b → PairWritten x.third 2 o₂ o₃ b d
     → PairWritten x.fourth 3 o₃ o₄ d r → Told c o o₄ 0 n
 unfolding check_answer

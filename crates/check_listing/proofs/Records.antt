@@ -1,13 +1,14 @@
 -- Records of nodes: one after another, and those of an environment, at each of the ways out of the code.
 use mathlib.Core.Path.{◌≡◌, refl, sym, ap, subst, ◌∙◌}
 use mathlib.Core.List.{List, [], ◌∷◌, ◌++◌}
-use mathlib.Core.Bool.{Bool}
+use mathlib.Core.Bool.{Bool, true, false}
 use Prim.Native.Nat.{ℕ, zero, suc, ◌+◌, ◌-◌, ◌*◌, ◌/◌, ◌%◌, ◌≤◌, ◌<◌}
 use native.Mathlib.Numerals.{add-one}
 use native.Mathlib.Omega.{arith}
-use lib.ListN.{length, get_or, drop, length-append}
-use lib.Seq.{drop-cons, drop-length}
+use lib.ListN.{length, get_or, take, drop, length-append}
+use lib.Seq.{drop-length}
 use borrow.Author.Tests.{lt-ltb, le-ltb}
+use mir.Val.{bool_byte}
 use Rattle.tree_forest.specs.Forest.{end, node, measure, nodes, levels}
 use Rattle.basics.specs.Choice.{pick}
 use Rattle.basics.specs.TestLaws.{one_less}
@@ -18,23 +19,44 @@ use Rattle.check_environments.specs.declared.Environment.{Environment}
 use Rattle.check_environments.specs.declared.Entry.{Entry}
 use Rattle.check_environments.specs.Environment.{standing, EnvironmentFor}
 use Rattle.check_environments.specs.EnvironmentLaws.{bytes-length, length-preorder}
-use Rattle.check_environments.specs.Listing.{no_entry, preorder, Lists}
+use Rattle.std.specs.Prelude.{Option, Some, None}
+use Rattle.check_environments.specs.Listing.{preorder, node_in, Lists}
 use Rattle.check_listing.specs.Listed.{id_bytes, node_bytes, nodes_bytes}
 use Rattle.check_listing.specs.Writing.{nodes_by, NodesWritten, EnvironmentWritten}
 
 -- ---- the bytes of a record
 
-pub ids-wrote : {o o₁ o₂ o₃ o₄ o₅ o₆ : List ℕ} {w a b c d e r : ℕ} (ids : List ℕ) → Wrote o o₁ w a 2 (get_or ids 0 0 % 256 ∷ get_or ids 0 0 / 256 ∷ [])
-    → Wrote o₁ o₂ a b 2 (get_or ids 1 0 % 256 ∷ get_or ids 1 0 / 256 ∷ []) → Wrote o₂ o₃ b c 2 (get_or ids 2 0 % 256 ∷ get_or ids 2 0 / 256 ∷ [])
-    → Wrote o₃ o₄ c d 2 (get_or ids 3 0 % 256 ∷ get_or ids 3 0 / 256 ∷ []) → Wrote o₄ o₅ d e 2 (get_or ids 4 0 % 256 ∷ get_or ids 4 0 / 256 ∷ [])
-    → Wrote o₅ o₆ e r 2 (get_or ids 5 0 % 256 ∷ get_or ids 5 0 / 256 ∷ []) → Wrote o o₆ w r 12 (id_bytes ids)
-ids-wrote ids p q s t u v = wrote-more (wrote-more (wrote-more (wrote-more (wrote-more p q) s) t) u) v
+-- The k-th id after those before it.
+ids-step : (ids : List ℕ) (k : ℕ) → k < 6
+    → take (2 * k) (id_bytes ids) ++ (get_or ids k 0 % 256 ∷ get_or ids k 0 / 256 ∷ []) ≡ take (2 * (k + 1)) (id_bytes ids)
+ids-step ids zero h = refl
+ids-step ids (suc zero) h = refl
+ids-step ids (suc (suc zero)) h = refl
+ids-step ids (suc (suc (suc zero))) h = refl
+ids-step ids (suc (suc (suc (suc zero)))) h = refl
+ids-step ids (suc (suc (suc (suc (suc zero))))) h = refl
+ids-step ids (suc (suc (suc (suc (suc (suc k)))))) h = absurd (omega (arith, h))
+
+pub ids-none : (o ids : List ℕ) (w : ℕ) → w ≤ length o → Wrote o o w w (2 * 0) (take (2 * 0) (id_bytes ids))
+ids-none o ids w h = wrote_none o w h
+
+pub ids-next : {o o₁ o₂ : List ℕ} {w a r x : ℕ} (ids : List ℕ) (k : ℕ) → k < 6 → x ≡ get_or ids k 0 → Wrote o o₁ w a (2 * k) (take (2 * k) (id_bytes ids))
+    → Wrote o₁ o₂ a r 2 (x % 256 ∷ x / 256 ∷ []) → Wrote o o₂ w r (2 * (k + 1)) (take (2 * (k + 1)) (id_bytes ids))
+ids-next ids k h e p q =
+    wrote_as (ap (λ (y : ℕ). take (2 * k) (id_bytes ids) ++ (y % 256 ∷ y / 256 ∷ [])) e ∙ ids-step ids k h) (omega arith) (wrote-more p q)
+
+pub ids-end : {o o₁ : List ℕ} {w r : ℕ} (ids : List ℕ) (k : ℕ) → k ≡ 6 → Wrote o o₁ w r (2 * k) (take (2 * k) (id_bytes ids)) → Wrote o o₁ w r 12 (id_bytes ids)
+ids-end {o} {o₁} {w} {r} ids k e p = subst (λ (y : ℕ). Wrote o o₁ w r (2 * y) (take (2 * y) (id_bytes ids))) e p
+
+byte-flag : (b : Bool) → bool_byte b ≡ pick b 1 0
+byte-flag true = refl
+byte-flag false = refl
 
 pub node-wrote : {o o₁ o₂ o₃ o₄ o₅ o₆ o₇ : List ℕ} {w a b c d e f r : ℕ} (q role m : ℕ) (x : Entry) → Wrote o o₁ w a 1 (q ∷ []) → Wrote o₁ o₂ a b 1 (role ∷ [])
-    → m ≡ pick x.mandatory 1 0 → Wrote o₂ o₃ b c 1 (m ∷ []) → Wrote o₃ o₄ c d 1 (x.basic ∷ []) → Wrote o₄ o₅ d e 1 (x.depth ∷ [])
+    → m ≡ bool_byte x.mandatory → Wrote o₂ o₃ b c 1 (m ∷ []) → Wrote o₃ o₄ c d 1 (x.basic ∷ []) → Wrote o₄ o₅ d e 1 (x.depth ∷ [])
     → Wrote o₅ o₆ e f 1 (0 ∷ []) → Wrote o₆ o₇ f r 12 (id_bytes x.ids) → Wrote o o₇ w r 18 (node_bytes q role x)
 node-wrote q role m x g h e i j k l t =
-    wrote_as (ap (λ (y : ℕ). q ∷ role ∷ y ∷ x.basic ∷ x.depth ∷ 0 ∷ id_bytes x.ids) e) refl
+    wrote_as (ap (λ (y : ℕ). q ∷ role ∷ y ∷ x.basic ∷ x.depth ∷ 0 ∷ id_bytes x.ids) (e ∙ byte-flag x.mandatory)) refl
     (wrote-more (wrote-more (wrote-more (wrote-more (wrote-more (wrote-more g h) i) j) k) l) t)
 
 -- ---- the nodes of an environment
@@ -49,11 +71,27 @@ unfolding Shallow
 shallow-both d [] ys h k = k
 shallow-both d (x ∷ xs) ys h k = (h.0, shallow-both d xs ys h.1 k)
 
-shallow-at : (d i : ℕ) (xs : List Entry) → Shallow d xs → (get_or xs i no_entry).depth ≤ d
-unfolding Shallow
-shallow-at d i [] h = omega arith
-shallow-at d zero (x ∷ xs) h = h.0
-shallow-at d (suc i) (x ∷ xs) h = shallow-at d i xs h.1
+some-once : {x y : Entry} → Some x ≡ Some y → x ≡ y
+some-once e = cc
+
+shallow-at : (d i : ℕ) (xs : List Entry) (y : Entry) → Shallow d xs → node_in xs i ≡ Some y → y.depth ≤ d
+unfolding Shallow node_in
+shallow-at d i [] y h e = absurd cc
+shallow-at d zero (x ∷ xs) y h e = subst (λ (z : Entry). z.depth ≤ d) (some-once e) h.0
+shallow-at d (suc i) (x ∷ xs) y h e = shallow-at d i xs y h.1 e
+
+-- a node that is listed is the first of those from its number on; each number below the length has one
+drop-node : (xs : List Entry) (i : ℕ) (y : Entry) → node_in xs i ≡ Some y → drop i xs ≡ y ∷ drop (suc i) xs
+unfolding node_in
+drop-node [] i y e = absurd cc
+drop-node (x ∷ xs) zero y e = ap (λ (z : Entry). z ∷ xs) (some-once e)
+drop-node (x ∷ xs) (suc i) y e = drop-node xs i y e
+
+node-there : (xs : List Entry) (i : ℕ) → i < length xs → node_in xs i ≡ None → ⊥
+unfolding node_in
+node-there [] i l e = omega (arith, l)
+node-there (x ∷ xs) zero l e = absurd cc
+node-there (x ∷ xs) (suc i) l e = node-there xs i (omega (arith, l)) e
 
 shallow-preorder : (d : ℕ) (Γ : Types) (above : List ℕ) → length above + levels Γ ≤ d → Shallow d (preorder above Γ)
 unfolding preorder measure Shallow
@@ -80,7 +118,7 @@ count-short e l = (sym (ap (λ (b : Bool). pick b 0 ((e.len - 5) / 7)) (le-ltb 5
 pub count-told : (e : Environment) → e.len ≤ 512 → ((e.len - 5) / 7 ≡ nodes_by e) × ((e.len - 5) / 7 ≤ 72)
 count-told e h = (sym (ap (λ (b : Bool). pick b 0 ((e.len - 5) / 7)) (le-ltb 512 e.len h)), omega arith)
 
--- ---- the ways out of `put_nodes`
+-- ---- the nodes from the i-th on
 
 module _ (e : Environment) (q role i n : ℕ) {o : List ℕ} {w : ℕ} where
   pub nodes-none : n ≡ 0 → w + 18 * n ≤ length o → NodesWritten e q role i n o o w w
@@ -93,25 +131,30 @@ module _ (e : Environment) (q role i n : ℕ) {o : List ℕ} {w : ℕ} where
         wrote_as (sym (ap (nodes_bytes q role) d)) (omega (arith, z)) (wrote_none o w (omega (arith, l)));
   }
 
-  pub nodes-deep : (x : Entry) → Lists e i x → 6 < x.depth → NodesWritten e q role i n o o w w
-  nodes-deep x h l = record {
+  pub nodes-past : (y : Option Entry) → (n ≡ 0 → ⊥) → Lists e i y → y ≡ None → NodesWritten e q role i n o o w w
+  nodes-past y z h p = record {
     near = omega arith;
-    tells = λ Γ st k.
-        let s = shallow-at 6 i (preorder [] Γ) (shallow-preorder 6 Γ [] (omega (arith, st.shape.shallow))) in
-        absurd (omega (arith, l, s, ap (λ (y : Entry). y.depth) (h.tells Γ st)));
+    tells = λ Γ st k. absurd (node-there (preorder [] Γ) i (omega (arith, one_less n z, k, length-preorder Γ [])) (sym (h.tells Γ st) ∙ p));
   }
 
-  pub nodes-next : {o₁ o₂ : List ℕ} {a r : ℕ} (x : Entry) → (n ≡ 0 → ⊥) → Lists e i x → Wrote o o₁ w a 18 (node_bytes q role x)
+  pub nodes-deep : (y : Option Entry) (x : Entry) → Lists e i y → y ≡ Some x → 6 < x.depth → NodesWritten e q role i n o o w w
+  nodes-deep y x h p l = record {
+    near = omega arith;
+    tells = λ Γ st k.
+        let s = shallow-at 6 i (preorder [] Γ) x (shallow-preorder 6 Γ [] (omega (arith, st.shape.shallow))) (sym (h.tells Γ st) ∙ p) in
+        absurd (omega (arith, l, s));
+  }
+
+  pub nodes-next : {o₁ o₂ : List ℕ} {a r : ℕ} (y : Option Entry) (x : Entry) → (n ≡ 0 → ⊥) → Lists e i y → y ≡ Some x → Wrote o o₁ w a 18 (node_bytes q role x)
       → NodesWritten e q role (i + 1) (n - 1) o₁ o₂ a r → NodesWritten e q role i n o o₂ w r
   unfolding nodes_bytes
-  nodes-next {o₁} {o₂} {a} {r} x z h v t = record {
+  nodes-next {o₁} {o₂} {a} {r} y x z h p v t = record {
     near = omega (arith, one_less n z, v.next, t.near);
     tells = λ Γ st k.
         let P = preorder [] Γ in
-        let d : drop i P ≡ get_or P i no_entry ∷ drop (suc i) P = drop-cons P i no_entry (omega (arith, one_less n z, k, length-preorder Γ [])) in
+        let d = drop-node P i x (sym (h.tells Γ st) ∙ p) in
         let b : node_bytes q role x ++ nodes_bytes q role (drop (i + 1) P) ≡ nodes_bytes q role (drop i P) =
-        ap (λ (y : Entry). node_bytes q role y ++ nodes_bytes q role (drop (i + 1) P)) (h.tells Γ st)
-        ∙ (ap (λ (j : ℕ). node_bytes q role (get_or P i no_entry) ++ nodes_bytes q role (drop j P)) (add-one i) ∙ sym (ap (nodes_bytes q role) d)) in
+        ap (λ (j : ℕ). node_bytes q role x ++ nodes_bytes q role (drop j P)) (add-one i) ∙ sym (ap (nodes_bytes q role) d) in
         wrote_as b (omega (arith, one_less n z)) (wrote-more v (t.tells Γ st (omega (arith, one_less n z, k))));
   }
 
@@ -123,6 +166,34 @@ environment-wrote {e} {q} {role} {n} {w} {r} {o} {o₁} k t = record {
   tells = λ Γ st. subst (λ (m : ℕ). Wrote o o₁ w r (18 * m) (nodes_bytes q role (preorder [] Γ))) k (t.tells Γ st (omega (arith, k, nodes-told e Γ st)));
 }
 
-pub ruleset nodes-laws = (nodes-none, nodes-deep, nodes-next)
+-- A loop over the n nodes is at the i-th: it has written up to `at`, and what is written from there on is written from w on.
+pub record NodesAt (e : Environment) (q role i n : ℕ) (o o₁ : List ℕ) (w at : ℕ) : Type 0 where
+  pub near : at ≤ w + 18 * i
+  pub rest : (o₂ : List ℕ) (r : ℕ) → NodesWritten e q role i (n - i) o₁ o₂ at r → NodesWritten e q role 0 n o o₂ w r
+
+pub at-start : (e : Environment) (q role n : ℕ) (o : List ℕ) (w : ℕ) → NodesAt e q role 0 n o o w w
+at-start e q role n o w = record {
+  near = omega arith;
+  rest = λ o₂ r t. let z : n - 0 ≡ n = omega arith in subst (λ (m : ℕ). NodesWritten e q role 0 m o o₂ w r) z t;
+}
+
+module _ {e : Environment} {q role i n : ℕ} {o o₁ : List ℕ} {w at : ℕ} (h : NodesAt e q role i n o o₁ w at) where
+  pub at-end : n ≤ i → w + 18 * n ≤ length o₁ → i ≤ n → NodesWritten e q role 0 n o o₁ w at
+  at-end l k m = h.rest o₁ at (nodes-none e q role i (n - i) (omega (arith, l)) (omega (arith, h.near, l, k, m)))
+
+  pub at-past : (y : Option Entry) → i < n → Lists e i y → y ≡ None → NodesWritten e q role 0 n o o₁ w at
+  at-past y l k p = h.rest o₁ at (nodes-past e q role i (n - i) y (λ z. omega (arith, z, l)) k p)
+
+  pub at-deep : (y : Option Entry) (x : Entry) → Lists e i y → y ≡ Some x → 6 < x.depth → NodesWritten e q role 0 n o o₁ w at
+  at-deep y x k p d = h.rest o₁ at (nodes-deep e q role i (n - i) y x k p d)
+
+  pub at-next : {o₂ : List ℕ} {b : ℕ} (y : Option Entry) (x : Entry) → i < n → Lists e i y → y ≡ Some x → Wrote o₁ o₂ at b 18 (node_bytes q role x)
+      → NodesAt e q role (i + 1) n o o₂ w b
+  at-next {o₂} {b} y x l k p v = record {
+    near = omega (arith, h.near, v.next);
+    rest = λ o₃ r t.
+        let z : n - (i + 1) ≡ n - i - 1 = omega (arith, l) in
+        h.rest o₃ r (nodes-next e q role i (n - i) y x (λ z. omega (arith, z, l)) k p v (subst (λ (m : ℕ). NodesWritten e q role (i + 1) m o₂ o₃ b r) z t));
+  }
 
 pub ruleset count-laws = (count_long, count-short, count-told)

@@ -2,37 +2,25 @@
 #![tactic(auto)]
 
 ghost use Rattle.std.specs.Prelude.{◌≡◌, ◌+◌, ◌*◌, ◌≤◌, ◌<◌, length};
-ghost use Rattle.basics.specs.Choice.{pick};
 ghost use Rattle.check_files.specs.FileChecker.{check_file};
 ghost use Rattle.tree_edit.specs.Wrote.{Wrote};
 ghost use Rattle.check_listing.specs.Listed.{id_bytes, node_bytes, listed_number, listed_count, listed_bytes};
-ghost use Rattle.check_listing.specs.Writing.{nodes_by, pair_nodes_by, answer_nodes_by, NodesWritten, EnvironmentWritten, PairWritten};
+ghost use Rattle.check_listing.specs.Writing.{nodes_by, pair_nodes_by, answer_nodes_by, EnvironmentWritten, PairWritten};
 
 use check_environments::{Entry, Environment};
 use check_network::{Answer, Pair};
-use refusal::Verdict;
-
-// 1 for true, 0 for false.
-fn flag(b: bool) -> u8
-    ensures { result ≡ pick b 1 0 }
-{
-    if b {
-        return 1;
-    }
-    0
-}
+use refusal::Refusal;
 
 // Writes six ids.
 fn put_ids(out: &mut [u8], w: usize, ids: [u16; 6]) -> usize
     requires { w + 12 ≤ length out.old }
     ensures { Wrote out.old out.new w result 12 (id_bytes ids) }
 {
-    let a = tree_edit::push_id(out, w, ids[0]);
-    let b = tree_edit::push_id(out, a, ids[1]);
-    let c = tree_edit::push_id(out, b, ids[2]);
-    let d = tree_edit::push_id(out, c, ids[3]);
-    let e = tree_edit::push_id(out, d, ids[4]);
-    tree_edit::push_id(out, e, ids[5])
+    let mut at = w;
+    for id in ids {
+        at = tree_edit::push_id(out, at, id);
+    }
+    at
 }
 
 // Writes a node's record.
@@ -42,28 +30,11 @@ fn put_node(out: &mut [u8], w: usize, q: u8, role: u8, x: Entry) -> usize
 {
     let a = tree_edit::push(out, w, q);
     let b = tree_edit::push(out, a, role);
-    let c = tree_edit::push(out, b, flag(x.mandatory));
+    let c = tree_edit::push(out, b, u8::from(x.mandatory));
     let d = tree_edit::push(out, c, x.basic);
     let e = tree_edit::push(out, d, x.depth as u8);
     let f = tree_edit::push(out, e, 0);
-    let ids = x.ids;
-    put_ids(out, f, ids)
-}
-
-// Writes the n nodes of the environment from the i-th on.
-fn put_nodes(out: &mut [u8], w: usize, q: u8, role: u8, e: Environment, i: usize, n: usize) -> usize
-    requires { (w + 18 * n ≤ length out.old) × (i + n ≤ 100) }
-    ensures { NodesWritten e q role i n out.old out.new w result }
-{
-    if n == 0 {
-        return w;
-    }
-    let x = check_environments::node_at(e, i);
-    if 6 < x.depth {
-        return w;
-    }
-    let next = put_node(out, w, q, role, x);
-    put_nodes(out, next, q, role, e, i + 1, n - 1)
+    put_ids(out, f, x.ids)
 }
 
 // How many nodes the environment has, by its length.
@@ -84,7 +55,18 @@ fn put_environment(out: &mut [u8], w: usize, q: u8, role: u8, e: Environment) ->
     requires { w + 18 * nodes_by e ≤ length out.old }
     ensures { EnvironmentWritten e q role out.old out.new w result }
 {
-    put_nodes(out, w, q, role, e, 0, node_count(e))
+    let n = node_count(e);
+    let mut at = w;
+    for i in 0..n {
+        let Some(x) = check_environments::node_at(e, i) else {
+            return at;
+        };
+        if 6 < x.depth {
+            return at;
+        }
+        at = put_node(out, at, q, role, x);
+    }
+    at
 }
 
 // Writes the records of a service, starter first.
@@ -92,28 +74,20 @@ fn put_pair(out: &mut [u8], w: usize, q: u8, p: Pair) -> usize
     requires { w + 18 * pair_nodes_by p ≤ length out.old }
     ensures { PairWritten p q out.old out.new w result }
 {
-    let s = p.starter;
-    let a = put_environment(out, w, q, 0, s);
-    let c = p.client;
-    put_environment(out, a, q, 1, c)
+    let a = put_environment(out, w, q, 0, p.starter);
+    put_environment(out, a, q, 1, p.client)
 }
 
 fn pair_count(p: Pair) -> usize
     ensures { (result ≡ pair_nodes_by p) × (result ≤ 144) }
 {
-    let s = p.starter;
-    let c = p.client;
-    node_count(s) + node_count(c)
+    node_count(p.starter) + node_count(p.client)
 }
 
 fn answer_count(x: Answer) -> usize
     ensures { (result ≡ answer_nodes_by x) × (result ≤ 576) }
 {
-    let a = x.first;
-    let b = x.second;
-    let c = x.third;
-    let d = x.fourth;
-    pair_count(a) + (pair_count(b) + (pair_count(c) + pair_count(d)))
+    pair_count(x.first) + (pair_count(x.second) + (pair_count(x.third) + pair_count(x.fourth)))
 }
 
 // What is told of a file: 0, the number of its refusal, or 1 for too small a buffer; and how many nodes its environments have.
@@ -130,8 +104,7 @@ pub fn list(file: &[u8], out: &mut [u8]) -> Listing
     ensures out_after { out.new ≡ listed_bytes (check_file file.now) out.old }
 {
     let x = check_network::check(file);
-    let v = x.verdict;
-    if let Verdict::Refused(why) = v {
+    if let Err(why) = x.verdict {
         return Listing {
             number: refusal::number_of(why),
             count: 0,
@@ -144,14 +117,10 @@ pub fn list(file: &[u8], out: &mut [u8]) -> Listing
             count: n,
         };
     }
-    let p = x.first;
-    let a = put_pair(out, 0, 0, p);
-    let q = x.second;
-    let b = put_pair(out, a, 1, q);
-    let r = x.third;
-    let c = put_pair(out, b, 2, r);
-    let s = x.fourth;
-    put_pair(out, c, 3, s);
+    let a = put_pair(out, 0, 0, x.first);
+    let b = put_pair(out, a, 1, x.second);
+    let c = put_pair(out, b, 2, x.third);
+    put_pair(out, c, 3, x.fourth);
     Listing {
         number: 0,
         count: n,

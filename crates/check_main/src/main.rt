@@ -18,8 +18,7 @@ fn run<R: Read, W: Write, E: Write>(
     if let Some(error) = file.failed {
         return Ok(console::unreadable(errors, error));
     }
-    let n = file.len;
-    report::answer(out, controller::check(&buf[..n]))
+    report::answer(out, controller::check(&buf[..file.len]))
 }
 
 fn main(rt: HostRuntime) -> ExitCode {

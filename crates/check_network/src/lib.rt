@@ -8,8 +8,8 @@ ghost use Rattle.check_roots.specs.Sets.{Separates};
 ghost use Rattle.check_network.specs.Answer.{empty_pair, refused_with, with_first, check_answer, IfPassed, ShapedAll};
 ghost use Rattle.check_network.specs.Answer.{StarterGives, ClientGives, ServiceGives, ServicesGive, OperationsGive};
 
-use check_environments::{Environment, Step};
-use refusal::{Refusal, Verdict};
+use check_environments::Environment;
+use refusal::Refusal;
 
 // The environments of a service's starter and client; that of one that is not there is empty.
 #[derive(Clone, Copy)]
@@ -18,18 +18,11 @@ pub struct Pair {
     pub client: Environment,
 }
 
-// What one service answers.
-#[derive(Clone, Copy)]
-pub struct One {
-    pub verdict: Verdict,
-    pub pair: Pair,
-}
-
 // What the checker answers: the verdict, and the environments of the services by row; those of a refused file and of services that are
 // not there are empty.
 #[derive(Clone, Copy)]
 pub struct Answer {
-    pub verdict: Verdict,
+    pub verdict: Result<(), Refusal>,
     pub first: Pair,
     pub second: Pair,
     pub third: Pair,
@@ -46,7 +39,7 @@ fn empty_pair() -> Pair
 }
 
 // The verdict alone.
-fn verdict_only(v: Verdict) -> Answer
+fn verdict_only(v: Result<(), Refusal>) -> Answer
     ensures { result ≡ refused_with v }
 {
     Answer {
@@ -59,74 +52,52 @@ fn verdict_only(v: Verdict) -> Answer
 }
 
 // The starter of S row q, if there is one.
-fn starter(file: &[u8], sets: &[u8], q: u16) -> Step
+fn starter(file: &[u8], sets: &[u8], q: u16) -> Result<Environment, Refusal>
     requires { Separates file.now sets.now }
     ensures { StarterGives file.now q result }
 {
     let r = network_rows::starter_row(file, q);
     if r == 65535 {
-        return check_environments::pass(check_environments::empty());
+        return Ok(check_environments::empty());
     }
     check_starters::check_starter(file, sets, q, r)
 }
 
 // The client of S row q, if there is one.
-fn client(file: &[u8], sets: &[u8], q: u16) -> Step
+fn client(file: &[u8], sets: &[u8], q: u16) -> Result<Environment, Refusal>
     requires { Separates file.now sets.now }
     ensures { ClientGives file.now q result }
 {
     let r = network_rows::client_row(file, q);
     if r == 65535 {
-        return check_environments::pass(check_environments::empty());
+        return Ok(check_environments::empty());
     }
     check_starters::check_client(file, sets, q, r)
 }
 
 // S row q, "starter first".
-fn service(file: &[u8], sets: &[u8], q: u16) -> One
+fn service(file: &[u8], sets: &[u8], q: u16) -> Result<Pair, Refusal>
     requires { Separates file.now sets.now }
     ensures { ServiceGives file.now q result }
 {
-    let a = starter(file, sets, q);
-    let v = a.verdict;
-    let Verdict::Done = v else {
-        return One {
-            verdict: v,
-            pair: empty_pair(),
-        };
-    };
-    let b = client(file, sets, q);
-    let w = b.verdict;
-    let Verdict::Done = w else {
-        return One {
-            verdict: w,
-            pair: empty_pair(),
-        };
-    };
-    let x = a.environment;
-    let y = b.environment;
-    One {
-        verdict: Verdict::Done,
-        pair: Pair {
-            starter: x,
-            client: y,
-        },
-    }
+    let x = starter(file, sets, q)?;
+    let y = client(file, sets, q)?;
+    Ok(Pair {
+        starter: x,
+        client: y,
+    })
 }
 
 // The pair before those of the services that follow.
 fn with_first(p: Pair, x: Answer) -> Answer
     ensures { result ≡ with_first p x }
 {
-    let a = x.first;
-    let b = x.second;
-    let c = x.third;
     Answer {
-        verdict: Verdict::Done,
+        verdict: Ok(()),
         first: p,
-        second: a,
-        third: b,
-        fourth: c,
+        second: x.first,
+        third: x.second,
+        fourth: x.third,
     }
 }
 
@@ -136,19 +107,16 @@ fn services(file: &[u8], sets: &[u8], q: u16, n: u16) -> Answer
     ensures { ServicesGive file.now q n result }
 {
     if n == 0 {
-        return verdict_only(Verdict::Done);
+        return verdict_only(Ok(()));
     }
-    let one = service(file, sets, q);
-    let v = one.verdict;
-    let Verdict::Done = v else {
-        return verdict_only(v);
+    let p = match service(file, sets, q) {
+        Ok(p) => p,
+        Err(why) => return verdict_only(Err(why)),
     };
     let others = services(file, sets, q + 1, n - 1);
-    let w = others.verdict;
-    let Verdict::Done = w else {
-        return verdict_only(w);
-    };
-    let p = one.pair;
+    if let Err(why) = others.verdict {
+        return verdict_only(Err(why));
+    }
     with_first(p, others)
 }
 
@@ -173,13 +141,10 @@ fn all_services(file: &[u8]) -> Answer
 }
 
 // All operations: 13, then 23.
-fn operations(file: &[u8]) -> Verdict
+fn operations(file: &[u8]) -> Result<(), Refusal>
     ensures { OperationsGive file.now result }
 {
-    let v = check_outputs::check_outputs(file);
-    let Verdict::Done = v else {
-        return v;
-    };
+    check_outputs::check_outputs(file)?;
     check_keys::check_keys(file)
 }
 
@@ -188,18 +153,15 @@ pub fn check(file: &[u8]) -> Answer
     ensures value { result ≡ check_answer (check_file file.now) }
     ensures if_passed { IfPassed ShapedAll (check_file file.now) }
 {
-    let form = network_form::form_of(file);
-    let Verdict::Done = form else {
-        return verdict_only(form);
-    };
+    if let Err(form) = network_form::form_of(file) {
+        return verdict_only(Err(form));
+    }
     let all = all_services(file);
-    let v = all.verdict;
-    let Verdict::Done = v else {
-        return verdict_only(v);
-    };
-    let w = operations(file);
-    let Verdict::Done = w else {
-        return verdict_only(w);
-    };
+    if let Err(why) = all.verdict {
+        return verdict_only(Err(why));
+    }
+    if let Err(why) = operations(file) {
+        return verdict_only(Err(why));
+    }
     all
 }

@@ -8,11 +8,11 @@ use Rattle.network.specs.Layout.{operation_count}
 use Rattle.network.specs.Decode.{operation_of, rows_from, network_of}
 use Rattle.network.proofs.DecodeLaws.{rows_more, rows_none}
 use Rattle.network_syntax.specs.Meets.{meets, first_of, met_input}
-use Rattle.check_operations.specs.declared.Met.{Met}
 use Rattle.check_operations.specs.Meeting.{operation_met}
+use Rattle.std.specs.Prelude.{Option, Some, None}
 
 module _ (file : List ℕ) (test : Operation → Bool) (i n : ℕ) where
-  pub first-none : n ≡ 0 → operation_met file Met.Nothing ≡ first_of test (rows_from (operation_of file) i n)
+  pub first-none : n ≡ 0 → operation_met file None ≡ first_of test (rows_from (operation_of file) i n)
   unfolding first_of operation_met
   first-none z = sym (ap (first_of test) (rows_none (operation_of file) i n z))
 
@@ -23,17 +23,17 @@ module _ (file : List ℕ) (test : Operation → Bool) (i n : ℕ) where
   first_step z = ap (first_of test) (rows_more (operation_of file) i n z)
 
   pub first-here : {t : Bool} → (n ≡ 0 → ⊥) → t ≡ test (operation_of file i) → t ≡ true
-      → operation_met file (Met.Input i) ≡ first_of test (rows_from (operation_of file) i n)
+      → operation_met file (Some i) ≡ first_of test (rows_from (operation_of file) i n)
   unfolding operation_met
   first-here z e f =
       sym (first_step z ∙ ap (λ (u : Bool). pick u (some (operation_of file i)) (first_of test (rows_from (operation_of file) (i + 1) (n - 1)))) (sym e ∙ f))
 
-  pub first-later : {t : Bool} (x : Met) → (n ≡ 0 → ⊥) → t ≡ test (operation_of file i) → t ≡ false
+  pub first-later : {t : Bool} (x : Option ℕ) → (n ≡ 0 → ⊥) → t ≡ test (operation_of file i) → t ≡ false
       → operation_met file x ≡ first_of test (rows_from (operation_of file) (i + 1) (n - 1)) → operation_met file x ≡ first_of test (rows_from (operation_of file) i n)
   first-later x z e f h =
       h ∙ sym (first_step z ∙ ap (λ (u : Bool). pick u (some (operation_of file i)) (first_of test (rows_from (operation_of file) (i + 1) (n - 1)))) (sym e ∙ f))
 
-  pub first-all : {m : ℕ} (x : Met) → m ≡ operation_count file → operation_met file x ≡ first_of test (rows_from (operation_of file) 0 m)
+  pub first-all : {m : ℕ} (x : Option ℕ) → m ≡ operation_count file → operation_met file x ≡ first_of test (rows_from (operation_of file) 0 m)
       → operation_met file x ≡ first_of test (network_of file).operations
   unfolding network_of
   first-all x c h = h ∙ ap (λ (m : ℕ). first_of test (rows_from (operation_of file) 0 m)) c

@@ -1,5 +1,5 @@
 -- Laws of refusal 13: one for each way out of the functions.
-use Prim.Native.Nat.{ℕ, ◌+◌, ◌-◌, ◌<◌}
+use Prim.Native.Nat.{ℕ, ◌+◌, ◌-◌, ◌<◌, ◌≤◌}
 use mathlib.Core.Path.{◌≡◌, refl, sym, ◌∙◌, ap, subst}
 use mathlib.Core.List.{List}
 use mathlib.Core.Bool.{Bool, true, false, not, ◌&&◌}
@@ -7,8 +7,6 @@ use native.Mathlib.Omega.{arith}
 use lib.Dec.{eqb}
 use borrow.Author.Tests.{eq-eqb, ne_eqb}
 use Rattle.refusal.specs.declared.Refusal.TheVariants.{OutputMismatch}
-use Rattle.refusal.specs.declared.Verdict.{Verdict}
-use Rattle.refusal.specs.declared.Verdict.TheVariants.{Done, Refused}
 use Rattle.basics.specs.Choice.{pick}
 use Rattle.basics.specs.TestLaws.{not-false, not-true, one_less}
 use Rattle.network_syntax.specs.Syntax.{MessageType, input, output, Operation, some}
@@ -25,10 +23,12 @@ use Rattle.network.specs.Decode.{type_of, operation_of, rows_from, network_of}
 use Rattle.network.proofs.DecodeLaws.{reply-row, rows_more, rows_none}
 use Rattle.network.proofs.MeetsLaws.{met-input}
 use Rattle.check_types.specs.Tells.{RowsOrder}
-use Rattle.check_operations.specs.declared.Met.{Met}
 use Rattle.check_operations.specs.Meeting.{operation_met}
 use Rattle.check_operations.specs.MeetingLaws.{met-exists}
 use Rattle.check_outputs.specs.Outputs.{OutputAgrees, OutputTells, OutputsFrom, Outputs}
+use Rattle.std.specs.Prelude.{Option, Some, None}
+use Rattle.std.specs.Prelude.{Result, Ok, Err}
+use Rattle.refusal.specs.declared.Refusal.{Refusal}
 
 -- ---- an input that is met
 
@@ -107,15 +107,15 @@ module _ (file : List ℕ) (o : ℕ) {x : ℕ} (a : x ≡ operation_direction fi
     pub output-outside : not t ≡ true → OutputTells file o true
     output-outside e = record { tells = λ w l. sym (located-as (not-true t e)) }
 
-    module _ (e : not t ≡ false) {y : Met} (d : operation_met file y ≡ met_input (network_of file) (operation_of file o)) where
-      met-as : {v : Met} → y ≡ v → output_meets (network_of file) (operation_of file o) ≡ agrees_with (operation_of file o) (operation_met file v)
+    module _ (e : not t ≡ false) {y : Option ℕ} (d : operation_met file y ≡ met_input (network_of file) (operation_of file o)) where
+      met-as : {v : Option ℕ} → y ≡ v → output_meets (network_of file) (operation_of file o) ≡ agrees_with (operation_of file o) (operation_met file v)
       met-as f = located-as (not-false t e) ∙ ap (agrees_with (operation_of file o)) (sym d ∙ ap (operation_met file) f)
 
-      pub output-unmet : y ≡ Met.Nothing → OutputTells file o false
+      pub output-unmet : y ≡ None → OutputTells file o false
       unfolding operation_met
       output-unmet f = record { tells = λ w l. sym (met-as f) }
 
-      pub output-met : {i : ℕ} {v : Bool} → y ≡ Met.Input i → OutputAgrees file o i v → OutputTells file o v
+      pub output-met : {i : ℕ} {v : Bool} → y ≡ Some i → OutputAgrees file o i v → OutputTells file o v
       unfolding operation_met
       output-met {i} {v} f k = record {
         tells = λ w l.
@@ -125,7 +125,7 @@ module _ (file : List ℕ) (o : ℕ) {x : ℕ} (a : x ≡ operation_direction fi
 
 pub ruleset output-laws = (output-input, output-outside, output-unmet, output-met)
 
-pub outputs-none : (file : List ℕ) (o n : ℕ) → n ≡ 0 → OutputsFrom file o n Done
+pub outputs-none : (file : List ℕ) (o n : ℕ) → n ≡ 0 → OutputsFrom file o n (Ok tt)
 unfolding check_outputs
 outputs-none file o n z = record {
   tells = λ w l.
@@ -142,14 +142,14 @@ outputs-step file o n t z e =
     ∙ ap (λ (y : Bool). next (with_row o (demand y OutputMismatch (yields (tt {0}))))
     (λ u. check_outputs (network_of file) (rows_from (operation_of file) (o + 1) (n - 1)))) (sym e)
 
-pub outputs-first : (file : List ℕ) (o n : ℕ) {x : Bool} → (n ≡ 0 → ⊥) → OutputTells file o x → not x ≡ true → OutputsFrom file o n (Refused (OutputMismatch o))
+pub outputs-first : (file : List ℕ) (o n : ℕ) {x : Bool} → (n ≡ 0 → ⊥) → OutputTells file o x → not x ≡ true → OutputsFrom file o n (Err (OutputMismatch o))
 unfolding next
 outputs-first file o n {x} z k e = record {
   tells = λ w l.
       sym (ap (verdict_of {A = Unit {0}}) (outputs-step file o n false z (sym (not-true x e) ∙ k.tells w (omega (arith, one_less n z)))));
 }
 
-pub outputs-later : (file : List ℕ) (o n : ℕ) {x : Bool} {v : Verdict} → (n ≡ 0 → ⊥) → OutputTells file o x → not x ≡ false → OutputsFrom file (o + 1) (n - 1) v
+pub outputs-later : (file : List ℕ) (o n : ℕ) {x : Bool} {v : Result (Unit {0}) Refusal} → (n ≡ 0 → ⊥) → OutputTells file o x → not x ≡ false → OutputsFrom file (o + 1) (n - 1) v
     → OutputsFrom file o n v
 unfolding next
 outputs-later file o n {x} z k e h = record {
@@ -158,8 +158,29 @@ outputs-later file o n {x} z k e h = record {
       ∙ sym (ap (verdict_of {A = Unit {0}}) (outputs-step file o n true z (sym (not-false x e) ∙ k.tells w (omega (arith, one_less n z)))));
 }
 
-pub outputs-all : (file : List ℕ) {n : ℕ} {v : Verdict} → n ≡ operation_count file → OutputsFrom file 0 n v → Outputs file v
+pub outputs-all : (file : List ℕ) {n : ℕ} {v : Result (Unit {0}) Refusal} → n ≡ operation_count file → OutputsFrom file 0 n v → Outputs file v
 unfolding network_of
 outputs-all file {n} {v} e k = record { tells = λ w. (subst (λ (m : ℕ). OutputsFrom file 0 m v) e k).tells w (omega arith) }
 
-pub ruleset outputs-laws = (outputs-none, outputs-first, outputs-later, outputs-all)
+-- A loop over the operations is at row o, of n: what those from o on answer is the answer.
+pub record OutputsAt (file : List ℕ) (o n : ℕ) : Type 0 where
+  pub rest : (v : Result (Unit {0}) Refusal) → OutputsFrom file o (n - o) v → Outputs file v
+
+pub outputs-start : (file : List ℕ) {n : ℕ} → n ≡ operation_count file → OutputsAt file 0 n
+outputs-start file e = record { rest = λ v k. outputs-all file (omega (arith, e)) k }
+
+pub outputs-next : (file : List ℕ) (o n : ℕ) {x : Bool} → o < n → OutputTells file o x → not x ≡ false → OutputsAt file o n → OutputsAt file (o + 1) n
+outputs-next file o n l k e h = record {
+  rest = λ v m.
+      h.rest v (outputs-later file o (n - o) (λ z. omega (arith, z, l)) k e
+      (subst (λ (y : ℕ). OutputsFrom file (o + 1) y v) (omega (arith, l)) m));
+}
+
+pub outputs-unfit : (file : List ℕ) (o n : ℕ) {x : Bool} → o < n → OutputTells file o x → not x ≡ true → OutputsAt file o n
+    → Outputs file (Err (OutputMismatch o))
+outputs-unfit file o n l k e h = h.rest (Err (OutputMismatch o)) (outputs-first file o (n - o) (λ z. omega (arith, z, l)) k e)
+
+pub outputs-end : (file : List ℕ) (o n : ℕ) → n ≤ o → OutputsAt file o n → Outputs file (Ok tt)
+outputs-end file o n l h = h.rest (Ok tt) (outputs-none file o (n - o) (omega (arith, l)))
+
+pub ruleset outputs-laws = (outputs-start, outputs-next, outputs-unfit, outputs-end)

@@ -2,11 +2,10 @@
 // input's reply type ≤ its own."
 #![tactic(auto)]
 
-ghost use Rattle.std.specs.Prelude.{◌≡◌, ◌+◌, ◌≤◌};
-ghost use Rattle.check_outputs.specs.Outputs.{OutputAgrees, OutputTells, OutputsFrom, Outputs};
+ghost use Rattle.std.specs.Prelude.{◌≡◌};
+ghost use Rattle.check_outputs.specs.Outputs.{OutputAgrees, OutputTells, Outputs};
 
-use check_operations::Met;
-use refusal::{Refusal, Verdict};
+use refusal::Refusal;
 
 // Does the output of O row o agree with the input of O row i, which it meets?
 fn agrees(file: &[u8], o: u16, i: u16) -> bool
@@ -39,29 +38,21 @@ fn output(file: &[u8], o: u16) -> bool
     if !check_operations::in_file(file, network_rows::operation_location(file, o)) {
         return true;
     }
-    let Met::Input(i) = check_operations::met_input(file, o) else {
+    let Some(i) = check_operations::met_input(file, o) else {
         return false;
     };
     agrees(file, o, i)
 }
 
-// The n operations from row o on: the first output that meets no input, or disagrees with it.
-fn outputs_from(file: &[u8], o: u16, n: u16) -> Verdict
-    requires { o + n ≤ 65535 }
-    ensures { OutputsFrom file.now o n result }
-{
-    if n == 0 {
-        return Verdict::Done;
-    }
-    if !output(file, o) {
-        return Verdict::Refused(Refusal::OutputMismatch(o));
-    }
-    outputs_from(file, o + 1, n - 1)
-}
-
-// All outputs of the file.
-pub fn check_outputs(file: &[u8]) -> Verdict
+// All outputs of the file: the first that meets no input, or disagrees with it.
+pub fn check_outputs(file: &[u8]) -> Result<(), Refusal>
     ensures { Outputs file.now result }
 {
-    outputs_from(file, 0, network_layout::operation_count(file))
+    let n = network_layout::operation_count(file);
+    for o in 0..n {
+        if !output(file, o) {
+            return Err(Refusal::OutputMismatch(o));
+        }
+    }
+    Ok(())
 }

@@ -1,13 +1,14 @@
 -- Laws of sets of root ids: one for each way out of the functions that make, join, store and compare them.
 use Prim.Native.Nat.{ℕ, zero, suc, ◌+◌, ◌-◌, ◌*◌, ◌/◌, ◌%◌, ◌^◌, ◌<◌, ◌≤◌}
 use mathlib.Core.Path.{◌≡◌, refl, sym, ◌∙◌, ap, subst}
-use mathlib.Core.List.{List}
+use mathlib.Core.List.{List, ◌++◌}
 use mathlib.Core.Bool.{Bool, true, false, ◌&&◌, ◌||◌}
 use mathlib.Core.Logic.{◌⊎◌, inl, inr, ⊎_elim}
 use native.Mathlib.Nat.{mod-lt, mod-eq_of_lt}
 use native.Mathlib.Omega.{arith}
-use lib.ListN.{get_or, set, length, length-set, replicate}
-use lib.Seq.{get_or-set_same, get_or-set_other}
+use lib.ListN.{get_or, set, take, drop, length, length-set, replicate, get_or-append}
+use borrow.Rule.Slice.PartMut.{put_mid, post_of, mid_len, same_len_mid}
+use lib.Seq.{get_or-set_same, get_or-set_other, get_or-append_right, get_or-take, get_or-drop, length-take-le}
 use lib.Dec.{eqb, ltb}
 use lib.Bits.{bit_and, bit_or}
 use borrow.Author.Tests.{eq-eqb, ne_eqb, eqb-true, ltb-true}
@@ -237,54 +238,37 @@ join-set file table s sets x r f g j l h m = record {
 
 -- ---- a set stored
 
-pub record Storing (before : List ℕ) (from i : ℕ) (s after : List ℕ) : Type 0 where
-  pub within : i ≤ 32
-  pub size : length before ≡ 8192 → length after ≡ 8192
-  pub new : length before ≡ 8192 → (k : ℕ) → k < i → get_or after (from + k) 0 ≡ get_or s k 0
-  pub others : (p : ℕ) → (p < from) ⊎ (from + i ≤ p) → get_or after p 0 ≡ get_or before p 0
-
-pub storing-none : (before s : List ℕ) (from : ℕ) → Storing before from 0 s before
-storing-none before s from = record { within = omega arith; size = λ n. n; new = λ n k l. absurd (omega arith); others = λ p w. refl }
-
-pub storing-more : (before s after : List ℕ) (from i : ℕ) → Storing before from i s after → i < 32 → from + 32 ≤ 8192
-    → Storing before from (i + 1) s (set after (from + i) (get_or s i 0))
-storing-more before s after from i h l m = record {
-  within = omega arith;
-  size = λ n. length-set after (from + i) (get_or s i 0) ∙ h.size n;
-  new = λ n k q. by n k (same_or i k) q;
-  others = λ p w. get_or-set_other after (from + i) p (get_or s i 0) 0 (λ z. past p w z) ∙ h.others p (outside p w);
+-- The part of the rows' sets at row r is replaced.
+pub stored-part : (before s l : List ℕ) (r a : ℕ) → length before ≡ 8192 → length s ≡ 32 → a ≡ r → r ≤ 255 → l ≡ s
+    → Stored before r s (put_mid (32 * a) (32 * a + 32 - 32 * a) before l)
+stored-part before s l r a n m e b q = record {
+  size = λ z. same_len_mid (32 * a) (32 * a + 32 - 32 * a) before l (omega (arith, long, mid_len (32 * a) (32 * a + 32) before (omega arith))) ∙ n;
+  new = λ z k h c. get_or-append_right front (l ++ post) (32 * r + k) 0 (omega (arith, pre))
+      ∙ ap (λ (y : ℕ). get_or (l ++ post) y 0) (omega (arith, pre)) ∙ get_or-append l post 0 k (omega (arith, long)) ∙ ap (λ (y : List ℕ). get_or y k 0) q;
+  others = λ j k d c. by j k d c (compare j r);
 }
   where
-    outside : (p : ℕ) → (p < from) ⊎ (from + (i + 1) ≤ p) → (p < from) ⊎ (from + i ≤ p)
-    outside p (inl w) = inl w
-    outside p (inr w) = inr (omega arith)
+    front : List ℕ
+    front = take (32 * a) before
 
-    past : (p : ℕ) → (p < from) ⊎ (from + (i + 1) ≤ p) → p ≡ from + i → ⊥
-    past p (inl w) z = omega arith
-    past p (inr w) z = omega arith
+    post : List ℕ
+    post = post_of (32 * a) (32 * a + 32 - 32 * a) before
 
-    by : length before ≡ 8192 → (k : ℕ) → (k ≡ i → ⊥) ⊎ (k ≡ i) → k < i + 1 → get_or (set after (from + i) (get_or s i 0)) (from + k) 0 ≡ get_or s k 0
-    by n k (inl w) q = get_or-set_other after (from + i) (from + k) (get_or s i 0) 0 (λ z. w (omega arith)) ∙ h.new n k (by-lt (compare k i))
-      where
-        by-lt : Compare k i → k < i
-        by-lt (lt c) = c
-        by-lt (gt c) = absurd (omega arith)
-        by-lt (eq c) = absurd (w c)
-    by n k (inr w) q =
-        subst (λ (z : ℕ). get_or (set after (from + i) (get_or s i 0)) (from + z) 0 ≡ get_or s z 0) (sym w)
-        (get_or-set_same after (from + i) (get_or s i 0) 0 (let y = h.size n in omega arith))
+    long : length l ≡ 32
+    long = ap (λ (y : List ℕ). length y) q ∙ m
 
-pub storing-all : (before s after : List ℕ) (from i r a : ℕ) → Storing before from i s after → 32 ≤ i → a ≡ r → from ≡ 32 * a → Stored before r s after
-storing-all before s after from i r a h l e f = record {
-  size = h.size;
-  new = λ n k b c. ap (λ (z : ℕ). get_or after (z + k) 0) (sym (f ∙ ap (λ (z : ℕ). 32 * z) e)) ∙ h.new n k (omega arith);
-  others = λ j k n c. h.others (32 * j + k) (away j k n c (compare j r));
-}
-  where
-    away : (j k : ℕ) → (j ≡ r → ⊥) → k < 32 → Compare j r → (32 * j + k < from) ⊎ (from + i ≤ 32 * j + k)
-    away j k n c (lt d) = inl (omega arith)
-    away j k n c (gt d) = inr (let w = h.within in omega arith)
-    away j k n c (eq d) = absurd (n d)
+    pre : length (take (32 * a) before) ≡ 32 * a
+    pre = length-take-le (32 * a) before (omega arith)
+
+    by : (j k : ℕ) → (j ≡ r → ⊥) → k < 32 → Compare j r → get_or (front ++ (l ++ post)) (32 * j + k) 0 ≡ get_or before (32 * j + k) 0
+    by j k d c (lt h) = get_or-append front (l ++ post) 0 (32 * j + k) (omega (arith, pre)) ∙ get_or-take (32 * a) before (32 * j + k) 0 (omega arith)
+    by j k d c (eq h) = absurd (d h)
+    by j k d c (gt h) =
+        get_or-append_right front (l ++ post) (32 * j + k) 0 (omega (arith, pre))
+        ∙ get_or-append_right l post (32 * j + k - length front) 0 (omega (arith, pre, long))
+        ∙ get_or-drop (32 * a + 32 - 32 * a) (drop (32 * a) before) (32 * j + k - length front - length l) 0
+        ∙ get_or-drop (32 * a) before (32 * a + 32 - 32 * a + (32 * j + k - length front - length l)) 0
+        ∙ ap (λ (y : ℕ). get_or before y 0) (omega (arith, pre, long))
 
 pub stored_past : (before s : List ℕ) (r : ℕ) → 255 < r → Stored before r s before
 stored_past before s r h = record { size = λ n. n; new = λ n k l m. absurd (omega arith); others = λ j k n c. refl }

@@ -33,17 +33,14 @@ fn operands_in(row: ExpressionRow) -> Operands
     ensures { result ≡ operands_in row }
 {
     match row {
-        ExpressionRow::Constant(_, _, _) => Operands::Nothing,
-        ExpressionRow::ValueAt(p) => Operands::Path(p),
-        ExpressionRow::Presence(p) => Operands::Path(p),
-        ExpressionRow::Not(a) => Operands::One(a),
-        ExpressionRow::Negate(a) => Operands::One(a),
-        ExpressionRow::Add(a, b) => Operands::Two(a, b),
-        ExpressionRow::Subtract(a, b) => Operands::Two(a, b),
-        ExpressionRow::Less(a, b) => Operands::Two(a, b),
-        ExpressionRow::Equal(a, b) => Operands::Two(a, b),
-        ExpressionRow::And(a, b) => Operands::Two(a, b),
-        ExpressionRow::Unknown => Operands::Nothing,
+        ExpressionRow::Constant(_, _, _) | ExpressionRow::Unknown => Operands::Nothing,
+        ExpressionRow::ValueAt(p) | ExpressionRow::Presence(p) => Operands::Path(p),
+        ExpressionRow::Not(a) | ExpressionRow::Negate(a) => Operands::One(a),
+        ExpressionRow::Add(a, b)
+        | ExpressionRow::Subtract(a, b)
+        | ExpressionRow::Less(a, b)
+        | ExpressionRow::Equal(a, b)
+        | ExpressionRow::And(a, b) => Operands::Two(a, b),
     }
 }
 
@@ -57,19 +54,18 @@ fn own_in(row: BehaviourRow) -> Own
     ensures { result ≡ own_in row }
 {
     match row {
-        BehaviourRow::Nil => Own::Nothing,
         BehaviourRow::OneWay(_, p) => Own::Path(p),
         BehaviourRow::RequestResponse(_, p, q, _) => Own::Paths(p, q),
-        BehaviourRow::Notification(_, e) => Own::Expression(e),
+        BehaviourRow::Notification(_, e) | BehaviourRow::If(e, _, _) | BehaviourRow::While(e, _) =>
+            Own::Expression(e),
         BehaviourRow::SolicitResponse(_, e, p) => Own::Both(e, p),
-        BehaviourRow::If(e, _, _) => Own::Expression(e),
-        BehaviourRow::While(e, _) => Own::Expression(e),
-        BehaviourRow::Sequence(_, _) => Own::Nothing,
-        BehaviourRow::Parallel(_, _) => Own::Nothing,
         BehaviourRow::Assign(p, e) => Own::Both(e, p),
-        BehaviourRow::Choice(_, _) => Own::Nothing,
-        BehaviourRow::Branch(_, _) => Own::Nothing,
-        BehaviourRow::Unknown => Own::Nothing,
+        BehaviourRow::Nil
+        | BehaviourRow::Sequence(_, _)
+        | BehaviourRow::Parallel(_, _)
+        | BehaviourRow::Choice(_, _)
+        | BehaviourRow::Branch(_, _)
+        | BehaviourRow::Unknown => Own::Nothing,
     }
 }
 
@@ -77,11 +73,10 @@ fn own_in(row: BehaviourRow) -> Own
 fn represent(s: &[u8], table: &mut [u8; 65536])
     ensures { Represents s.now table.old table.new }
 {
-    let mut p = network_layout::smaller(wire::index(network_layout::path_count(s)), 256);
+    let n = network_layout::smaller(usize::from(network_layout::path_count(s)), 256);
     let from = network_layout::path_at(s, 0);
-    while 0 < p {
-        p -= 1;
-        let id = wire::index(wire::u16_at(s, from + 8 * p));
+    for p in (0..n).rev() {
+        let id = usize::from(wire::u16_at(s, from + 8 * p));
         table[id] = (p % 256) as u8;
     }
 }
@@ -98,11 +93,10 @@ fn power(k: usize) -> u8
 fn with_path(s: &[u8], table: &[u8; 65536], set: [u8; 32], p: u16) -> [u8; 32]
     ensures { WithPath s.now table.now set p result }
 {
-    let id = wire::index(wire::u16_at(s, network_layout::path_at(s, p)));
-    let k = wire::wide(table[id]);
-    let at = k / 8;
+    let id = usize::from(wire::u16_at(s, network_layout::path_at(s, p)));
+    let k = usize::from(table[id]);
     let mut more = set;
-    more[at] = more[at] | power(k % 8);
+    more[k / 8] |= power(k % 8);
     more
 }
 
@@ -113,12 +107,10 @@ fn join(set: [u8; 32], sets: &[u8; 8192], r: u16) -> [u8; 32]
     if 255 < r {
         return set;
     }
-    let from = 32 * wire::index(r);
+    let from = 32 * usize::from(r);
     let mut more = set;
-    let mut k: usize = 0;
-    while k < 32 {
-        more[k] = more[k] | sets[from + k];
-        k += 1;
+    for k in 0..32 {
+        more[k] |= sets[from + k];
     }
     more
 }
@@ -130,12 +122,8 @@ fn store(sets: &mut [u8; 8192], r: u16, set: [u8; 32])
     if 255 < r {
         return;
     }
-    let from = 32 * wire::index(r);
-    let mut k: usize = 0;
-    while k < 32 {
-        sets[from + k] = set[k];
-        k += 1;
-    }
+    let from = 32 * usize::from(r);
+    sets[from..from + 32].copy_from_slice(&set);
 }
 
 // The set of E row r, from those of the rows before it.
@@ -154,12 +142,9 @@ fn expression_set(s: &[u8], table: &[u8; 65536], known: &[u8; 8192], r: u16) -> 
 fn expression_sets(s: &[u8], table: &[u8; 65536], known: &mut [u8; 8192])
     ensures { ExpressionSets s.now table.now known.old known.new }
 {
-    let n = network_layout::expression_count(s);
-    let mut r: u16 = 0;
-    while r < n {
+    for r in 0..network_layout::expression_count(s) {
         let set = expression_set(s, table, known, r);
         store(known, r, set);
-        r += 1;
     }
 }
 
@@ -227,9 +212,7 @@ fn behaviour_set(
 fn behaviour_sets(s: &[u8], table: &[u8; 65536], known: &[u8; 8192], sets: &mut [u8; 8192])
     ensures { BehaviourSets s.now table.now known.now sets.old sets.new }
 {
-    let mut r = network_layout::behaviour_count(s);
-    while 0 < r {
-        r -= 1;
+    for r in (0..network_layout::behaviour_count(s)).rev() {
         let set = behaviour_set(s, table, known, sets, r);
         store(sets, r, set);
     }
@@ -239,13 +222,10 @@ fn behaviour_sets(s: &[u8], table: &[u8; 65536], known: &[u8; 8192], sets: &mut 
 pub fn any_parallel(s: &[u8]) -> bool
     ensures { AnyParallel s.now result }
 {
-    let n = network_layout::behaviour_count(s);
-    let mut r: u16 = 0;
-    while r < n {
+    for r in 0..network_layout::behaviour_count(s) {
         if wire::byte_at(s, network_layout::behaviour_at(s, r)) == 8 {
             return true;
         }
-        r += 1;
     }
     false
 }
@@ -265,22 +245,14 @@ pub fn fill(s: &[u8], sets: &mut [u8; 8192])
 pub fn apart(sets: &[u8], a: u16, b: u16) -> bool
     ensures { SetsApart sets.now a b result }
 {
-    if sets.len() < 8192 {
+    if sets.len() < 8192 || 255 < a || 255 < b {
         return true;
     }
-    if 255 < a {
-        return true;
-    }
-    if 255 < b {
-        return true;
-    }
-    let p = 32 * wire::index(a);
-    let q = 32 * wire::index(b);
+    let p = 32 * usize::from(a);
+    let q = 32 * usize::from(b);
     let mut common: usize = 0;
-    let mut k: usize = 0;
-    while k < 32 {
-        common = common | wire::wide(sets[p + k] & sets[q + k]);
-        k += 1;
+    for k in 0..32 {
+        common |= usize::from(sets[p + k] & sets[q + k]);
     }
     common == 0
 }

@@ -1,6 +1,5 @@
 -- What the functions of this crate tell, for every file that none of 2 to 5 refuses; on other bytes they end and say nothing.
 use Rattle.std.specs.Prelude.{◌≡◌, List, [], ◌∷◌, Bool, true, ℕ, zero, suc, ◌+◌, ◌<◌, ◌≤◌}
-use Rattle.refusal.specs.declared.Verdict.{Verdict}
 use Rattle.tree_forest.specs.Forest.{end}
 use Rattle.network_syntax.specs.Syntax.{Types, Behaviour, sequence}
 use Rattle.check_typing.specs.Result.{yields, demand, passed, with_row, next, verdict_of}
@@ -16,10 +15,10 @@ use Rattle.network.specs.Layout.{behaviour_count, behaviour_at}
 use Rattle.network.specs.Rows.{field_a, field_b, kind_at}
 use Rattle.network.specs.Decode.{behaviour_of}
 use Rattle.check_environments.specs.declared.Environment.{Environment}
-use Rattle.check_environments.specs.declared.Step.{Step}
 use Rattle.check_environments.specs.Environment.{EnvironmentFor, StepAnswers}
 use Rattle.network_row_parts.specs.Behaviours.{BranchSubs}
-use Rattle.check_starters.specs.declared.Gathered.{Gathered}
+use Rattle.std.specs.Prelude.{Option, Some, Result, Ok, Err}
+use Rattle.refusal.specs.declared.Refusal.{Refusal}
 
 -- The branch at row j, and the n branches from row j on, each as the sequence of its input and what follows.
 abbrev pub branch_of_row : List ℕ → ℕ → Behaviour
@@ -36,10 +35,10 @@ pub record BranchRun (file : List ℕ) (at n left j : ℕ) : Type 0 where
   pub subs : (k : ℕ) → j ≤ k → k < j + n → BranchSubs file left k
 
 -- What the branch at `at` gives.
-pub record BranchGives (file : List ℕ) (q at left : ℕ) (s : Step) : Type 0 where
+pub record BranchGives (file : List ℕ) (q at left : ℕ) (s : Result Environment Refusal) : Type 0 where
   pub tells : (n j : ℕ) → BranchRun file at n left j → 0 < n → StepAnswers s (check q (branch_of_row file j) end)
 
-pub record Each (file : List ℕ) (q at n left : ℕ) (v : Verdict) : Type 0 where
+pub record Each (file : List ℕ) (q at n left : ℕ) (v : Result (Unit {0}) Refusal) : Type 0 where
   pub tells : (j : ℕ) → BranchRun file at n left j → v ≡ verdict_of (check_each q (branch_list file j n))
   pub rises : (j : ℕ) (Γs : List Types) → BranchRun file at n left j → check_each q (branch_list file j n) ≡ passed Γs → AllRising Γs
 
@@ -51,26 +50,26 @@ pub record Against (file : List ℕ) (q : ℕ) (d : Environment) (at n left : �
 pub record OneEach (file : List ℕ) (q at n left : ℕ) (x : Bool) : Type 0 where
   pub tells : (j : ℕ) (Γs : List Types) → BranchRun file at n left j → check_each q (branch_list file j n) ≡ passed Γs → x ≡ one_type_each Γs
 
-pub record UnitesAll (file : List ℕ) (q row at n left : ℕ) (u : Environment) (s : Step) : Type 0 where
+pub record UnitesAll (file : List ℕ) (q row at n left : ℕ) (u : Environment) (s : Result Environment Refusal) : Type 0 where
   pub tells : (j : ℕ) (Γ : Types) (Γs : List Types) → EnvironmentFor u Γ → BranchRun file at n left j → check_each q (branch_list file j n) ≡ passed Γs
       → AllRising Γs
       → one_type_from true Γ Γs ≡ true → StepAnswers s (with_row row (limited (yields (union_from Γ Γs))))
 
-pub record Joins (file : List ℕ) (q row at n left : ℕ) (s : Step) : Type 0 where
+pub record Joins (file : List ℕ) (q row at n left : ℕ) (s : Result Environment Refusal) : Type 0 where
   pub tells : (j : ℕ) (Γs : List Types) → BranchRun file at n left j → check_each q (branch_list file j n) ≡ passed Γs → AllRising Γs
       → StepAnswers s (with_row row (demand (one_type_each Γs) EnvironmentsDiffer (limited (yields (union_of Γs)))))
 
 -- The environments of the branches join Γ, the union of those before, one after another: the first refusal, 10, 12 or the union, where x is
 -- sure of it.
-pub record Gathers (file : List ℕ) (q row at n left : ℕ) (u : Environment) (x : Gathered) : Type 0 where
-  pub tells : x.sure ≡ true → (j : ℕ) (Γ : Types) → EnvironmentFor u Γ → BranchRun file at n left j
-      → StepAnswers x.step (next (check_each q (branch_list file j n))
+pub record Gathers (file : List ℕ) (q row at n left : ℕ) (u : Environment) (x : Option (Result Environment Refusal)) : Type 0 where
+  pub tells : (s : Result Environment Refusal) → x ≡ Some s → (j : ℕ) (Γ : Types) → EnvironmentFor u Γ → BranchRun file at n left j
+      → StepAnswers s (next (check_each q (branch_list file j n))
       (λ Γs. with_row row (demand (one_type_from true Γ Γs) EnvironmentsDiffer (limited (yields (union_from Γ Γs))))))
-  pub rises : x.sure ≡ true → (j : ℕ) (Γs : List Types) → BranchRun file at n left j → check_each q (branch_list file j n) ≡ passed Γs → AllRising Γs
+  pub rises : (s : Result Environment Refusal) → x ≡ Some s → (j : ℕ) (Γs : List Types) → BranchRun file at n left j → check_each q (branch_list file j n) ≡ passed Γs → AllRising Γs
 
 -- The starter of row r, a choice; the client of row r.
-pub record StarterChecks (file : List ℕ) (q r : ℕ) (s : Step) : Type 0 where
+pub record StarterChecks (file : List ℕ) (q r : ℕ) (s : Result Environment Refusal) : Type 0 where
   pub tells : WellFormed file → r < behaviour_count file → kind_at file r ≡ BehaviourKind.Choice → StepAnswers s (check_starter q (behaviour_of file r))
 
-pub record Clients (file : List ℕ) (q r : ℕ) (s : Step) : Type 0 where
+pub record Clients (file : List ℕ) (q r : ℕ) (s : Result Environment Refusal) : Type 0 where
   pub tells : WellFormed file → r < behaviour_count file → StepAnswers s (check_client q (behaviour_of file r))

@@ -7,19 +7,12 @@ ghost use Rattle.std.specs.Prelude.{ℕ, ◌+◌, ◌*◌, ◌<◌};
 ghost use Rattle.check_roots.specs.Sets.{Separates};
 ghost use Rattle.check_starters.specs.Starters.{BranchGives, Each, Against, OneEach, UnitesAll, Joins, Gathers, StarterChecks, Clients};
 
-use check_environments::{Environment, Step};
+use check_environments::Environment;
 use network_rows::BehaviourRow;
-use refusal::{Refusal, Verdict};
-
-// What the branches give, one after the other; or that it is not sure.
-#[derive(Clone, Copy)]
-pub struct Gathered {
-    pub sure: bool,
-    pub step: Step,
-}
+use refusal::Refusal;
 
 // The branch whose row stands at `at`, from the empty environment.
-fn branch(file: &[u8], sets: &[u8], q: u16, at: usize, left: u16) -> Step
+fn branch(file: &[u8], sets: &[u8], q: u16, at: usize, left: u16) -> Result<Environment, Refusal>
     requires { (at < 2000000) × Separates file.now sets.now }
     ensures { BranchGives file.now q at left result }
 {
@@ -36,18 +29,14 @@ fn branch(file: &[u8], sets: &[u8], q: u16, at: usize, left: u16) -> Step
 }
 
 // The n branches whose rows stand from `at` on, one after the other: the first refusal.
-fn each(file: &[u8], sets: &[u8], q: u16, at: usize, n: u16, left: u16) -> Verdict
+fn each(file: &[u8], sets: &[u8], q: u16, at: usize, n: u16, left: u16) -> Result<(), Refusal>
     requires { (at + 10 * n < 2000000) × Separates file.now sets.now }
     ensures { Each file.now q at n left result }
 {
     if n == 0 {
-        return Verdict::Done;
+        return Ok(());
     }
-    let one = branch(file, sets, q, at, left);
-    let v = one.verdict;
-    let Verdict::Done = v else {
-        return v;
-    };
+    branch(file, sets, q, at, left)?;
     each(file, sets, q, at + 10, n - 1, left)
 }
 
@@ -59,8 +48,9 @@ fn against(file: &[u8], sets: &[u8], q: u16, d: Environment, at: usize, n: u16, 
     if n == 0 {
         return true;
     }
-    let one = branch(file, sets, q, at, left);
-    let e = one.environment;
+    let Ok(e) = branch(file, sets, q, at, left) else {
+        return true;
+    };
     if !check_environments::one_type(d, e) {
         return false;
     }
@@ -75,8 +65,9 @@ fn one_each(file: &[u8], sets: &[u8], q: u16, at: usize, n: u16, left: u16) -> b
     if n == 0 {
         return true;
     }
-    let one = branch(file, sets, q, at, left);
-    let d = one.environment;
+    let Ok(d) = branch(file, sets, q, at, left) else {
+        return true;
+    };
     if !against(file, sets, q, d, at + 10, n - 1, left) {
         return false;
     }
@@ -93,31 +84,33 @@ fn unite_all(
     n: u16,
     left: u16,
     u: Environment,
-) -> Step
+) -> Result<Environment, Refusal>
     requires { (at + 10 * n < 2000000) × Separates file.now sets.now }
     ensures { UnitesAll file.now q row at n left u result }
 {
     if n == 0 {
-        return check_environments::pass(u);
+        return Ok(u);
     }
-    let one = branch(file, sets, q, at, left);
-    let d = one.environment;
-    let both = check_environments::unite(d, u, row);
-    let v = both.verdict;
-    let Verdict::Done = v else {
-        return both;
-    };
-    let more = both.environment;
+    let d = branch(file, sets, q, at, left)?;
+    let more = check_environments::unite(d, u, row)?;
     unite_all(file, sets, q, row, at + 10, n - 1, left, more)
 }
 
 // The n branches pass: 10 and then 12 at the starter's row.
-fn join(file: &[u8], sets: &[u8], q: u16, row: u16, at: usize, n: u16, left: u16) -> Step
+fn join(
+    file: &[u8],
+    sets: &[u8],
+    q: u16,
+    row: u16,
+    at: usize,
+    n: u16,
+    left: u16,
+) -> Result<Environment, Refusal>
     requires { (at + 10 * n < 2000000) × Separates file.now sets.now }
     ensures { Joins file.now q row at n left result }
 {
     if !one_each(file, sets, q, at, n, left) {
-        return check_environments::refuse(Refusal::EnvironmentsDiffer(row));
+        return Err(Refusal::EnvironmentsDiffer(row));
     }
     unite_all(file, sets, q, row, at, n, left, check_environments::empty())
 }
@@ -132,66 +125,45 @@ fn gather(
     n: u16,
     left: u16,
     u: Environment,
-) -> Gathered
+) -> Option<Result<Environment, Refusal>>
     requires { (at + 10 * n < 2000000) × Separates file.now sets.now }
     ensures { Gathers file.now q row at n left u result }
 {
     if n == 0 {
-        return Gathered {
-            sure: true,
-            step: check_environments::pass(u),
-        };
+        return Some(Ok(u));
     }
-    let one = branch(file, sets, q, at, left);
-    let v = one.verdict;
-    let Verdict::Done = v else {
-        return Gathered {
-            sure: true,
-            step: one,
-        };
+    let d = match branch(file, sets, q, at, left) {
+        Ok(d) => d,
+        Err(why) => return Some(Err(why)),
     };
-    let d = one.environment;
     if !check_environments::one_type(d, u) {
-        return Gathered {
-            sure: false,
-            step: one,
-        };
+        return None;
     }
-    let both = check_environments::unite(d, u, row);
-    let w = both.verdict;
-    let Verdict::Done = w else {
-        return Gathered {
-            sure: false,
-            step: both,
-        };
+    let Ok(more) = check_environments::unite(d, u, row) else {
+        return None;
     };
-    let more = both.environment;
     gather(file, sets, q, row, at + 10, n - 1, left, more)
 }
 
 // The starter of the service row q, whose row r is a choice.
-pub fn check_starter(file: &[u8], sets: &[u8], q: u16, r: u16) -> Step
+pub fn check_starter(file: &[u8], sets: &[u8], q: u16, r: u16) -> Result<Environment, Refusal>
     requires { Separates file.now sets.now }
     ensures { StarterChecks file.now q r result }
 {
     let left = network_layout::behaviour_count(file);
     let BehaviourRow::Choice(first, n) = network_rows::behaviour_row(file, r) else {
-        return check_environments::pass(check_environments::empty());
+        return Ok(check_environments::empty());
     };
     let at = network_layout::behaviour_at(file, first);
-    let all = gather(file, sets, q, r, at, n, left, check_environments::empty());
-    if all.sure {
-        let s = all.step;
-        return s;
+    if let Some(all) = gather(file, sets, q, r, at, n, left, check_environments::empty()) {
+        return all;
     }
-    match each(file, sets, q, at, n, left) {
-        Verdict::Refused(why) => check_environments::refuse(why),
-        Verdict::Done => join(file, sets, q, r, at, n, left),
-    }
+    each(file, sets, q, at, n, left)?;
+    join(file, sets, q, r, at, n, left)
 }
 
 // The client of the service row q.
-pub fn check_client(file: &[u8], sets: &[u8], q: u16, r: u16) -> Step
+pub fn check_client(file: &[u8], sets: &[u8], q: u16, r: u16) -> Result<Environment, Refusal>
     requires { Separates file.now sets.now }
     ensures { Clients file.now q r result }
 {

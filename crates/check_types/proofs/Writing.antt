@@ -4,6 +4,7 @@ use mathlib.Core.List.{List, [], ◌∷◌, ◌++◌, append-nil, append_assoc}
 use mathlib.Core.Bool.{Bool, true, false}
 use Prim.Native.Nat.{ℕ, zero, suc, ◌+◌, ◌-◌, ◌*◌, ◌/◌, ◌%◌, ◌≤◌, ◌<◌}
 use native.Mathlib.Omega.{arith}
+use mir.Val.{bool_byte}
 use lib.ListN.{length, take, drop, take-append-drop}
 use Rattle.basics.specs.TestLaws.{of_t}
 use Rattle.tree_forest.specs.Forest.{end, node, Tree, tree, node_of, measure, nodes, map_forest}
@@ -28,7 +29,13 @@ use Rattle.check_types.specs.TypeRows.{row_types, line_of}
 use Rattle.check_types.specs.TypeRowsLaws.{type-well-formed, RowMet, met, unmet, One, one-row, no-row}
 use Rattle.check_types.specs.Tells.{RowsWritten, TypeWritten, TreeUnder, RowsOrder}
 use Rattle.check_types.specs.declared.Line.{Line}
-use Rattle.check_types.specs.declared.Line.TheVariants.{Of, Outside}
+use Rattle.std.specs.Prelude.{Option, Some, None}
+use Rattle.check_types.specs.TypeRows.{row_line}
+
+-- a truth value as a byte
+pub byte-flag : (m : Bool) → bool_byte m ≡ flag m
+byte-flag true = refl
+byte-flag false = refl
 
 pub node-wrote : {o o₁ o₂ o₃ o₄ o₅ o₆ : List ℕ} {w a b c d e f k x y : ℕ} (i : ℕ) (m : Bool) → Wrote o o₁ w a 2 (i % 256 ∷ i / 256 ∷ []) → Wrote o₁ o₂ a b 1 (5 ∷ []) →
     Wrote o₂ o₃ b c 1 (k ∷ []) → Wrote o₃ o₄ c d 1 (2 ∷ []) → x ≡ flag m → Wrote o₄ o₅ d e 1 (x ∷ []) → Wrote o₅ o₆ e f 1 (y ∷ []) →
@@ -68,39 +75,42 @@ module _ (file : List ℕ) (r n : ℕ) (o : List ℕ) (w : ℕ) (fit : w ≤ len
   pub write-none : n ≡ 0 → RowsWritten file r n o o w w
   write-none z = record { inside = fit; writes = λ wf le s l. none_written file r n o w fit z }
 
-  module _ (z : n ≡ 0 → ⊥) (g : Line) (lp : g ≡ line_of file r) where
-    pub write-broken : g ≡ Outside → RowsWritten file r n o o w w
+  module _ (z : n ≡ 0 → ⊥) (g : Option Line) (lp : g ≡ line_of file r) where
+    pub write-broken : g ≡ None → RowsWritten file r n o o w w
     write-broken lq = record { inside = fit; writes = λ wf le s l. unmet file r n wf le z g lp lq }
 
-    module _ (i : ℕ) (m : Bool) (b first c next : ℕ) (lq : g ≡ Of i m b first c next) where
-      opens : form.WellFormed file → r + n ≤ type_count file → RowMet file r n i m b first c next
-      opens wf le = met file r n wf le z g i m b first c next lp lq
+    module _ (line : Line) (lq : g ≡ Some line) where
+      opens : form.WellFormed file → r + n ≤ type_count file → RowMet file r n line.id line.mandatory line.basic line.first line.count line.next
+      opens wf le = met file r n wf le z g line.id line.mandatory line.basic line.first line.count line.next lp lq
 
-      sized : (wf : form.WellFormed file) (le : r + n ≤ type_count file) → nodes (row_types file r n) ≡ suc (nodes (row_types file first c) + nodes (row_types file next (n - 1)))
-      sized wf le = nodes-as (row_types file r n) i (mark m b) (row_types file first c) (row_types file next (n - 1)) (opens wf le).whole
+      sized : (wf : form.WellFormed file) (le : r + n ≤ type_count file) → nodes (row_types file r n) ≡ suc (nodes (row_types file line.first line.count) + nodes (row_types file line.next (n - 1)))
+      sized wf le = nodes-as (row_types file r n) line.id (mark line.mandatory line.basic) (row_types file line.first line.count) (row_types file line.next (n - 1)) (opens wf le).whole
 
-      pub write-many : 255 < c → RowsWritten file r n o o w w
+      pub write-many : (line.count < 256 → ⊥) → RowsWritten file r n o o w w
       write-many h = record {
         inside = fit;
-        writes = λ wf le s l. absurd (omega (arith, sized wf le, count-rows file (type_of file) first c, count_small (row_types file first c)));
+        writes = λ wf le s l. absurd (omega (arith, sized wf le, count-rows file (type_of file) line.first line.count, count_small (row_types file line.first line.count)));
       }
 
       pub write-full : length o - w < 7 → RowsWritten file r n o o w w
       write-full h = record { inside = fit; writes = λ wf le s l. absurd (omega (arith, sized wf le)) }
 
-      pub write-more : (o₁ o₂ o₃ : List ℕ) (a e x : ℕ) → length o₁ ≡ length o → length o₂ ≡ length o₁ → Wrote o o₁ w a 7 (i % 256 ∷ i / 256 ∷ 5 ∷ c ∷ 2 ∷ flag m ∷ b ∷ []) →
-          RowsWritten file first c o₁ o₂ a e → RowsWritten file next (n - 1) o₂ o₃ e x → RowsWritten file r n o o₃ w x
-      write-more o₁ o₂ o₃ a e x l₁ l₂ p q s = record { inside = omega (arith, s.inside); writes = go }
+      pub write-more : (o₁ o₂ o₃ : List ℕ) (a e x k : ℕ) → k ≡ line.count → length o₁ ≡ length o → length o₂ ≡ length o₁ → Wrote o o₁ w a 7 (line.id % 256 ∷ line.id / 256 ∷ 5 ∷ k ∷ 2 ∷ flag line.mandatory ∷ line.basic ∷ []) →
+          RowsWritten file line.first line.count o₁ o₂ a e → RowsWritten file line.next (n - 1) o₂ o₃ e x → RowsWritten file r n o o₃ w x
+      write-more o₁ o₂ o₃ a e x k kc l₁ l₂ p₀ q s = record { inside = omega (arith, s.inside); writes = go }
         where
+          p : Wrote o o₁ w a 7 (line.id % 256 ∷ line.id / 256 ∷ 5 ∷ line.count ∷ 2 ∷ flag line.mandatory ∷ line.basic ∷ [])
+          p = rw (← kc) p₀
+
           go : form.WellFormed file → r + n ≤ type_count file → nodes (row_types file r n) ≤ 48 → w + 7 * nodes (row_types file r n) ≤ length o →
               Wrote o o₃ w x (7 * nodes (row_types file r n)) (encode (image (row_types file r n)))
-          go wf le k l =
+          go wf le few l =
               let y = opens wf le in
               let sz = sized wf le in
               let q' = q.writes wf y.below (omega arith) (omega (arith, p.next)) in
               let s' = s.writes wf y.others (omega arith) (omega (arith, p.next, q'.next)) in
-              let by = bytes-as (row_types file r n) i m b c (row_types file first c) (row_types file next (n - 1)) y.whole (image-count file first c) in
-              wrote_as (append_assoc (i % 256 ∷ i / 256 ∷ 5 ∷ c ∷ 2 ∷ flag m ∷ b ∷ []) (encode (image (row_types file first c))) (encode (image (row_types file next (n - 1)))) ∙ sym by)
+              let by = bytes-as (row_types file r n) line.id line.mandatory line.basic line.count (row_types file line.first line.count) (row_types file line.next (n - 1)) y.whole (image-count file line.first line.count) in
+              wrote_as (append_assoc (line.id % 256 ∷ line.id / 256 ∷ 5 ∷ line.count ∷ 2 ∷ flag line.mandatory ∷ line.basic ∷ []) (encode (image (row_types file line.first line.count))) (encode (image (row_types file line.next (n - 1)))) ∙ sym by)
               (omega arith) (wrote-more (wrote-more p q') s')
 
 pub ruleset write-laws = (write-none, write-broken, write-many, write-full)
@@ -114,33 +124,36 @@ tree-bytes t m b c k e q = rw (e, q, append-nil (encode (image k))) refl
 below-small : (t : Tree Mark) (m : Bool) (b : ℕ) (k : Types) → t ≡ tree (mark m b) k → TypeShape t → nodes k ≤ 15
 below-small (tree a k') m b k e w = let f = w.few_nodes in let q : k' ≡ k = cc in subst (λ (z : Types). nodes z ≤ 15) q (omega arith)
 
-module _ (file : List ℕ) (r : ℕ) (o : List ℕ) (fit : 112 ≤ length o) (g : Line) (lp : g ≡ line_of file r) where
-  pub type-outside : g ≡ Outside → TypeWritten file r o o 0
+module _ (file : List ℕ) (r : ℕ) (o : List ℕ) (fit : 112 ≤ length o) (g : Option Line) (lp : g ≡ line_of file r) where
+  pub type-outside : g ≡ None → TypeWritten file r o o 0
   type-outside lq = record { inside = omega arith; writes = λ wf le. no-row file r wf le g lp lq }
 
-  module _ (i : ℕ) (m : Bool) (b first c next : ℕ) (lq : g ≡ Of i m b first c next) where
-    starts : form.WellFormed file → r < type_count file → One file r b first c
-    starts wf le = one-row file r wf le g i m b first c next lp lq
+  module _ (line : Line) (lq : g ≡ Some line) where
+    starts : form.WellFormed file → r < type_count file → One file r line.basic line.first line.count
+    starts wf le = one-row file r wf le g line.id line.mandatory line.basic line.first line.count line.next lp lq
 
-    few : (wf : form.WellFormed file) (le : r < type_count file) → nodes (row_types file first c) ≤ 15
-    few wf le = below-small (type_of file r) (starts wf le).cardinal b (row_types file first c) (starts wf le).type (type-shape file wf r le)
+    few : (wf : form.WellFormed file) (le : r < type_count file) → nodes (row_types file line.first line.count) ≤ 15
+    few wf le = below-small (type_of file r) (starts wf le).cardinal line.basic (row_types file line.first line.count) (starts wf le).type (type-shape file wf r le)
 
-    pub type-many : 255 < c → TypeWritten file r o o 0
+    pub type-many : (line.count < 256 → ⊥) → TypeWritten file r o o 0
     type-many h = record {
       inside = omega arith;
-      writes = λ wf le. absurd (omega (arith, few wf le, count-rows file (type_of file) first c, count_small (row_types file first c)));
+      writes = λ wf le. absurd (omega (arith, few wf le, count-rows file (type_of file) line.first line.count, count_small (row_types file line.first line.count)));
     }
 
-    pub type-more : (o₁ o₂ : List ℕ) (a e : ℕ) → length o₁ ≡ length o → Wrote o o₁ 0 a 7 (0 % 256 ∷ 0 / 256 ∷ 5 ∷ c ∷ 2 ∷ flag true ∷ b ∷ []) → RowsWritten file first c o₁ o₂ a e →
+    pub type-more : (o₁ o₂ : List ℕ) (a e k : ℕ) → k ≡ line.count → length o₁ ≡ length o → Wrote o o₁ 0 a 7 (0 % 256 ∷ 0 / 256 ∷ 5 ∷ k ∷ 2 ∷ flag true ∷ line.basic ∷ []) → RowsWritten file line.first line.count o₁ o₂ a e →
         TypeWritten file r o o₂ e
-    type-more o₁ o₂ a e l p q = record { inside = omega (arith, q.inside); writes = go }
+    type-more o₁ o₂ a e k kc l p₀ q = record { inside = omega (arith, q.inside); writes = go }
       where
+        p : Wrote o o₁ 0 a 7 (0 % 256 ∷ 0 / 256 ∷ 5 ∷ line.count ∷ 2 ∷ flag true ∷ line.basic ∷ [])
+        p = rw (← kc) p₀
+
         go : form.WellFormed file → r < type_count file → Wrote o o₂ 0 e e (encode (rooted (type_tree (type_of file r))))
         go wf le =
             let y = starts wf le in
             let f = few wf le in
             let q' = q.writes wf y.below (omega arith) (omega (arith, p.next)) in
-            wrote-all-of (sym (tree-bytes (type_of file r) y.cardinal b c (row_types file first c) y.type (image-count file first c))) (wrote-more p q')
+            wrote-all-of (sym (tree-bytes (type_of file r) y.cardinal line.basic line.count (row_types file line.first line.count) y.type (image-count file line.first line.count))) (wrote-more p q')
 
 pub ruleset type-laws = (type-outside, type-many, type-more)
 

@@ -10,7 +10,7 @@ use Rattle.check_subtyping.specs.Subtype.{root_basic, root_children}
 use Rattle.check_subtyping.specs.Own.{own_mark}
 use Rattle.tree.specs.Decode.{id_at, basic_at, count_at, value_at, next_at, head_ok}
 use Rattle.check_types.specs.declared.TypeHead.{TypeHead}
-use Rattle.check_types.specs.declared.TypeHead.TheVariants.{Node, Fault}
+use Rattle.std.specs.Prelude.{Option, Some, None}
 
 -- 1 for mandatory, 0 for optional.
 abbrev pub flag : Bool → ℕ
@@ -50,10 +50,13 @@ types_as own f = map_forest (mark_as own) f
 abbrev pub type_as : Bool → Tree Value → MessageType
 type_as own t = map_tree (mark_as own) t
 
+abbrev pub type_header : ℕ → Bool → ℕ → ℕ → ℕ → TypeHead
+type_header i m b c k = record { id = i; mandatory = m; basic = b; count = c; start = k }
+
 -- A node of a type as it is read at a position: its id, mandatory or not, its basic type, its child count and where its children start.
-unfoldable pub type_head_at : Bool → List ℕ → ℕ → TypeHead
+unfoldable pub type_head_at : Bool → List ℕ → ℕ → Option TypeHead
 type_head_at own s at =
     pick (head_ok s at)
-    (pick own (Node (id_at s at) true (basic_at s at) (count_at s at) (next_at s at))
-    (Node (id_at s at) (eqb (get_or (value_at s at) 0 0) 1) (get_or (value_at s at) 1 0) (count_at s at) (next_at s at)))
-    Fault
+    (pick own (Some (type_header (id_at s at) true (basic_at s at) (count_at s at) (next_at s at)))
+    (Some (type_header (id_at s at) (eqb (get_or (value_at s at) 0 0) 1) (get_or (value_at s at) 1 0) (count_at s at) (next_at s at))))
+    None

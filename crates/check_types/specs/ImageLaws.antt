@@ -15,7 +15,8 @@ use Rattle.tree.specs.EncodeLaws.{Fields, length-node}
 use Rattle.tree.specs.StandingLaws.{row-fields, root-fields}
 use Rattle.check_types.specs.Image.{flag, mark_value, image, InRange, mark_in, mark_as, types_as, type_as, type_head_at}
 use Rattle.check_types.specs.declared.TypeHead.{TypeHead}
-use Rattle.check_types.specs.declared.TypeHead.TheVariants.{Node, Fault}
+use Rattle.std.specs.Prelude.{Option, Some, None}
+use Rattle.check_types.specs.Image.{type_header}
 
 -- ---- an image is read back
 
@@ -105,7 +106,7 @@ pub record TypeSeen (own : Bool) (at x : ℕ) (a : Value) (ks rest : Forest Valu
   pub whole : types_as own (node x a ks rest) ≡ node i (mark n b) (types_as own ks) (types_as own rest)
 
 head-by : (own : Bool) (s : List ℕ) (at x d c : ℕ) (v t : List ℕ) → Fields s at x d c v t → (n : Bool) (b : ℕ) → mark n b ≡ mark_as own (value d v) →
-    type_head_at own s at ≡ Node x n b c (at + 5 + length v)
+    type_head_at own s at ≡ Some (type_header x n b c (at + 5 + length v))
 unfolding type_head_at
 head-by true s at x d c v t f n b e =
     let p : n ≡ true = cc in
@@ -134,35 +135,44 @@ unfolding map_forest
 whole_by own x i a n b ks rest e q = rw (e, q) refl
 
 seen_by : (own : Bool) (s : List ℕ) (at x d : ℕ) (v t : List ℕ) (ks rest : Forest Value) → Fields s at x d (root_count ks) v t →
-    (h : TypeHead) (i : ℕ) (n : Bool) (b k mid : ℕ) → h ≡ type_head_at own s at → h ≡ Node i n b k mid → TypeSeen own at x (value d v) ks rest i n b k mid
+    (h : Option TypeHead) (i : ℕ) (n : Bool) (b k mid : ℕ) → h ≡ type_head_at own s at → h ≡ Some (type_header i n b k mid) → TypeSeen own at x (value d v) ks rest i n b k mid
 seen_by own s at x d v t ks rest f h i n b k mid p q =
     let m = mark-is own (value d v) in
     let y = head-by own s at x d (root_count ks) v t f (flag-as own (value d v)) (basic-as own (value d v)) m in
-    let e : Node i n b k mid ≡ Node x (flag-as own (value d v)) (basic-as own (value d v)) (root_count ks) (at + 5 + length v) = sym q ∙ p ∙ y in
-    let e1 : i ≡ x = cc in
+    let e : Some (type_header i n b k mid) ≡ Some (type_header x (flag-as own (value d v)) (basic-as own (value d v)) (root_count ks) (at + 5 + length v)) = sym q ∙ p ∙ y in
+    let h' : type_header i n b k mid ≡ type_header x (flag-as own (value d v)) (basic-as own (value d v)) (root_count ks) (at + 5 + length v) = cc in
+    let e1 : i ≡ x = ap (λ (z : TypeHead). z.id) h' in
+    let f1 : n ≡ flag-as own (value d v) = ap (λ (z : TypeHead). z.mandatory) h' in
+    let f2 : b ≡ basic-as own (value d v) = ap (λ (z : TypeHead). z.basic) h' in
     let e2 : mark n b ≡ mark_as own (value d v) = cc in
-    record { id = e1; type = e2; kids = cc; next = cc; whole = whole_by own x i (value d v) n b ks rest e1 e2 }
+    record {
+      id = e1;
+      type = e2;
+      kids = ap (λ (z : TypeHead). z.count) h';
+      next = ap (λ (z : TypeHead). z.start) h';
+      whole = whole_by own x i (value d v) n b ks rest e1 e2;
+    }
 
 unseen-by : {A : Type 0} (own : Bool) (s : List ℕ) (at x d c : ℕ) (v t : List ℕ) → Fields s at x d c v t →
-    (h : TypeHead) → h ≡ type_head_at own s at → h ≡ Fault → A
+    (h : Option TypeHead) → h ≡ type_head_at own s at → h ≡ None → A
 unseen-by own s at x d c v t f h p q =
     let y = head-by own s at x d c v t f (flag-as own (value d v)) (basic-as own (value d v)) (mark-is own (value d v)) in
     let z : ◌≡◌ {A = ℕ} 0 1 = cc in absurd (omega arith)
 
 -- the first of siblings
 pub type-seen : (own : Bool) (s : List ℕ) (at x d : ℕ) (v : List ℕ) (ks rest : Forest Value) → Row s at (node x (value d v) ks rest) →
-    (h : TypeHead) (i : ℕ) (n : Bool) (b k mid : ℕ) → h ≡ type_head_at own s at → h ≡ Node i n b k mid → TypeSeen own at x (value d v) ks rest i n b k mid
+    (h : Option TypeHead) (i : ℕ) (n : Bool) (b k mid : ℕ) → h ≡ type_head_at own s at → h ≡ Some (type_header i n b k mid) → TypeSeen own at x (value d v) ks rest i n b k mid
 type-seen own s at x d v ks rest w h i n b k mid p q = seen_by own s at x d v _ ks rest (row-fields s at x d v ks rest w) h i n b k mid p q
 
 pub type-unseen : {A : Type 0} (own : Bool) (s : List ℕ) (at x d : ℕ) (v : List ℕ) (ks rest : Forest Value) → Row s at (node x (value d v) ks rest) →
-    (h : TypeHead) → h ≡ type_head_at own s at → h ≡ Fault → A
+    (h : Option TypeHead) → h ≡ type_head_at own s at → h ≡ None → A
 type-unseen own s at x d v ks rest w h p q = unseen-by own s at x d (root_count ks) v _ (row-fields s at x d v ks rest w) h p q
 
 -- the root of a tree
 pub root-type-seen : (own : Bool) (s : List ℕ) (at x d : ℕ) (v : List ℕ) (ks : Forest Value) → Root s at x (tree (value d v) ks) →
-    (h : TypeHead) (i : ℕ) (n : Bool) (b k mid : ℕ) → h ≡ type_head_at own s at → h ≡ Node i n b k mid → TypeSeen own at x (value d v) ks end i n b k mid
+    (h : Option TypeHead) (i : ℕ) (n : Bool) (b k mid : ℕ) → h ≡ type_head_at own s at → h ≡ Some (type_header i n b k mid) → TypeSeen own at x (value d v) ks end i n b k mid
 root-type-seen own s at x d v ks w h i n b k mid p q = seen_by own s at x d v _ ks end (root-fields s at x d v ks w) h i n b k mid p q
 
 pub root-type-unseen : {A : Type 0} (own : Bool) (s : List ℕ) (at x d : ℕ) (v : List ℕ) (ks : Forest Value) → Root s at x (tree (value d v) ks) →
-    (h : TypeHead) → h ≡ type_head_at own s at → h ≡ Fault → A
+    (h : Option TypeHead) → h ≡ type_head_at own s at → h ≡ None → A
 root-type-unseen own s at x d v ks w h p q = unseen-by own s at x d (root_count ks) v _ (root-fields s at x d v ks w) h p q

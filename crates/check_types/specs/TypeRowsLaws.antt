@@ -20,9 +20,13 @@ use Rattle.check_types.specs.Image.{InRange, type_tree}
 use Rattle.check_types.specs.ImageLaws.{image-well-formed}
 use Rattle.check_types.specs.TypeRows.{row_types, line_with, line_of}
 use Rattle.check_types.specs.declared.Line.{Line}
-use Rattle.check_types.specs.declared.Line.TheVariants.{Of, Outside}
+use Rattle.std.specs.Prelude.{Option, Some, None}
+use Rattle.check_types.specs.TypeRows.{row_line}
 
 -- ---- a row that is read goes to later rows
+
+same-line : {x y : Line} → Some x ≡ Some y → x ≡ y
+same-line e = cc
 
 pub record Ahead (file : List ℕ) (r first next : ℕ) : Type 0 where
   pub inside : r < type_count file
@@ -30,21 +34,23 @@ pub record Ahead (file : List ℕ) (r first next : ℕ) : Type 0 where
   pub after : next ≡ r + 1
 
 ahead-by : (file : List ℕ) (r i : ℕ) (m : Bool) (b first c next : ℕ) (x y z : Bool) → ltb r (type_count file) ≡ x → ltb r (first_child file r) ≡ z →
-    pick x (pick y (line_with file r (r + 1) 0) (pick z (line_with file r (first_child file r) (child_count file r)) Outside)) Outside ≡ Of i m b first c next →
+    pick x (pick y (line_with file r (r + 1) 0) (pick z (line_with file r (first_child file r) (child_count file r)) None)) None ≡ Some (row_line i m b first c next) →
     Ahead file r first next
 ahead-by file r i m b first c next false y z p w e = let o : ◌≡◌ {A = ℕ} 0 1 = cc in absurd (omega arith)
 ahead-by file r i m b first c next true true z p w e =
-    let o : r + 1 ≡ first = cc in
-    let q : r + 1 ≡ next = cc in
+    let h = same-line e in
+    let o : r + 1 ≡ first = ap (λ (z : Line). z.first) h in
+    let q : r + 1 ≡ next = ap (λ (z : Line). z.next) h in
     record { inside = ltb-true r (type_count file) p; later = omega arith; after = sym q }
 ahead-by file r i m b first c next true false true p w e =
-    let o : first_child file r ≡ first = cc in
-    let q : r + 1 ≡ next = cc in
+    let h = same-line e in
+    let o : first_child file r ≡ first = ap (λ (z : Line). z.first) h in
+    let q : r + 1 ≡ next = ap (λ (z : Line). z.next) h in
     let l = ltb-true r (first_child file r) w in
     record { inside = ltb-true r (type_count file) p; later = omega arith; after = sym q }
 ahead-by file r i m b first c next true false false p w e = let o : ◌≡◌ {A = ℕ} 0 1 = cc in absurd (omega arith)
 
-pub ahead : (file : List ℕ) (r i : ℕ) (m : Bool) (b first c next : ℕ) (l : Line) → l ≡ line_of file r → l ≡ Of i m b first c next → Ahead file r first next
+pub ahead : (file : List ℕ) (r i : ℕ) (m : Bool) (b first c next : ℕ) (l : Option Line) → l ≡ line_of file r → l ≡ Some (row_line i m b first c next) → Ahead file r first next
 unfolding line_of
 ahead file r i m b first c next l p q =
     ahead-by file r i m b first c next (ltb r (type_count file)) (eqb (child_count file r) 0) (ltb r (first_child file r)) refl refl (sym p ∙ q)
@@ -105,20 +111,21 @@ run-as file w r k l =
 same-node : {i j : ℕ} {a b : Mark} {k l r s : Types} → i ≡ j → a ≡ b → k ≡ l → r ≡ s → node i a k r ≡ node j b l s
 same-node p q u v = cc
 
-pub met : (file : List ℕ) (r n : ℕ) → form.WellFormed file → r + n ≤ type_count file → (n ≡ 0 → ⊥) → (h : Line) (j : ℕ) (g : Bool) (c first l next : ℕ) →
-    h ≡ line_of file r → h ≡ Of j g c first l next → RowMet file r n j g c first l next
+pub met : (file : List ℕ) (r n : ℕ) → form.WellFormed file → r + n ≤ type_count file → (n ≡ 0 → ⊥) → (h : Option Line) (j : ℕ) (g : Bool) (c first l next : ℕ) →
+    h ≡ line_of file r → h ≡ Some (row_line j g c first l next) → RowMet file r n j g c first l next
 met file r n w le z h j g c first l next p q = by n refl
   where
     by : (k : ℕ) → n ≡ k → RowMet file r n j g c first l next
     by zero e = absurd (z e)
     by (suc k) e =
         let y = line_kept file w r (omega arith) in
-        let v : line_with file r y.first y.many ≡ Of j g c first l next = sym y.is ∙ sym p ∙ q in
-        let v1 : type_id file r ≡ j = cc in
-        let v2 : mark (eqb (cardinality file r) 1) (type_basic file r) ≡ mark g c = cc in
-        let v3 : y.first ≡ first = cc in
-        let v4 : y.many ≡ l = cc in
-        let v5 : r + 1 ≡ next = cc in
+        let v : line_with file r y.first y.many ≡ Some (row_line j g c first l next) = sym y.is ∙ sym p ∙ q in
+        let h' = same-line v in
+        let v1 : type_id file r ≡ j = ap (λ (z : Line). z.id) h' in
+        let v2 : mark (eqb (cardinality file r) 1) (type_basic file r) ≡ mark g c = ap (λ (z : Line). mark z.mandatory z.basic) h' in
+        let v3 : y.first ≡ first = ap (λ (z : Line). z.first) h' in
+        let v4 : y.many ≡ l = ap (λ (z : Line). z.count) h' in
+        let v5 : r + 1 ≡ next = ap (λ (z : Line). z.next) h' in
         let v6 : k ≡ n - 1 = omega arith in
         let v7 : row_types file y.first y.many ≡ row_types file first l = cc in
         let v8 : row_types file (r + 1) k ≡ row_types file next (n - 1) = cc in
@@ -129,11 +136,11 @@ met file r n w le z h j g c first l next p q = by n refl
         }
 
 pub unmet : {A : Type 0} (file : List ℕ) (r n : ℕ) → form.WellFormed file → r + n ≤ type_count file → (n ≡ 0 → ⊥) →
-    (h : Line) → h ≡ line_of file r → h ≡ Outside → A
+    (h : Option Line) → h ≡ line_of file r → h ≡ None → A
 unmet file r n w le z h p q =
     let pos : 0 < n = positive n z in
     let y = line_kept file w r (omega arith) in
-    let v : Outside ≡ line_with file r y.first y.many = sym q ∙ p ∙ y.is in
+    let v : None ≡ line_with file r y.first y.many = sym q ∙ p ∙ y.is in
     let o : ◌≡◌ {A = ℕ} 0 1 = cc in absurd (omega arith)
   where
     positive : (k : ℕ) → (k ≡ 0 → ⊥) → 0 < k
@@ -146,22 +153,23 @@ pub record One (file : List ℕ) (r c first l : ℕ) : Type 0 where
   pub type : type_of file r ≡ tree (mark cardinal c) (row_types file first l)
   pub below : first + l ≤ type_count file
 
-pub one-row : (file : List ℕ) (r : ℕ) → form.WellFormed file → r < type_count file → (h : Line) (j : ℕ) (g : Bool) (c first l next : ℕ) →
-    h ≡ line_of file r → h ≡ Of j g c first l next → One file r c first l
+pub one-row : (file : List ℕ) (r : ℕ) → form.WellFormed file → r < type_count file → (h : Option Line) (j : ℕ) (g : Bool) (c first l next : ℕ) →
+    h ≡ line_of file r → h ≡ Some (row_line j g c first l next) → One file r c first l
 unfolding mark_of
 one-row file r w le h j g c first l next p q =
     let y = line_kept file w r le in
-    let v : line_with file r y.first y.many ≡ Of j g c first l next = sym y.is ∙ sym p ∙ q in
-    let v2 : mark (eqb (cardinality file r) 1) (type_basic file r) ≡ mark g c = cc in
-    let v3 : y.first ≡ first = cc in
-    let v4 : y.many ≡ l = cc in
+    let v : line_with file r y.first y.many ≡ Some (row_line j g c first l next) = sym y.is ∙ sym p ∙ q in
+    let h' = same-line v in
+    let v2 : mark (eqb (cardinality file r) 1) (type_basic file r) ≡ mark g c = ap (λ (z : Line). mark z.mandatory z.basic) h' in
+    let v3 : y.first ≡ first = ap (λ (z : Line). z.first) h' in
+    let v4 : y.many ≡ l = ap (λ (z : Line). z.count) h' in
     let v7 : row_types file y.first y.many ≡ row_types file first l = cc in
     record { cardinal = g; type = type-row file w r le ∙ same-tree v2 (y.same ∙ v7); below = let u = y.inside in omega arith }
   where
     same-tree : {a b : Mark} {k l : Types} → a ≡ b → k ≡ l → tree a k ≡ tree b l
     same-tree p q = cc
 
-pub no-row : {A : Type 0} (file : List ℕ) (r : ℕ) → form.WellFormed file → r < type_count file → (h : Line) → h ≡ line_of file r → h ≡ Outside → A
+pub no-row : {A : Type 0} (file : List ℕ) (r : ℕ) → form.WellFormed file → r < type_count file → (h : Option Line) → h ≡ line_of file r → h ≡ None → A
 no-row file r w le h p q = unmet file r 1 w (omega arith) (λ z. omega arith) h p q
 
 -- ---- types of rows in range

@@ -3,9 +3,8 @@
 -- refusal and their numbers are those of crate refusal.
 use Rattle.std.specs.Prelude.{Bool, true, false, ℕ}
 use Rattle.refusal.specs.declared.Refusal.{Refusal}
-use Rattle.refusal.specs.declared.Verdict.{Verdict}
-use Rattle.refusal.specs.declared.Verdict.TheVariants.{Done, Refused}
 use Rattle.refusal.specs.Refusal.{number_of, place_of}
+use Rattle.std.specs.Prelude.{Result, Ok, Err}
 
 -- Within one row: what is given, or the kind of refusal of the first premise that fails (its row comes with `with_row`).
 pub data Attempt (A : Type 0) : Type 0 where
@@ -38,9 +37,9 @@ next (refused why) f = refused why
 next (passed a) f = f a
 
 -- The verdict of what is checked.
-abbrev pub verdict_of : {A : Type 0} → Checked A → Verdict
-verdict_of (refused why) = Refused why
-verdict_of (passed a) = Done
+abbrev pub verdict_of : {A : Type 0} → Checked A → Result (Unit {0}) Refusal
+verdict_of (refused why) = Err why
+verdict_of (passed a) = (Ok tt)
 
 -- 01's number and place; "number 0 is done".
 abbrev pub refusal_number : {A : Type 0} → Checked A → ℕ

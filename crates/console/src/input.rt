@@ -58,10 +58,7 @@ fn without_line(what: What, input: Input) -> Event
 }
 
 fn counted(lines: u64) -> u64 {
-    if lines < 18446744073709551615 {
-        return lines + 1;
-    }
-    lines
+    lines.saturating_add(1)
 }
 
 // Moves the bytes from `from` to `to` to the front.
@@ -69,12 +66,7 @@ fn shift(buf: &mut [u8], from: usize, to: usize)
     requires { (from ≤ to) × (to ≤ length buf.old) }
     ensures { (k : ℕ) → k < to - from → get_or buf.new k 0 ≡ get_or buf.old (from + k) 0 }
 {
-    let n = to - from;
-    let mut i: usize = 0;
-    while i < n {
-        buf[i] = buf[from + i];
-        i += 1;
-    }
+    buf.copy_within(from..to, 0);
 }
 
 // The line that ends at `end`, which has a line feed there.
@@ -147,11 +139,9 @@ fn unfinished<R: Read>(reader: &mut R, buf: &mut [u8], input: Input) -> Event
         return read_on(reader, buf, input, 0);
     }
     let n = input.to - input.from;
-    if n <= BOUND {
-        if n < buf.len() {
-            shift(buf, input.from, input.to);
-            return read_on(reader, buf, input, n);
-        }
+    if n <= BOUND && n < buf.len() {
+        shift(buf, input.from, input.to);
+        return read_on(reader, buf, input, n);
     }
     let mut rest = input;
     rest.from = 0;
@@ -173,19 +163,14 @@ fn misplaced(input: Input) -> Event
 pub fn next<R: Read>(reader: &mut R, buf: &mut [u8], input: Input) -> Event
     ensures { (result.from ≤ result.to) × (result.to ≤ length buf.new) }
 {
-    let from = input.from;
-    let to = input.to;
     if input.ended {
         return without_line(What::End, input);
     }
-    if to < from {
+    if input.to < input.from || buf.len() < input.to {
         return misplaced(input);
     }
-    if buf.len() < to {
-        return misplaced(input);
-    }
-    let end = lines::find(buf, from, to, b'\n');
-    if end < to {
+    let end = lines::find(buf, input.from, input.to, b'\n');
+    if end < input.to {
         return taken(input, end);
     }
     unfinished(reader, buf, input)

@@ -77,22 +77,9 @@ fn digit(x: u8) -> u8 {
     }
 }
 
-fn reason(why: Fault) -> &'static str {
-    match why {
-        Fault::Word => "not a move",
-        Fault::Number => "a number is missing or not decimal",
-        Fault::Large => "a number is too large",
-        Fault::Trailing => "words after the move",
-        Fault::Digits => "not pairs of hexadecimal digits",
-        Fault::Full => "too many bytes",
-        Fault::Short => "fewer than 8 bytes",
-        Fault::Long => "longer than 4096 bytes",
-    }
-}
-
 // Says what is wrong with a line.
 pub fn wrong<E: Write>(errors: &mut E, line: u64, why: Fault) {
-    let _ = writeln!(errors, "line {line}: {}", reason(why));
+    let _ = writeln!(errors, "line {line}: {why}");
 }
 
 // Says why something, named as the user knows it, cannot be read or written, and gives the status.
@@ -121,10 +108,7 @@ pub fn spent<E: Write>(errors: &mut E) -> Status
 
 // Whether the program was given an argument of this number, from 1.
 pub fn is_given<V: Env>(env: &V, i: usize) -> bool {
-    if let Err(FillError::NotPresent) = env.arg(i, &mut []) {
-        return false;
-    }
-    true
+    !matches!(env.arg(i, &mut []), Err(FillError::NotPresent))
 }
 
 // Opens the file of this name, which is UTF-8.

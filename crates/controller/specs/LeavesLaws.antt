@@ -4,9 +4,8 @@ use Rattle.std.proofs.Math.Path.{refl}
 use Rattle.std.proofs.Math.Bool.{true, false}
 use Rattle.std.proofs.Math.Seq.{drop-append_seam}
 use Rattle.basics.specs.Choice.{pick}
+use Rattle.refusal.specs.declared.Refusal.{Refusal}
 use Rattle.refusal.specs.declared.Refusal.TheVariants.{BufferSize, NoState}
-use Rattle.refusal.specs.declared.Verdict.{Verdict}
-use Rattle.refusal.specs.declared.Verdict.TheVariants.{Done, Refused}
 use Rattle.refusal.specs.Refusal.{outcome_number}
 use Rattle.network_syntax.specs.Syntax.{Optional, none, some}
 use Rattle.network.specs.Form.{form_of}
@@ -21,6 +20,8 @@ use Rattle.state.specs.Shape.{decode_state}
 use Rattle.move_rules.specs.Moves.{Result, refused, moved, Move, move}
 use Rattle.move_rules.specs.Step.{Step, refuse, finish, on_form, on_state, buffers_fit, step}
 use Rattle.move_rules.specs.Fresh.{fresh_refused, after_check, fresh}
+use Rattle.std.specs.Prelude as std
+use Rattle.std.specs.Prelude.{Ok, Err}
 
 module _ (file s : List ℕ) where
   -- A refused fresh leaves the state as it was.
@@ -35,7 +36,7 @@ module _ (file s : List ℕ) where
       by false c n = refl
 
   module _ (out : List ℕ) (m : Move) (outside : List ℕ) where
-    after : Bool → Verdict → Optional State → Step
+    after : Bool → std.Result (Unit {0}) Refusal → Optional State → Step
     after b v y = pick b (on_form v s out (on_state y s out (λ G. finish s out (move (network_of file) G m outside)))) (refuse BufferSize s out)
 
     -- What holds of every result of a move holds of the step.
@@ -43,10 +44,10 @@ module _ (file s : List ℕ) where
     unfolding step after
     step_by P f = by (buffers_fit s out) (form_of file) (decode_state (network_of file) (behaviour_count file) s)
       where
-        by : (b : Bool) (v : Verdict) (y : Optional State) → P (after b v y)
-        by true Done (some G) = f (move (network_of file) G m outside)
-        by true Done none = f (refused NoState)
-        by true (Refused why) y = f (refused why)
+        by : (b : Bool) (v : std.Result (Unit {0}) Refusal) (y : Optional State) → P (after b v y)
+        by true (Ok tt) (some G) = f (move (network_of file) G m outside)
+        by true (Ok tt) none = f (refused NoState)
+        by true (Err why) y = f (refused why)
         by false v y = f (refused BufferSize)
 
     -- A refused move leaves state and out buffer as they were.

@@ -8,7 +8,6 @@ use Rattle.tree_forest.specs.Forest.{Tree}
 use Rattle.scalar.specs.Value.{Value}
 use Rattle.refusal.specs.declared.Refusal.{Refusal}
 use Rattle.refusal.specs.declared.Refusal.TheVariants.{BrokenField, TooLarge}
-use Rattle.refusal.specs.declared.Verdict.TheVariants.{Done, Refused}
 use Rattle.refusal.specs.Refusal.{outcome_number, done_with}
 use Rattle.tree.specs.Encode.{Octets, Message}
 use Rattle.tree_forest.specs.Limits.{message_levels_below, message_nodes_below}
@@ -44,26 +43,27 @@ use Rattle.soundness.proofs.CallsLaws.{call-sound}
 use Rattle.soundness.specs.Example.{file}
 use Rattle.soundness.proofs.ExampleFileLaws.{accepted-file}
 use Rattle.controller.specs.LeavesLaws.{fresh-leaves, step-leaves, step_stays}
+use Rattle.std.specs.Prelude.{Result, Ok, Err}
 
 -- ---- Network file: refusals 2 to 5
 
 -- What 2 to 5 refuse, the checker refuses so.
-pub form-first : (file : List ℕ) (why : Refusal) → form_of file ≡ Refused why → check_file file ≡ refused why
+pub form-first : (file : List ℕ) (why : Refusal) → form_of file ≡ Err why → check_file file ≡ refused why
 unfolding check_file
 form-first file why e = rw e
 
 -- 4: "A field or link breaks its row's rule, lowest place first".
-pub lowest-place-of-4 : (file : List ℕ) (p : ℕ) → form_of file ≡ Refused (BrokenField p)
+pub lowest-place-of-4 : (file : List ℕ) (p : ℕ) → form_of file ≡ Err (BrokenField p)
     → Breaks file p × ((q : ℕ) → Breaks file q → p ≤ q)
 lowest-place-of-4 = lowest-broken
 
 -- 5: "A type or expression is too large (place: its row's first byte, lowest first)"; no rule is broken then.
-pub lowest-place-of-5 : (file : List ℕ) (p : ℕ) → form_of file ≡ Refused (TooLarge p)
+pub lowest-place-of-5 : (file : List ℕ) (p : ℕ) → form_of file ≡ Err (TooLarge p)
     → ((q : ℕ) → Breaks file q → ⊥) × TooLargeAt file p × ((q : ℕ) → TooLargeAt file q → p ≤ q)
 lowest-place-of-5 = lowest-large
 
 -- A file that none of 2 to 5 refuses breaks no rule and has no row too large; its bytes are one network, `network_of file`, of 01's shape.
-pub nothing-broken : (file : List ℕ) → form_of file ≡ Done
+pub nothing-broken : (file : List ℕ) → form_of file ≡ (Ok tt)
     → ((q : ℕ) → Breaks file q → ⊥) × ((q : ℕ) → TooLargeAt file q → ⊥)
 nothing-broken = none-broken
 

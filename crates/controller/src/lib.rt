@@ -90,9 +90,7 @@ pub fn part(message: &[u8], ids: [u16; 4]) -> &[u8]
 {
     tree::octets(message);
     let span = part_span(message, ids);
-    let start = span.start;
-    let end = start + span.len;
-    &message[start..end]
+    &message[span.start..span.start + span.len]
 }
 
 // Reads a text of type declarations and writes its T rows.

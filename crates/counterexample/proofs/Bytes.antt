@@ -1,81 +1,34 @@
 -- Bytes compared from the front, and the bytes of a node with its least value.
-use mathlib.Core.Path.{◌≡◌, refl, ap, sym, ◌∙◌}
+use mathlib.Core.Path.{◌≡◌, refl, ap}
 use mathlib.Core.List.{List, [], ◌∷◌}
-use mathlib.Core.Bool.{true, false, ◌&&◌, ◌||◌}
-use Prim.Native.Nat.{ℕ, zero, suc, ◌+◌, ◌/◌, ◌%◌, ◌≤◌, ◌<◌}
+use mathlib.Core.Bool.{Bool, true, false, ◌&&◌, ◌||◌}
+use Prim.Native.Nat.{ℕ, zero, suc, ◌+◌, ◌/◌, ◌%◌, ◌≤◌}
 use native.Mathlib.Omega.{arith}
-use lib.ListN.{length, get_or, take, drop, replicate}
-use lib.Seq.{drop-cons, drop-length}
+use lib.ListN.{take, drop, replicate}
 use lib.Dec.{ltb, eqb}
-use borrow.Author.Tests.{lt-ltb, le-ltb, eq-eqb, ne_eqb}
-use Rattle.tree_forest.specs.Compare.{Compare, lt, eq, gt, compare}
+use Rattle.std.specs.Prelude.{Some, cond}
+use Rattle.std.specs.Cmp.Lexicographic.{slice_partial_cmp}
+use Rattle.std.specs.Ordering.{nat_cmp, partial_lt, partial_ordering_then, is_some_and, is_lt}
+use Rattle.std.specs.declared.cmp.Ordering.TheVariants.{Less, Equal, Greater}
 use Rattle.tree_edit.specs.Wrote.{Wrote}
 use Rattle.tree_edit.specs.WroteLaws.{wrote-more, wrote_as}
 use Rattle.counterexample_rules.specs.Order.{is_lower_bytes}
 
 -- ---- lower bytes
 
-abbrev pub LowerFrom : List ℕ → List ℕ → ℕ → Type 0
-LowerFrom a b i = (i ≤ length a) × (i ≤ length b) × (is_lower_bytes (drop i a) (drop i b) ≡ is_lower_bytes a b)
-
-lower-ended : (s : List ℕ) (y : ℕ) (t : List ℕ) → s ≡ [] → is_lower_bytes s (y ∷ t) ≡ true
+-- What the library says of `<` at bytes.
+pub lower-than : (a b : List ℕ) → partial_lt (slice_partial_cmp (λ (x y : ℕ). Some (nat_cmp x y))) a b ≡ is_lower_bytes a b
 unfolding is_lower_bytes
-lower-ended s y t e = rw e refl
-
-lower-cons : (x y : ℕ) (s t : List ℕ) → is_lower_bytes (x ∷ s) (y ∷ t) ≡ (ltb x y || (eqb x y && is_lower_bytes s t))
-unfolding is_lower_bytes
-lower-cons x y s t = refl
-
-lower-nil : (s : List ℕ) → is_lower_bytes s [] ≡ false
-unfolding is_lower_bytes
-lower-nil [] = refl
-lower-nil (x ∷ s) = refl
-
-below : (i k : ℕ) → i ≤ k → (i ≡ k → ⊥) → i < k
-below i k l n = by (compare i k)
+lower-than [] [] = refl
+lower-than [] (y ∷ b) = refl
+lower-than (x ∷ a) [] = refl
+lower-than (x ∷ a) (y ∷ b) = by (ltb x y) (eqb x y) (lower-than a b)
   where
-    by : Compare i k → i < k
-    by (lt d) = d
-    by (eq d) = absurd (n d)
-    by (gt d) = absurd (omega arith)
-
-module _ (a b : List ℕ) (i : ℕ) (h : LowerFrom a b i) where
-  here : i < length b → is_lower_bytes a b ≡ is_lower_bytes (drop i a) (get_or b i 0 ∷ drop (suc i) b)
-  here l = sym h.2 ∙ ap (is_lower_bytes (drop i a)) (drop-cons b i 0 l)
-
-  both : i < length a → i < length b
-      → is_lower_bytes a b ≡ (ltb (get_or a i 0) (get_or b i 0) || (eqb (get_or a i 0) (get_or b i 0) && is_lower_bytes (drop (suc i) a) (drop (suc i) b)))
-  both p q =
-      here q ∙ ap (λ (z : List ℕ). is_lower_bytes z (get_or b i 0 ∷ drop (suc i) b)) (drop-cons a i 0 p)
-      ∙ lower-cons (get_or a i 0) (get_or b i 0) (drop (suc i) a) (drop (suc i) b)
-
-  pub lower-end : i < length b → i ≡ length a → true ≡ is_lower_bytes a b
-  lower-end l e = sym (here l ∙ lower-ended (drop i a) (get_or b i 0) (drop (suc i) b) (ap (λ (k : ℕ). drop k a) e ∙ drop-length a))
-
-  inside : (i ≡ length a → ⊥) → i < length a
-  inside n = below i (length a) h.0 n
-
-  pub lower-less : (i ≡ length a → ⊥) → i < length b → get_or a i 0 < get_or b i 0 → true ≡ is_lower_bytes a b
-  lower-less n l d = sym (both (inside n) l ∙ rw (lt-ltb (get_or a i 0) (get_or b i 0) d) refl)
-
-  pub lower-more : (i ≡ length a → ⊥) → i < length b → get_or b i 0 < get_or a i 0 → false ≡ is_lower_bytes a b
-  lower-more n l d =
-      sym (both (inside n) l ∙ rw (le-ltb (get_or a i 0) (get_or b i 0) (omega arith), ne_eqb (get_or a i 0) (get_or b i 0) (λ e. omega arith)) refl)
-
-  pub lower-past : length b ≤ i → false ≡ is_lower_bytes a b
-  lower-past l =
-      let e : i ≡ length b = omega (arith, h.1) in
-      sym (sym h.2 ∙ ap (is_lower_bytes (drop i a)) (ap (λ (k : ℕ). drop k b) e ∙ drop-length b) ∙ lower-nil (drop i a))
-
-  pub lower-next : (i ≡ length a → ⊥) → i < length b → get_or b i 0 ≤ get_or a i 0 → get_or a i 0 ≤ get_or b i 0 → LowerFrom a b (i + 1)
-  lower-next n l d e =
-      let p = inside n in
-      let q : i + 1 ≡ suc i = omega arith in
-      let t : is_lower_bytes a b ≡ is_lower_bytes (drop (suc i) a) (drop (suc i) b) =
-      both p l ∙ rw (le-ltb (get_or a i 0) (get_or b i 0) (omega arith), eq-eqb (get_or a i 0) (get_or b i 0) (omega arith)) refl in
-      (omega arith, omega arith, ap (λ (k : ℕ). is_lower_bytes (drop k a) (drop k b)) q ∙ sym t)
-
-pub ruleset lower-laws = (lower-end, lower-less, lower-more, lower-past, lower-next)
+    by : (t u : Bool) → partial_lt (slice_partial_cmp (λ (x y : ℕ). Some (nat_cmp x y))) a b ≡ is_lower_bytes a b
+        → is_some_and is_lt (partial_ordering_then (Some (cond t Less (cond u Equal Greater))) (slice_partial_cmp (λ (x y : ℕ). Some (nat_cmp x y)) a b)) ≡ (t || (u && is_lower_bytes a b))
+    by true u e = refl
+    by false true e = e
+    by false false e = refl
 
 -- ---- a node with its least value
 

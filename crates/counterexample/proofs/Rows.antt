@@ -1,11 +1,9 @@
 -- What is counted of T rows, at each of the ways out of the code.
 use mathlib.Core.Path.{◌≡◌, refl, ap, sym, subst, ◌∙◌}
 use mathlib.Core.List.{List}
-use mathlib.Core.Bool.{Bool, true, false, ◌&&◌}
-use Prim.Native.Nat.{ℕ, zero, suc, ◌+◌, ◌-◌, ◌≤◌, ◌<◌}
+use mathlib.Core.Bool.{Bool, true, false}
+use Prim.Native.Nat.{ℕ, suc, ◌+◌, ◌-◌, ◌≤◌, ◌<◌}
 use native.Mathlib.Omega.{arith}
-use lib.Dec.{leb}
-use borrow.Author.Tests.{lt-ltb}
 use Rattle.basics.specs.Choice.{pick}
 use Rattle.tree_forest.specs.Forest.{end, node, nodes, measure}
 use Rattle.tree.specs.Encode.{root_count}
@@ -16,22 +14,11 @@ use Rattle.network.specs.Decode.{siblings}
 use Rattle.check_types.specs.TypeRows.{row_types, line_of}
 use Rattle.check_types.specs.TypeRowsLaws.{RowMet, met, unmet}
 use Rattle.check_types.specs.declared.Line.{Line}
-use Rattle.check_types.specs.declared.Line.TheVariants.{Of, Outside}
 use Rattle.counterexample_rules.specs.Breaking.{least_of, holds_child, least_with}
 use Rattle.counterexample_rules.specs.LeastLaws.{least-by}
 use Rattle.counterexample.specs.Tells.{RowNodes, Spans, Held}
-
--- ---- which child is held
-
-pub held_none : (m : Bool) (j size : ℕ) → m ≡ false → j ≡ 0 → false ≡ holds_child m j size
-held_none m j size e q = rw (e, q) refl
-
-pub held-inside : (m t : Bool) (j size : ℕ) → m ≡ false → (j ≡ 0 → ⊥) → t ≡ leb j size → t ≡ holds_child m j size
-held-inside m t j size e n q = rw e (q ∙ sym (ap (λ (z : Bool). z && leb j size) (lt-ltb 0 j (positive j n))))
-  where
-    positive : (k : ℕ) → (k ≡ 0 → ⊥) → 0 < k
-    positive zero f = absurd (f refl)
-    positive (suc k) f = omega arith
+use Rattle.std.specs.Prelude.{Option, Some, None}
+use Rattle.check_types.specs.TypeRows.{row_line}
 
 -- ---- nodes
 
@@ -58,14 +45,14 @@ module _ (file : List ℕ) (r n : ℕ) where
   pub held-no-rows : (j : ℕ) → n ≡ 0 → Held file r n j 0
   held-no-rows j z = record { small = omega arith; tells = λ wf le s. sym (count-end j (row_types file r n) (no_rows file r n z)) }
 
-  module _ (z : n ≡ 0 → ⊥) (g : Line) (lp : g ≡ line_of file r) where
-    pub nodes-outside : g ≡ Outside → RowNodes file r n 0
+  module _ (z : n ≡ 0 → ⊥) (g : Option Line) (lp : g ≡ line_of file r) where
+    pub nodes-outside : g ≡ None → RowNodes file r n 0
     nodes-outside lq = record { small = omega arith; tells = λ wf le s. unmet file r n wf le z g lp lq }
 
-    pub held-outside : (j : ℕ) → g ≡ Outside → Held file r n j 0
+    pub held-outside : (j : ℕ) → g ≡ None → Held file r n j 0
     held-outside j lq = record { small = omega arith; tells = λ wf le s. unmet file r n wf le z g lp lq }
 
-    module _ (i : ℕ) (m : Bool) (b first c next : ℕ) (lq : g ≡ Of i m b first c next) where
+    module _ (i : ℕ) (m : Bool) (b first c next : ℕ) (lq : g ≡ Some (row_line i m b first c next)) where
       pub opens : WellFormed file → r + n ≤ type_count file → RowMet file r n i m b first c next
       opens wf le = met file r n wf le z g i m b first c next lp lq
 
@@ -116,25 +103,6 @@ module _ (file : List ℕ) (r n : ℕ) where
             u ∙ sym (ap root_count eq ∙ ap (λ (v : Bool). root_count (pick v (node i (least_of b) (least_with (j - 1) (row_types file first c)) (least_with (j - x) (row_types file next (n - 1)))) (least_with (j - x) (row_types file next (n - 1))))) y);
       }
 
--- where the number is 0 any size says the same
-pub spans-none : (file : List ℕ) (r n j x : ℕ) → j ≡ 0 → Spans file r n j x
-spans-none file r n j x e = record {
-  holding = λ wf le s m. rw e (same m);
-  later = λ wf le s. omega arith;
-}
-  where
-    same : (m : Bool) → holds_child m 0 x ≡ holds_child m 0 (1 + nodes (row_types file r n))
-    same true = refl
-    same false = refl
-
-pub spans-nodes : (file : List ℕ) (r n j x y : ℕ) → RowNodes file r n x → y ≡ 1 + x → Spans file r n j y
-spans-nodes file r n j x y h e = record {
-  holding = λ wf le s m. rw (e, h.tells wf le s) refl;
-  later = λ wf le s. rw (e, h.tells wf le s) refl;
-}
-
-pub ruleset nodes-laws = (nodes-none, nodes-outside, nodes-more)
+pub ruleset nodes-laws = (nodes-none, nodes-outside)
 
 pub ruleset held-laws = (held-no-rows, held-outside)
-
-pub ruleset spans-laws = (spans-none, spans-nodes)

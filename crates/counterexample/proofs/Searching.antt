@@ -4,9 +4,10 @@ use mathlib.Core.List.{List, ◌++◌}
 use mathlib.Core.Bool.{Bool, true, false, not}
 use Prim.Native.Nat.{ℕ, suc, ◌+◌, ◌-◌, ◌≤◌, ◌<◌}
 use native.Mathlib.Omega.{arith}
+use lib.Dec.{ltb}
 use lib.ListN.{length, take, drop, take-append-drop}
-use borrow.Author.Tests.{lt-ltb, le-ltb, eq-eqb, ne_eqb}
-use Rattle.basics.specs.TestLaws.{not-true, not-false}
+use borrow.Author.Tests.{lt-ltb, le-ltb, ltb-true, ltb-false, eq-eqb, ne_eqb}
+use Rattle.basics.specs.TestLaws.{not-true, not-false, or-false}
 use Rattle.tree_forest.specs.Limits.{message_levels_below, message_nodes_below}
 use Rattle.tree_forest.specs.Forest.{end, Tree, tree, nodes, measure}
 use Rattle.scalar.specs.Value.{Value, value}
@@ -65,21 +66,18 @@ module _ {a b : List ℕ} (z : length b ≡ 0 → ⊥) {x y : ℕ} (p : NodesBel
       go m none h g e d = absurd (z (ap length d))
       go m (some n) h g e d = f m n h g e d
 
-  pub better-fewer : x < y → BetterTold a b true
+  pub better-unlike : (x ≡ y → ⊥) → BetterTold a b (ltb x y)
   unfolding is_lower
-  better-fewer l =
-      by-test true (λ m n h g e d.
+  better-unlike k =
+      by-test (ltb x y) (λ m n h g e d.
       let u = nodes-told m p h e in
       let v = nodes-told n q g d in
-      rw (lt-ltb (nodes (rooted m)) (nodes (rooted n)) (omega arith)) refl)
-
-  pub better-more : y < x → BetterTold a b false
-  unfolding is_lower
-  better-more l =
-      by-test false (λ m n h g e d.
-      let u = nodes-told m p h e in
-      let v = nodes-told n q g d in
-      rw (le-ltb (nodes (rooted m)) (nodes (rooted n)) (omega arith), ne_eqb (nodes (rooted m)) (nodes (rooted n)) (λ w. omega arith)) refl)
+      above (ltb x y) refl u v
+      ∙ sym (rw (ne_eqb (nodes (rooted m)) (nodes (rooted n)) (λ w. k (omega arith))) (sym (or-false (ltb (nodes (rooted m)) (nodes (rooted n)))))))
+    where
+      above : {i j : ℕ} (t : Bool) → ltb x y ≡ t → i ≡ suc x → j ≡ suc y → ltb x y ≡ ltb i j
+      above {i} {j} true e u v = e ∙ sym (lt-ltb i j (omega (arith, ltb-true x y e)))
+      above {i} {j} false e u v = e ∙ sym (le-ltb i j (omega (arith, ltb-false x y e)))
 
   pub better-bytes : (t : Bool) → y ≤ x → x ≤ y → t ≡ is_lower_bytes a b → BetterTold a b t
   unfolding is_lower

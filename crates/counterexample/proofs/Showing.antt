@@ -12,8 +12,6 @@ use Rattle.basics.specs.Choice.{pick}
 use Rattle.basics.specs.TestLaws.{and-false}
 use Rattle.refusal.specs.declared.Refusal.{Refusal}
 use Rattle.refusal.specs.declared.Refusal.TheVariants.{BufferSize, MoveNotAllowed}
-use Rattle.refusal.specs.declared.Verdict.{Verdict}
-use Rattle.refusal.specs.declared.Verdict.TheVariants.{Done, Refused}
 use Rattle.refusal.specs.declared.Outcome.{Outcome}
 use Rattle.refusal.specs.Refusal.{done_with, refused_by}
 use Rattle.tree_edit.specs.Wrote.{Wrote}
@@ -25,6 +23,7 @@ use Rattle.network.specs.Shapes.{tree_nodes}
 use Rattle.counterexample_rules.specs.Breaking.{breaking}
 use Rattle.counterexample.specs.Answer.{BreakingAnswer, breaking_refused, shown_bytes, breaking_shown, once_formed, are_type_rows, counterexample}
 use Rattle.counterexample.specs.Tells.{Searched}
+use Rattle.std.specs.Prelude.{Result, Ok, Err}
 
 module _ (file : List ℕ) (first second : ℕ) (out : List ℕ) where
   -- The outcome and the buffer left are the answer's.
@@ -46,14 +45,13 @@ module _ (file : List ℕ) (first second : ℕ) (out : List ℕ) where
     unfolding counterexample
     roomy = ap (λ (t : Bool). pick t (breaking_refused BufferSize out) (once_formed (form_of file) out rows)) (le-ltb (length out) 512 l)
 
-    pub show-form : {o : Outcome} {v : Verdict} {why : Refusal} → v ≡ form_of file → v ≡ Refused why → o ≡ record { bytes = 0; verdict = v } → Shows o out
+    pub show-form : {o : Outcome} {v : Result (Unit {0}) Refusal} {why : Refusal} → v ≡ form_of file → v ≡ Err why → o ≡ refused_by why → Shows o out
     show-form {o} {v} {why} f r e =
-        shows (roomy ∙ ap (λ (x : Verdict). once_formed x out rows) (sym f ∙ r)
-        ∙ ap (λ (x : Outcome). record { outcome = x; out = out }) (sym (e ∙ ap (λ (x : Verdict). record { bytes = 0; verdict = x }) r)))
+        shows (roomy ∙ ap (λ (x : Result (Unit {0}) Refusal). once_formed x out rows) (sym f ∙ r) ∙ ap (λ (x : Outcome). record { outcome = x; out = out }) (sym e))
 
-    module _ {v : Verdict} (f : v ≡ form_of file) (d : v ≡ Done) where
+    module _ {v : Result (Unit {0}) Refusal} (f : v ≡ form_of file) (d : v ≡ (Ok tt)) where
       formed : counterexample file first second out ≡ rows
-      formed = roomy ∙ ap (λ (x : Verdict). once_formed x out rows) (sym f ∙ d)
+      formed = roomy ∙ ap (λ (x : Result (Unit {0}) Refusal). once_formed x out rows) (sym f ∙ d)
 
       tested : (t : Bool) → are_type_rows file first second ≡ t
           → counterexample file first second out

@@ -22,7 +22,6 @@ use Rattle.network.specs.Shapes.{TypeShape}
 use Rattle.check_types.specs.TypeRows.{row_types, line_of}
 use Rattle.check_types.specs.TypeRowsLaws.{RowMet, unmet, one-row, no-row}
 use Rattle.check_types.specs.declared.Line.{Line}
-use Rattle.check_types.specs.declared.Line.TheVariants.{Of, Outside}
 use Rattle.state.proofs.SizeLaws.{message-size}
 use Rattle.counterexample_rules.specs.Breaking.{least_of, holds_child, least_with, least_message}
 use Rattle.counterexample_rules.specs.LeastLaws.{least-few}
@@ -30,6 +29,8 @@ use Rattle.counterexample_rules.specs.BreakingLaws.{least-well-formed}
 use Rattle.counterexample.specs.RowLaws.{row_within}
 use Rattle.counterexample.specs.Tells.{Spans, Held, LeastWritten, MessageWritten}
 use Rattle.counterexample.proofs.Rows.{no_rows, opens, sized, first_by}
+use Rattle.std.specs.Prelude.{Option, Some, None}
+use Rattle.check_types.specs.TypeRows.{row_line}
 
 -- ---- the bytes of a node
 
@@ -56,11 +57,11 @@ module _ (file : List ℕ) (r n j : ℕ) (o : List ℕ) (w : ℕ) (fit : w ≤ l
   pub least-none : n ≡ 0 → LeastWritten file r n j o o w w
   least-none z = record { inside = fit; writes = λ wf le s l. none_written j (row_types file r n) o w fit (no_rows file r n z) }
 
-  module _ (z : n ≡ 0 → ⊥) (g : Line) (lp : g ≡ line_of file r) where
-    pub least-outside : g ≡ Outside → LeastWritten file r n j o o w w
+  module _ (z : n ≡ 0 → ⊥) (g : Option Line) (lp : g ≡ line_of file r) where
+    pub least-outside : g ≡ None → LeastWritten file r n j o o w w
     least-outside lq = record { inside = fit; writes = λ wf le s l. unmet file r n wf le z g lp lq }
 
-    module _ (i : ℕ) (m : Bool) (b first c next : ℕ) (lq : g ≡ Of i m b first c next) (x l : ℕ) (t : Bool) (p : Spans file first c j x) (lx : l ≡ j - x)
+    module _ (i : ℕ) (m : Bool) (b first c next : ℕ) (lq : g ≡ Some (row_line i m b first c next)) (x l : ℕ) (t : Bool) (p : Spans file first c j x) (lx : l ≡ j - x)
         (e : t ≡ holds_child m j x) where
       K : Types
       K = row_types file first c
@@ -133,11 +134,11 @@ as-message t m b K j e = rw e refl
 type-nodes : (t : Tree Mark) (m : Bool) (b : ℕ) (K : Types) → t ≡ tree (mark m b) K → TypeShape t → nodes K ≤ 15
 type-nodes (tree a k) m b K e w = let f = w.few_nodes in let q : k ≡ K = cc in subst (λ (F : Types). nodes F ≤ 15) q (omega arith)
 
-module _ (file : List ℕ) (r j : ℕ) (o : List ℕ) (fit : 336 ≤ length o) (oct : Octets file) (g : Line) (lp : g ≡ line_of file r) where
-  pub message-outside : g ≡ Outside → MessageWritten file r j o o 0
+module _ (file : List ℕ) (r j : ℕ) (o : List ℕ) (fit : 336 ≤ length o) (oct : Octets file) (g : Option Line) (lp : g ≡ line_of file r) where
+  pub message-outside : g ≡ None → MessageWritten file r j o o 0
   message-outside lq = record { inside = omega arith; writes = λ wf le. no-row file r wf le g lp lq }
 
-  pub message-more : (i : ℕ) (m : Bool) (b first c next k q a e : ℕ) (o₁ o₂ : List ℕ) → g ≡ Of i m b first c next → Held file first c j k → least_bytes b ≡ replicate q 0
+  pub message-more : (i : ℕ) (m : Bool) (b first c next k q a e : ℕ) (o₁ o₂ : List ℕ) → g ≡ Some (row_line i m b first c next) → Held file first c j k → least_bytes b ≡ replicate q 0
       → length o₁ ≡ length o → Wrote o o₁ 0 a (5 + q) (0 % 256 ∷ 0 / 256 ∷ b ∷ k % 256 ∷ q ∷ replicate q 0) → LeastWritten file first c j o₁ o₂ a e
       → MessageWritten file r j o o₂ e
   unfolding encode
@@ -156,5 +157,3 @@ module _ (file : List ℕ) (r j : ℕ) (o : List ℕ) (fit : 336 ≤ length o) (
           let all : encode (rooted (least_message (type_of file r) j)) ≡ (0 ∷ 0 ∷ b ∷ k % 256 ∷ q ∷ replicate q 0) ++ encode K =
           ap encode is ∙ head-bytes 0 b q (k % 256) K end lb cnt ∙ ap (λ (l : List ℕ). (0 ∷ 0 ∷ b ∷ k % 256 ∷ q ∷ replicate q 0) ++ l) (append-nil (encode K)) in
           wrote-all-of (sym all) (wrote-more p w₁)
-
-pub ruleset message-laws = (message-outside, message-more)

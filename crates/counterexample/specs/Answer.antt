@@ -5,8 +5,6 @@ use Rattle.std.specs.Prelude.{List, [], ◌++◌, Bool, ◌&&◌, ℕ, length, d
 use Rattle.basics.specs.Choice.{pick}
 use Rattle.refusal.specs.declared.Refusal.{Refusal}
 use Rattle.refusal.specs.declared.Refusal.TheVariants.{BufferSize, MoveNotAllowed}
-use Rattle.refusal.specs.declared.Verdict.{Verdict}
-use Rattle.refusal.specs.declared.Verdict.TheVariants.{Done, Refused}
 use Rattle.refusal.specs.declared.Outcome.{Outcome}
 use Rattle.refusal.specs.Refusal.{done_with, refused_by}
 use Rattle.tree_forest.specs.Forest.{Tree}
@@ -18,6 +16,7 @@ use Rattle.network.specs.Form.{form_of}
 use Rattle.network.specs.Decode.{type_of}
 use Rattle.state.specs.Places.{out_room}
 use Rattle.counterexample_rules.specs.Breaking.{breaking}
+use Rattle.std.specs.Prelude.{Result, Ok, Err}
 
 -- The outcome, and what the out buffer holds then.
 pub record BreakingAnswer : Type 0 where
@@ -38,9 +37,9 @@ abbrev pub breaking_shown : List ℕ → List ℕ → BreakingAnswer
 breaking_shown bytes out = record { outcome = done_with (length bytes); out = bytes ++ drop (length bytes) out }
 
 -- Refusals 2 to 5 come first.
-abbrev pub once_formed : Verdict → List ℕ → BreakingAnswer → BreakingAnswer
-once_formed Done out r = r
-once_formed (Refused why) out r = breaking_refused why out
+abbrev pub once_formed : Result (Unit {0}) Refusal → List ℕ → BreakingAnswer → BreakingAnswer
+once_formed (Ok tt) out r = r
+once_formed (Err why) out r = breaking_refused why out
 
 -- "a number that is no type row".
 abbrev pub are_type_rows : List ℕ → ℕ → ℕ → Bool

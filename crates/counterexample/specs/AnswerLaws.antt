@@ -2,15 +2,15 @@
 use Rattle.std.specs.Prelude.{◌≡◌, refl, List, Bool, true, false, ℕ, length, drop, ltb}
 use Rattle.std.proofs.Math.Seq.{drop-append_seam}
 use Rattle.basics.specs.Choice.{pick}
+use Rattle.refusal.specs.declared.Refusal.{Refusal}
 use Rattle.refusal.specs.declared.Refusal.TheVariants.{BufferSize, MoveNotAllowed}
-use Rattle.refusal.specs.declared.Verdict.{Verdict}
-use Rattle.refusal.specs.declared.Verdict.TheVariants.{Done, Refused}
 use Rattle.refusal.specs.Refusal.{outcome_number}
 use Rattle.network.specs.Form.{form_of}
 use Rattle.network.specs.Decode.{type_of}
 use Rattle.state.specs.Places.{out_room}
 use Rattle.counterexample_rules.specs.Breaking.{breaking}
 use Rattle.counterexample.specs.Answer.{BreakingAnswer, breaking_refused, shown_bytes, breaking_shown, once_formed, are_type_rows, counterexample}
+use Rattle.std.specs.Prelude.{Result, Ok, Err}
 
 -- A refusal leaves the buffer, and what is past the count stays.
 record Leaves (out : List ℕ) (A : BreakingAnswer) : Type 0 where
@@ -21,9 +21,9 @@ either-leaves : (out : List ℕ) (t : Bool) (x y : BreakingAnswer) → Leaves ou
 either-leaves out true x y a b = a
 either-leaves out false x y a b = b
 
-form-leaves : (out : List ℕ) (v : Verdict) (x : BreakingAnswer) → Leaves out x → Leaves out (once_formed v out x)
-form-leaves out Done x a = a
-form-leaves out (Refused why) x a = record { leaves = λ h. refl; stays = refl }
+form-leaves : (out : List ℕ) (v : Result (Unit {0}) Refusal) (x : BreakingAnswer) → Leaves out x → Leaves out (once_formed v out x)
+form-leaves out (Ok tt) x a = a
+form-leaves out (Err why) x a = record { leaves = λ h. refl; stays = refl }
 
 answer-leaves : (file : List ℕ) (first second : ℕ) (out : List ℕ) → Leaves out (counterexample file first second out)
 unfolding counterexample

@@ -4,7 +4,6 @@
 
 ghost use Rattle.std.specs.Prelude.{◌≡◌, ◌∷◌, ℕ, ◌+◌, ◌-◌, ◌/◌, ◌%◌, ◌≤◌, ◌<◌, length, replicate};
 ghost use Rattle.tree_edit.specs.Wrote.{Wrote};
-ghost use Rattle.counterexample_rules.specs.Order.{is_lower_bytes};
 ghost use Rattle.counterexample_rules.specs.Breaking.{holds_child};
 ghost use Rattle.counterexample.specs.Answer.{counterexample};
 ghost use Rattle.counterexample.specs.Tells.{RowNodes, Spans, Held, LeastWritten, MessageWritten, BetterTold, Considered};
@@ -14,30 +13,13 @@ ghost use Rattle.network.specs.Decode.{type_of};
 ghost use Rattle.network.specs.Shapes.{tree_nodes};
 ghost use Rattle.counterexample.specs.Tells.{Searched};
 
-use check_types::Line;
-use refusal::{Outcome, Refusal, Verdict};
-
-// a less b, or 0 where b is larger.
-fn minus(a: u16, b: u16) -> u16
-    ensures { result ≡ a - b }
-{
-    if b <= a {
-        return a - b;
-    }
-    0
-}
+use refusal::{Outcome, Refusal};
 
 // Does the least message with the node number j hold a child of so many nodes?
 fn holds(must: bool, j: u16, size: u16) -> bool
     ensures { result ≡ holds_child must j size }
 {
-    if must {
-        return true;
-    }
-    if j == 0 {
-        return false;
-    }
-    j <= size
+    must || (0 < j && j <= size)
 }
 
 // One more than the sum, or 255 where that is larger.
@@ -45,11 +27,7 @@ fn one_more(a: u16, b: u16) -> u16
     requires { (a < 256) × (b < 256) }
     ensures { (result < 256) × ((1 + a + b < 256) → result ≡ 1 + a + b) }
 {
-    let x = a + b + 1;
-    if 255 < x {
-        return 255;
-    }
-    x
+    (a + b + 1).min(255)
 }
 
 // How many nodes the n rows from r on have, written out.
@@ -59,12 +37,12 @@ fn row_nodes(file: &[u8], r: u16, n: u16) -> u16
     if n == 0 {
         return 0;
     }
-    let Line::Of(_, _, _, first, c, next) = check_types::line_at(file, r) else {
+    let Some(row) = check_types::line_at(file, r) else {
         return 0;
     };
-    let a = row_nodes(file, first, c);
-    let b = row_nodes(file, next, n - 1);
-    one_more(a, b)
+    let below = row_nodes(file, row.first, row.count);
+    let others = row_nodes(file, row.next, n - 1);
+    one_more(below, others)
 }
 
 // One more than the nodes of the n rows from r on, where the number j asks for it.
@@ -84,12 +62,12 @@ fn held(file: &[u8], r: u16, n: u16, j: u16) -> u16
     if n == 0 {
         return 0;
     }
-    let Line::Of(_, must, _, first, c, next) = check_types::line_at(file, r) else {
+    let Some(row) = check_types::line_at(file, r) else {
         return 0;
     };
-    let size = span(file, first, c, j);
-    let others = held(file, next, n - 1, minus(j, size));
-    if holds(must, j, size) {
+    let size = span(file, row.first, row.count, j);
+    let others = held(file, row.next, n - 1, j.saturating_sub(size));
+    if holds(row.mandatory, j, size) {
         return others + 1;
     }
     others
@@ -104,8 +82,7 @@ fn push_least(out: &mut [u8], w: usize, id: u16, basic: u8, count: u8, size: usi
     let b = tree_edit::push(out, a, basic);
     let c = tree_edit::push(out, b, count);
     let d = tree_edit::push(out, c, size as u8);
-    let zeros = [0u8; 8];
-    tree_edit::append(out, d, &zeros, 0, size)
+    tree_edit::append(out, d, &[0; 8], 0, size)
 }
 
 // Writes from w on what the least message with the node number j of the n rows from r on holds of them, and gives the place past it.
@@ -116,23 +93,23 @@ fn write_least(out: &mut [u8], w: usize, file: &[u8], r: u16, n: u16, j: u16) ->
     if n == 0 {
         return w;
     }
-    let Line::Of(i, must, b, first, c, next) = check_types::line_at(file, r) else {
+    let Some(row) = check_types::line_at(file, r) else {
         return w;
     };
-    let size = span(file, first, c, j);
-    let later = minus(j, size);
-    if !holds(must, j, size) {
-        return write_least(out, w, file, next, n - 1, later);
+    let size = span(file, row.first, row.count, j);
+    let later = j.saturating_sub(size);
+    if !holds(row.mandatory, j, size) {
+        return write_least(out, w, file, row.next, n - 1, later);
     }
-    let z = scalar::least_size(b);
+    let z = scalar::least_size(row.basic);
     if out.len() - w < 5 + z {
         return w;
     }
-    let under = minus(j, 1);
-    let count = held(file, first, c, under);
-    let a = push_least(out, w, i, b, (count % 256) as u8, z);
-    let e = write_least(out, a, file, first, c, under);
-    write_least(out, e, file, next, n - 1, later)
+    let under = j.saturating_sub(1);
+    let count = held(file, row.first, row.count, under);
+    let a = push_least(out, w, row.id, row.basic, (count % 256) as u8, z);
+    let e = write_least(out, a, file, row.first, row.count, under);
+    write_least(out, e, file, row.next, n - 1, later)
 }
 
 // Writes the least message of row r with its node number j, and gives its length.
@@ -141,51 +118,28 @@ fn write_message(out: &mut [u8], file: &[u8], r: u16, j: u16) -> usize
     ensures { MessageWritten file.now r j out.old out.new result }
 {
     tree::octets(file);
-    let Line::Of(_, _, b, first, c, _) = check_types::line_at(file, r) else {
+    let Some(row) = check_types::line_at(file, r) else {
         return 0;
     };
-    let count = held(file, first, c, j);
-    let z = scalar::least_size(b);
-    let a = push_least(out, 0, 0, b, (count % 256) as u8, z);
-    write_least(out, a, file, first, c, j)
-}
-
-// Are the bytes a lower than b?
-fn lower_bytes(a: &[u8], b: &[u8]) -> bool
-    ensures { result ≡ is_lower_bytes a.now b.now }
-{
-    let mut i: usize = 0;
-    while i < b.len() {
-        if i == a.len() {
-            return true;
-        }
-        if a[i] < b[i] {
-            return true;
-        }
-        if b[i] < a[i] {
-            return false;
-        }
-        i += 1;
-    }
-    false
+    let count = held(file, row.first, row.count, j);
+    let z = scalar::least_size(row.basic);
+    let a = push_least(out, 0, 0, row.basic, (count % 256) as u8, z);
+    write_least(out, a, file, row.first, row.count, j)
 }
 
 // Is the message a lower than b, where b is one?
 fn better(a: &[u8], b: &[u8]) -> bool
     ensures { BetterTold a.now b.now result }
 {
-    if b.len() == 0 {
+    if b.is_empty() {
         return true;
     }
     let m = tree_count::node_count(a);
     let n = tree_count::node_count(b);
-    if m < n {
-        return true;
+    if m != n {
+        return m < n;
     }
-    if n < m {
-        return false;
-    }
-    lower_bytes(a, b)
+    a < b
 }
 
 // Keeps in `best`, of which the first n bytes are the lowest message so far, the least one with the node number j where that is lower and does
@@ -213,10 +167,8 @@ fn search(best: &mut [u8], file: &[u8], first: u16, second: u16) -> usize
 {
     let all = row_nodes(file, first, 1);
     let mut n: usize = 0;
-    let mut j: u16 = 0;
-    while j < all {
+    for j in 0..all {
         n = consider(best, n, file, first, second, j);
-        j += 1;
     }
     n
 }
@@ -229,22 +181,15 @@ pub fn show(file: &[u8], first: u16, second: u16, out: &mut [u8]) -> Outcome
     if out.len() < 512 {
         return refusal::refused(Refusal::BufferSize);
     }
-    let v = network_form::form_of(file);
-    let Verdict::Done = v else {
-        return Outcome {
-            bytes: 0,
-            verdict: v,
-        };
-    };
-    let rows = network_layout::type_count(file);
-    if rows <= first {
-        return refusal::refused(Refusal::MoveNotAllowed);
+    if let Err(why) = network_form::form_of(file) {
+        return refusal::refused(why);
     }
-    if rows <= second {
+    let rows = network_layout::type_count(file);
+    if rows <= first || rows <= second {
         return refusal::refused(Refusal::MoveNotAllowed);
     }
     let mut best = [0u8; 336];
     let n = search(&mut best, file, first, second);
-    let _end = tree_edit::append(out, 0, &best, 0, n);
+    tree_edit::append(out, 0, &best, 0, n);
     refusal::done(n)
 }

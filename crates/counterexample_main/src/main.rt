@@ -11,44 +11,32 @@ use std::io::{Read, Write};
 use std::process::ExitCode;
 use std::rt::Env;
 
-// What an argument names.
-#[derive(Clone, Copy)]
-enum Row {
-    Of(u16),
-    Wrong,
-}
-
 // A word as the number of a row: decimal digits and nothing else.
-fn row_of(word: &[u8]) -> Row {
+fn row_of(word: &[u8]) -> Option<u16> {
     if lines::word(word) < word.len() {
-        return Row::Wrong;
+        return None;
     }
-    let read = lines::read_number(word, 65535);
-    let n = read.value;
-    if 65535 < n {
-        return Row::Wrong;
-    }
-    Row::Of(n as u16)
+    let (n, _) = lines::read_number(word, 65535).ok()?;
+    u16::try_from(n).ok()
 }
 
-fn no_row<E: Write>(errors: &mut E, word: &[u8]) -> Row {
+fn no_row<E: Write>(errors: &mut E, word: &[u8]) -> Option<u16> {
     let _ = errors.write_all(b"'");
     let _ = errors.write_all(word);
     let _ = errors.write_all(b"' is no row number, 0 to 65535\n");
-    Row::Wrong
+    None
 }
 
 // The row that an argument names; says what is wrong, without repeating an argument that is too long.
-fn argument<V: Env, E: Write>(env: &V, errors: &mut E, i: usize) -> Row {
+fn argument<V: Env, E: Write>(env: &V, errors: &mut E, i: usize) -> Option<u16> {
     let mut word = [0u8; 4096];
     let Ok(n) = env.arg(i, &mut word) else {
         return no_row(errors, b"..");
     };
-    let row = row_of(&word[..n]);
-    if let Row::Wrong = row {
-        return no_row(errors, &word[..n]);
+    match row_of(&word[..n]) {
+        Some(row) => Some(row),
+        None => no_row(errors, &word[..n]),
     }
-    row
 }
 
 fn answer<W: Write>(out: &mut W, file: &[u8], first: u16, second: u16) -> io::Result<Status> {
@@ -84,8 +72,7 @@ fn with_rows<R: Read, W: Write, E: Write>(
     if let Some(error) = file.failed {
         return Ok(console::unreadable(errors, error));
     }
-    let n = file.len;
-    answer(out, &buf[..n], first, second)
+    answer(out, &buf[..file.len], first, second)
 }
 
 fn run<V: Env, R: Read, W: Write, E: Write>(
@@ -98,10 +85,10 @@ fn run<V: Env, R: Read, W: Write, E: Write>(
         let _ = errors.write_all(b"usage: counterexample FIRST SECOND < NETWORK\n");
         return Ok(Status::Failed);
     }
-    let Row::Of(first) = argument(env, errors, 1) else {
+    let Some(first) = argument(env, errors, 1) else {
         return Ok(Status::Failed);
     };
-    let Row::Of(second) = argument(env, errors, 2) else {
+    let Some(second) = argument(env, errors, 2) else {
         return Ok(Status::Failed);
     };
     with_rows(reader, out, errors, first, second)

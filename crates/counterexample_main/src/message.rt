@@ -34,7 +34,15 @@ fn print_nodes<W: Write>(
     if 7 < level {
         return Ok(at);
     }
-    let Head::Node(id, basic, count, mid) = tree::head_at(s, at) else {
+    let Some(
+        Head {
+            id,
+            basic,
+            count,
+            start: mid,
+        },
+    ) = tree::head_at(s, at)
+    else {
         return Ok(at);
     };
     let mut down = ids;
@@ -49,7 +57,15 @@ fn print_nodes<W: Write>(
 pub(crate) fn print<W: Write>(out: &mut W, s: &[u8]) -> io::Result<()> {
     bytes(out, s)?;
     write(out, b"\n")?;
-    let Head::Node(_, basic, count, mid) = tree::head_at(s, 0) else {
+    let Some(
+        Head {
+            basic,
+            count,
+            start: mid,
+            ..
+        },
+    ) = tree::head_at(s, 0)
+    else {
         return Ok(());
     };
     write(out, b".")?;

@@ -2,13 +2,13 @@
 // of the numbers. Before each time the last byte of D changes, so that no answer stands for another.
 #![tactic(auto)]
 
-use refusal::Verdict;
+use refusal::Refusal;
 use std::io;
 
-fn number(v: Verdict) -> u64 {
+fn number(v: Result<(), Refusal>) -> u64 {
     match v {
-        Verdict::Done => 0,
-        Verdict::Refused(why) => refusal::number_of(why) as u64,
+        Ok(()) => 0,
+        Err(why) => u64::from(refusal::number_of(why)),
     }
 }
 
@@ -32,7 +32,6 @@ fn repeat(s: &mut [u8]) -> u64 {
 fn main(rt: HostRuntime) -> io::Result<()> {
     let mut buf = [0u8; 32769];
     let file = console::read(&mut rt.stdin(), &mut buf);
-    let n = file.len;
-    let sum = repeat(&mut buf[..n]);
+    let sum = repeat(&mut buf[..file.len]);
     println!(rt; "{sum}")
 }

@@ -3,7 +3,7 @@
 #![tactic(auto)]
 
 use console::Status;
-use refusal::Verdict;
+use refusal::Refusal;
 use std::env::FillError;
 use std::io;
 use std::io::{Read, Write};
@@ -15,10 +15,13 @@ fn print<W: Write>(out: &mut W, number: u64, place: usize) -> io::Result<()> {
 }
 
 fn answer<W: Write>(out: &mut W, s: &[u8]) -> io::Result<()> {
-    let v = network_form::form_of(s);
-    match v {
-        Verdict::Done => print(out, 0, 0),
-        Verdict::Refused(why) => print(out, refusal::number_of(why) as u64, refusal::place_of(why)),
+    match network_form::form_of(s) {
+        Ok(()) => print(out, 0, 0),
+        Err(why) => print(
+            out,
+            u64::from(refusal::number_of(why)),
+            refusal::place_of(why),
+        ),
     }
 }
 
@@ -26,8 +29,7 @@ fn answer<W: Write>(out: &mut W, s: &[u8]) -> io::Result<()> {
 fn judge<R: Read, W: Write>(reader: &mut R, out: &mut W) -> io::Result<()> {
     let mut buf = [0u8; 32769];
     let file = console::read(reader, &mut buf);
-    let n = file.len;
-    answer(out, &buf[..n])
+    answer(out, &buf[..file.len])
 }
 
 // The file of a name that is an argument.
@@ -38,10 +40,9 @@ fn named<F: Files, W: Write, E: Write>(
     name: &[u8],
 ) -> io::Result<()> {
     match console::open(files, name) {
-        Ok(file) => {
-            let mut reader = file;
+        Ok(mut file) => {
             out.write_all(name)?;
-            judge(&mut reader, out)
+            judge(&mut file, out)
         }
         Err(error) => {
             console::fail(errors, name, error);

@@ -21,14 +21,12 @@ pub fn pokhveti_check(file: &[u8], place: &mut usize) -> u32
     ensures value { result ≡ refusal_number (check_file file.now) }
     ensures place_after { place.new ≡ refusal_place (check_file file.now) }
 {
-    let x = controller::check(file);
-    let v = x.verdict;
     let answer = Outcome {
         bytes: 0,
-        verdict: v,
+        verdict: controller::check(file).verdict,
     };
     *place = refusal::place(answer);
-    refusal::number(answer) as u32
+    u32::from(refusal::number(answer))
 }
 
 // Writes a record of 18 bytes for each node of an accepted file's environments: 0, the refusal's number, or 1, with nothing written, where
@@ -40,7 +38,7 @@ pub fn pokhveti_environments(file: &[u8], nodes: &mut [u8], count: &mut usize) -
 {
     let answer = controller::environments(file, nodes);
     *count = answer.count;
-    answer.number as u32
+    u32::from(answer.number)
 }
 
 // Reads a part of a message: its length, 0 for the empty part; where it starts is written to `start`.
@@ -67,7 +65,7 @@ pub fn pokhveti_fresh(file: &[u8], state: &mut [u8], place: &mut usize) -> u32
 {
     let answer = controller::fresh(file, state);
     *place = refusal::place(answer);
-    refusal::number(answer) as u32
+    u32::from(refusal::number(answer))
 }
 
 // A move's outcome in numbers: its own is the result, the count of bytes written out and the place are written to `bytes` and `place`.
@@ -77,7 +75,7 @@ fn report(answer: Outcome, bytes: &mut usize, place: &mut usize) -> u32
 {
     *bytes = answer.bytes;
     *place = refusal::place(answer);
-    refusal::number(answer) as u32
+    u32::from(refusal::number(answer))
 }
 
 // A ready assign, if or while. Of every move the result is 0 or the number of the refusal.

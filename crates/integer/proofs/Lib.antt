@@ -1,2 +1,1 @@
-pub mod Two
-pub mod Parts
+pub mod Exact

@@ -6,16 +6,15 @@ use Rattle.std.specs.Int.Signed.{mag}
 use Rattle.std.specs.Int.{Width, w32, w64}
 use mir.Val.{hbits}
 use Rattle.basics.specs.Choice.{pick}
-use Rattle.integer.specs.declared.IntSum.{IntSum}
-use Rattle.integer.specs.declared.LongSum.{LongSum}
+use Rattle.std.specs.Prelude.{Option, Some, None}
 
 -- Is the integer one of the width, from -2 ^ hbits w to 2 ^ hbits w - 1? `mag` is n both for n and for -1 - n.
 unfoldable pub in_width : Width → ℤ → Bool
 in_width w z = ltb (mag z) (2 ^ hbits w)
 
 -- The exact result z of an operation on ints, and on longs, or that it is outside.
-unfoldable pub int_sum : ℤ → IntSum
-int_sum z = pick (in_width w32 z) (IntSum.Exact z) IntSum.Outside
+unfoldable pub int_sum : ℤ → Option ℤ
+int_sum z = pick (in_width w32 z) (Some z) None
 
-unfoldable pub long_sum : ℤ → LongSum
-long_sum z = pick (in_width w64 z) (LongSum.Exact z) LongSum.Outside
+unfoldable pub long_sum : ℤ → Option ℤ
+long_sum z = pick (in_width w64 z) (Some z) None

@@ -1,27 +1,26 @@
 -- What the characters of a line stand for. Assumes nothing.
-use Rattle.std.specs.Prelude.{ℕ, ◌+◌, ◌*◌, ◌≤◌, ◌<◌, ◌≡◌, Bool, true, cond, List, eqb, length, get_or}
+use Rattle.std.specs.Prelude.{ℕ, ◌+◌, ◌-◌, ◌*◌, ◌≤◌, ◌<◌, ◌≡◌, Bool, true, cond, List, eqb, length, get_or, Option, Some, None}
 
--- `r` is the value of the hexadecimal digit x, 0 to 9, a to f or A to F, or 16 where x is none.
-pub record HexDigit (x r : ℕ) : Type 0 where
-  pub decimal : 48 ≤ x → x ≤ 57 → x ≡ 48 + r
-  pub lower : 97 ≤ x → x ≤ 102 → x ≡ 87 + r
-  pub upper : 65 ≤ x → x ≤ 70 → x ≡ 55 + r
-  pub below : x < 48 → r ≡ 16
-  pub between : 57 < x → x < 65 → r ≡ 16
-  pub amid : 70 < x → x < 97 → r ≡ 16
-  pub above : 102 < x → r ≡ 16
-  pub most : r ≤ 16
+-- `r` is the value of the hexadecimal digit x, 0 to 9, a to f or A to F, if x is one.
+pub record HexDigit (x : ℕ) (r : Option ℕ) : Type 0 where
+  pub decimal : 48 ≤ x → x ≤ 57 → r ≡ Some (x - 48)
+  pub lower : 97 ≤ x → x ≤ 102 → r ≡ Some (x - 87)
+  pub upper : 65 ≤ x → x ≤ 70 → r ≡ Some (x - 55)
+  pub below : x < 48 → r ≡ None
+  pub between : 57 < x → x < 65 → r ≡ None
+  pub amid : 70 < x → x < 97 → r ≡ None
+  pub above : 102 < x → r ≡ None
 
--- `r` is the value of two hexadecimal digits with the values a and b, or 256 where one of them is none.
-pub record HexPair (a b r : ℕ) : Type 0 where
-  pub both : a < 16 → b < 16 → r ≡ 16 * a + b
-  pub high : 15 < a → r ≡ 256
-  pub low : 15 < b → r ≡ 256
+-- `r` is the value of the two hexadecimal digits x and y, if both are such.
+pub record HexPair (x y : ℕ) (r : Option ℕ) : Type 0 where
+  pub both : (a b : ℕ) → HexDigit x (Some a) → HexDigit y (Some b) → r ≡ Some (16 * a + b)
+  pub high : HexDigit x None → r ≡ None
+  pub low : HexDigit y None → r ≡ None
 
--- `r` is the value with one more decimal digit, or 2 ^ 32 where that is past 32 bits.
-pub record Longer (value digit r : ℕ) : Type 0 where
-  pub fits : 10 * value + digit ≤ 4294967295 → r ≡ 10 * value + digit
-  pub large : 4294967295 < 10 * value + digit → r ≡ 4294967296
+-- `r` is the value with one more decimal digit, if that is not past 32 bits.
+pub record Longer (value digit : ℕ) (r : Option ℕ) : Type 0 where
+  pub fits : 10 * value + digit ≤ 4294967295 → r ≡ Some (10 * value + digit)
+  pub large : 4294967295 < 10 * value + digit → r ≡ None
 
 -- x is a blank or a tab.
 abbrev pub blank : ℕ → Bool

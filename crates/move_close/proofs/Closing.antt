@@ -13,23 +13,23 @@ use Rattle.state.specs.Session.{Session, free, State, set_slot}
 use Rattle.state.specs.Bytes.{read_session}
 use Rattle.move_rules.specs.Readiness.{is_done}
 use Rattle.move_rules.specs.Moves.{Result, moved, require, close_move}
-use Rattle.move_frame.specs.declared.Running.{Running}
 use Rattle.move_frame.specs.Made.{StateOf, Made, InSession, Runs, RunsAt}
 use Rattle.move_frame.specs.MadeLaws.{made-refused, made-slot, in-session}
 use Rattle.state_slots.specs.Slots.{freed}
 use Rattle.state_slots.specs.SlotLaws.{free-set}
+use Rattle.std.specs.Prelude.{Option, Some, None}
 
 -- What closing does, once it is known whether the session is done.
 abbrev closes : State → ℕ → ℕ → Bool → Result
 closes G q n t = require t MoveNotAllowed (moved (set_slot G q n free) [])
 
-module _ (file s : List ℕ) (q n : ℕ) {x : Running} (runs : RunsAt file s q n x) where
-  pub close-nothing : {o : Outcome} → x ≡ Running.Nothing → o ≡ refused_by MoveNotAllowed → Made file (λ N G. close_move N G q n) s s o
+module _ (file s : List ℕ) (q n : ℕ) {x : Option (ℕ × ℕ)} (runs : RunsAt file s q n x) where
+  pub close-nothing : {o : Outcome} → x ≡ None → o ≡ refused_by MoveNotAllowed → Made file (λ N G. close_move N G q n) s s o
   close-nothing e f =
       made-refused file (λ N G. close_move N G q n) f
       (λ w G st. subst (Runs file s G q n) e (runs.tells w G st) (λ B S. closes G q n (is_done S.progress B)))
 
-  module _ (at b : ℕ) (e : x ≡ Running.Session at b) {d : Bool} (is : d ≡ is_done (read_session s at).progress (behaviour_of file b)) where
+  module _ (at b : ℕ) (e : x ≡ Some (at, b)) {d : Bool} (is : d ≡ is_done (read_session s at).progress (behaviour_of file b)) where
     closing : (w : WellFormed file) (G : State) (st : StateOf file s G) → close_move (network_of file) G q n ≡ closes G q n d
     closing w G st =
         let h : InSession file s G q n at b = subst (Runs file s G q n) e (runs.tells w G st) in

@@ -5,14 +5,13 @@ ghost use Rattle.std.specs.Prelude.{◌≡◌, length};
 ghost use Rattle.move_rules.specs.Moves.{close_move};
 ghost use Rattle.move_frame.specs.Made.{Made};
 
-use move_frame::Running;
 use refusal::{Outcome, Refusal};
 
 pub fn close_move(file: &[u8], state: &mut [u8], q: u16, n: u16) -> Outcome
     requires { length state.old ≡ 65536 }
     ensures { Made file.now (λ N G. close_move N G q n) state.old state.new result }
 {
-    let Running::Session(slot, b) = move_frame::session_at(file, state, q, n) else {
+    let Some((slot, b)) = move_frame::session_at(file, state, q, n) else {
         return refusal::refused(Refusal::MoveNotAllowed);
     };
     if !move_readiness::is_done(file, state, slot, b) {

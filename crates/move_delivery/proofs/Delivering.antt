@@ -14,8 +14,6 @@ use Rattle.wire.specs.Wire.{part, with_part}
 use Rattle.wire.specs.WireLaws.{length-with_part}
 use Rattle.refusal.specs.declared.Refusal.{Refusal}
 use Rattle.refusal.specs.declared.Refusal.TheVariants.{MoveNotAllowed, QueueFull, Stuck}
-use Rattle.refusal.specs.declared.Verdict.{Verdict}
-use Rattle.refusal.specs.declared.Verdict.TheVariants.{Done, Refused}
 use Rattle.refusal.specs.Refusal.{done_with}
 use Rattle.network_syntax.specs.Syntax.{MessageType, Optional, none, some}
 use Rattle.network_syntax.specs.Rows.{Input, input_of}
@@ -53,50 +51,50 @@ use Rattle.state_progress.specs.Stored.{row_stored}
 use Rattle.state_slots.specs.SlotLaws.{row-set, tree_set, key_set, begin-set, living-set, set-again}
 use Rattle.state_slots.specs.Living.{Living}
 use Rattle.state_slots.specs.Slots.{begun, tree_stored, key_stored}
-use Rattle.state_trees.specs.declared.Change.{Change}
 use Rattle.state_trees.specs.Changing.{ChangedTo, kept_bytes, ReplacesAt}
 use Rattle.move_targets.specs.declared.Target.{Target}
 use Rattle.move_targets.specs.Answers.{start_with, passes_input, PermitsInput, target_as, StarterExists, Targets}
 use Rattle.move_fitting.specs.Fitting.{Passed, Passes}
-use Rattle.move_keys.specs.declared.Finding.{Finding}
 use Rattle.move_keys.specs.Finding.{IsTarget, FoundAs, Finds}
 use Rattle.move_frame.specs.Made.{StateOf}
 use Rattle.move_frame.specs.MadeLaws.{target_is}
 use Rattle.state_queues.specs.Queue.{pushed}
 use Rattle.state_queues.specs.ChangeLaws.{push-state}
 use Rattle.move_delivery.specs.declared.Arrival.{Arrival}
-use Rattle.move_delivery.specs.declared.Admission.{Admission}
 use Rattle.move_delivery.specs.Delivery.{on_verdict, Permitted, Allowed, MessageOffered, LetsIn, StartTree, AtSlot, ArrivesAs, Storable, StorableIf, Known}
 use Rattle.move_delivery.specs.Delivery.{StartsBy, StartedAs, StartsSession, Queues, PlacedAs, PlacesMessage, admitting, AdmittedAs, Admits}
 use Rattle.move_delivery.specs.Delivery.{started_with, StoresStart, Stores}
 use Rattle.move_targets.specs.SessionLaws.{target-far}
 use Rattle.move_frame.specs.HoldingLaws.{holding-sized, holding-bytes, holding-part}
+use Rattle.std.specs.Prelude.{Option, Some, None}
+use Rattle.std.specs.Prelude as std
+use Rattle.std.specs.Prelude.{Ok, Err}
 
 -- ---- 15 and 16
 
 module _ {file : List ℕ} {q a : ℕ} {x : Bool} (h : PermitsInput file q a x) where
-  pub is-permitted : x ≡ true → Permitted file q a Done
+  pub is-permitted : x ≡ true → Permitted file q a (Ok tt)
   is-permitted e = record { tells = λ l r. ap (λ (y : Bool). require y MoveNotAllowed r) (sym e ∙ h.tells l) }
 
-  pub not-permitted : x ≡ false → Permitted file q a (Refused MoveNotAllowed)
+  pub not-permitted : x ≡ false → Permitted file q a (Err MoveNotAllowed)
   not-permitted e = record { tells = λ l r. ap (λ (y : Bool). require y MoveNotAllowed r) (sym e ∙ h.tells l) }
 
 pub ruleset permitted-laws = (is-permitted, not-permitted)
 
 module _ {file : List ℕ} {q : ℕ} {t : Target} where
-  pub allowed-none : t ≡ Target.NoTarget → Allowed file q t (Refused MoveNotAllowed)
+  pub allowed-none : t ≡ Target.NoTarget → Allowed file q t (Err MoveNotAllowed)
   unfolding target_as
   allowed-none e = record { tells = λ x r. ap (λ (y : Target). allowed q (target_as file y) r) (sym e) }
 
-  pub allowed-full : t ≡ Target.QueueFull → Allowed file q t (Refused QueueFull)
+  pub allowed-full : t ≡ Target.QueueFull → Allowed file q t (Err QueueFull)
   unfolding target_as
   allowed-full e = record { tells = λ x r. ap (λ (y : Target). allowed q (target_as file y) r) (sym e) }
 
-  pub allowed-queued : t ≡ Target.Queued → Allowed file q t Done
+  pub allowed-queued : t ≡ Target.Queued → Allowed file q t (Ok tt)
   unfolding target_as
   allowed-queued e = record { tells = λ x r. ap (λ (y : Target). allowed q (target_as file y) r) (sym e) }
 
-  pub allowed-starts : {c k a : ℕ} {v : Verdict} → t ≡ Target.Starts c k a → Permitted file q a v → Allowed file q t v
+  pub allowed-starts : {c k a : ℕ} {v : std.Result (Unit {0}) Refusal} → t ≡ Target.Starts c k a → Permitted file q a v → Allowed file q t v
   unfolding target_as
   allowed-starts {c} {k} {a} e h = record {
     tells = λ x r.
@@ -110,32 +108,29 @@ module _ {file : List ℕ} {q : ℕ} {t : Target} where
 
 pub ruleset allowed-laws = (allowed-none, allowed-full, allowed-queued, allowed-starts)
 
-passing : {file : List ℕ} {q : ℕ} {t : Target} {v : Verdict} → Allowed file q t v → v ≡ Done → StarterExists file t → (x : Result)
+passing : {file : List ℕ} {q : ℕ} {t : Target} {v : std.Result (Unit {0}) Refusal} → Allowed file q t v → v ≡ (Ok tt) → StarterExists file t → (x : Result)
     → allowed q (target_as file t) x ≡ x
-passing a d h x = sym (a.tells h x) ∙ ap (λ (u : Verdict). on_verdict u x) d
+passing a d h x = sym (a.tells h x) ∙ ap (λ (u : std.Result (Unit {0}) Refusal). on_verdict u x) d
 
-module _ {file : List ℕ} {q : ℕ} {t : Target} {l : List ℕ} {r : ℕ} {own : Verdict} {other : Refusal} {v : Verdict} (a : Allowed file q t v) where
-  pub let-not : {why : Refusal} → v ≡ Refused why → LetsIn file q t l r own other v
-  let-not {why} e = record {
-    tells = λ w i h f c. subst (λ (u : Verdict). Passed u l (λ k. allowed q (target_as file t) (f k))) (sym e) (λ k.
-        sym (a.tells h (f k)) ∙ ap (λ (u : Verdict). on_verdict u (f k)) e);
-  }
+module _ {file : List ℕ} {q : ℕ} {t : Target} {l : List ℕ} {r : ℕ} {own : std.Result (Unit {0}) Refusal} {other : Refusal} {v : std.Result (Unit {0}) Refusal} (a : Allowed file q t v) where
+  pub let-not : {why : Refusal} → v ≡ Err why → LetsIn file q t l r own other (Err why)
+  let-not e = record { tells = λ w i h f c k. sym (a.tells h (f k)) ∙ ap (λ (u : std.Result (Unit {0}) Refusal). on_verdict u (f k)) e }
 
-  module _ (d : v ≡ Done) where
-    pub let-own : {why : Refusal} → own ≡ Refused why → LetsIn file q t l r own other own
-    let-own {why} e = record {
-      tells = λ w i h f c. subst (λ (u : Verdict). Passed u l (λ k. allowed q (target_as file t) (f k))) (sym e) (λ k.
-          passing a d h (f k) ∙ subst (λ (u : Verdict). MessageOffered u l other (type_of file r) f) e c k);
+  module _ (d : v ≡ (Ok tt)) where
+    pub let-own : {why : Refusal} → own ≡ Err why → LetsIn file q t l r own other (Err why)
+    let-own e = record {
+      tells = λ w i h f c k.
+          passing a d h (f k) ∙ subst (λ (u : std.Result (Unit {0}) Refusal). MessageOffered u l other (type_of file r) f) e c k;
     }
 
-    pub let-come : {u : Verdict} → own ≡ Done → Passes l file r other u → LetsIn file q t l r own other u
+    pub let-come : {u : std.Result (Unit {0}) Refusal} → own ≡ (Ok tt) → Passes l file r other u → LetsIn file q t l r own other u
     let-come {u} e p = record {
-      tells = λ w i h f c. by u h f (p.tells w i f (subst (λ (z : Verdict). MessageOffered z l other (type_of file r) f) e c));
+      tells = λ w i h f c. by u h f (p.tells w i f (subst (λ (z : std.Result (Unit {0}) Refusal). MessageOffered z l other (type_of file r) f) e c));
     }
       where
-        by : (u : Verdict) → StarterExists file t → (f : (Tree Value → Result) → Result) → Passed u l f → Passed u l (λ k. allowed q (target_as file t) (f k))
-        by Done h f c = (c.0, c.1, λ k. passing a d h (f k) ∙ c.2 k)
-        by (Refused why) h f c = λ k. passing a d h (f k) ∙ c k
+        by : (u : std.Result (Unit {0}) Refusal) → StarterExists file t → (f : (Tree Value → Result) → Result) → Passed u l f → Passed u l (λ k. allowed q (target_as file t) (f k))
+        by (Ok tt) h f c = (c.0, c.1, λ k. passing a d h (f k) ∙ c.2 k)
+        by (Err why) h f c = λ k. passing a d h (f k) ∙ c k
 
 pub ruleset let-laws = (let-not, let-own, let-come)
 
@@ -160,7 +155,7 @@ scratch-living {n} {s} {s₁} k e f =
     let p : part s 0 slot_size ≡ slot_bytes free = take_all slot_size s (omega (arith, l)) ∙ z in
     new-living s 0 (omega (arith, l)) (f ∙ begin-set s 0 (omega (arith, l)) p)
 
-pub start-tree-is : {file : List ℕ} {p n : ℕ} {s s₁ l o : List ℕ} {x : Change} → n ≡ slot_size → s ≡ replicate n 0 → s₁ ≡ begun s 0
+pub start-tree-is : {file : List ℕ} {p n : ℕ} {s s₁ l o : List ℕ} {x : Option ℕ} → n ≡ slot_size → s ≡ replicate n 0 → s₁ ≡ begun s 0
     → ReplacesAt file p s₁ 0 l o x → StartTree file p l o x
 start-tree-is k e f h = record { tells = λ w q m g. h.tells w q new_session m (scratch-living k e f) g; small = h.small }
 
@@ -204,32 +199,32 @@ store-start {s} {s₁} {s₂} {s₃} {s₄} {s₅} {o} {slot} {n} {c} {k} {a} {x
 
 -- ---- a session that starts, by its input's path
 
-tree-changed : {file l o : List ℕ} {p : ℕ} {x y : Change} → StartTree file p l o x → x ≡ y → WellFormed file → p < path_count file → (m : Tree Value)
+tree-changed : {file l o : List ℕ} {p : ℕ} {x y : Option ℕ} → StartTree file p l o x → x ≡ y → WellFormed file → p < path_count file → (m : Tree Value)
     → trees.Message l m → ChangedTo o y (replace_at void_value (network.path_of file p) m end)
-tree-changed {file} {l} {o} {p} h e w lp m g = subst (λ (y : Change). ChangedTo o y (replace_at void_value (network.path_of file p) m end)) e (h.tells w lp m g)
+tree-changed {file} {l} {o} {p} h e w lp m g = subst (λ (y : Option ℕ). ChangedTo o y (replace_at void_value (network.path_of file p) m end)) e (h.tells w lp m g)
 
-module _ {file l o : List ℕ} {slot c k a p v : ℕ} {x : Change} (h : StartTree file p l o x) where
-  pub by-large : x ≡ Change.TooLarge → StartsBy file slot c k a p l v o (Admission.Refused Stuck)
+module _ {file l o : List ℕ} {slot c k a p v : ℕ} {x : Option ℕ} (h : StartTree file p l o x) where
+  pub by-large : x ≡ None → StartsBy file slot c k a p l v o (Err Stuck)
   by-large e = record { tells = λ w lc la lp m g. inl (refl, tree-changed h e w lp m g); storable = λ _ _. tt }
 
-  module _ {n : ℕ} (e : x ≡ Change.Kept n) where
-    pub by-far-choice : {y : Refusal} → 255 < c → StartsBy file slot c k a p l v o (Admission.Refused y)
+  module _ {n : ℕ} (e : x ≡ Some n) where
+    pub by-far-choice : {y : Refusal} → 255 < c → StartsBy file slot c k a p l v o (Err y)
     by-far-choice u = record { tells = λ w lc la lp m g. absurd (omega (arith, u, lc, (counts-kept file w).behaviours)); storable = λ _ _. tt }
 
-    pub by-far-input : {y : Refusal} → 255 < a → StartsBy file slot c k a p l v o (Admission.Refused y)
+    pub by-far-input : {y : Refusal} → 255 < a → StartsBy file slot c k a p l v o (Err y)
     by-far-input u = record { tells = λ w lc la lp m g. absurd (omega (arith, u, la, (counts-kept file w).behaviours)); storable = λ _ _. tt }
 
-    pub by-kept : c ≤ 255 → a ≤ 255 → v < 0x100000000 → StartsBy file slot c k a p l v o (Admission.Admitted (Arrival.Starts slot c k a n v))
+    pub by-kept : c ≤ 255 → a ≤ 255 → v < 0x100000000 → StartsBy file slot c k a p l v o (Ok (Arrival.Starts slot c k a n v))
     by-kept lc la lv = record {
       tells = λ w _ _ lp m g. inr (n, refl, tree-changed h e w lp m g);
-      storable = λ u i. (u, omega (arith, lc), omega (arith, la), subst (λ (y : Change). kept_bytes y ≤ tree_room) e h.small, lv);
+      storable = λ u i. (u, omega (arith, lc), omega (arith, la), subst (λ (y : Option ℕ). kept_bytes y ≤ tree_room) e h.small, lv);
     }
 
 pub ruleset by-laws = (by-large, by-far-choice, by-far-input, by-kept)
 
 -- ---- by its input
 
-module _ (file l o : List ℕ) (slot c k a v : ℕ) {x : InputRow} {y : Admission} (h : x ≡ input_row_of file a) where
+module _ (file l o : List ℕ) (slot c k a v : ℕ) {x : InputRow} {y : std.Result Arrival Refusal} (h : x ≡ input_row_of file a) where
   started-as : (z : InputRow) → x ≡ z → (slot + slot_size ≤ 65536 → (i : ℕ) → StorableIf i l y)
       → (WellFormed file → c < behaviour_count file → a < behaviour_count file → InputKeptBy file (behaviour_count file) z → (m : Tree Value) → trees.Message l m
       → StartedAs (input_with file (behaviour_of file) a z) slot c k a m v o y) → StartsSession file slot c k a l v o y
@@ -248,7 +243,7 @@ module _ (file l o : List ℕ) (slot c k a v : ℕ) {x : InputRow} {y : Admissio
       started-as (InputRow.RequestResponse p q u w) e d.storable (λ w lc la i m g. (refl, d.tells w lc la i.1 m g))
 
 pub start_none : {file l o : List ℕ} {slot c k a v : ℕ} {x : InputRow} → x ≡ input_row_of file a → x ≡ InputRow.Nothing
-    → StartsSession file slot c k a l v o (Admission.Refused MoveNotAllowed)
+    → StartsSession file slot c k a l v o (Err MoveNotAllowed)
 start_none {file} {l} {o} {slot} {c} {k} {a} {v} h e = started-as file l o slot c k a v h InputRow.Nothing e (λ _ _. tt) (λ w lc la i m g. refl)
 
 pub ruleset start-laws = (start-one-way, start-request, start_none)
@@ -256,13 +251,13 @@ pub ruleset start-laws = (start-one-way, start-request, start_none)
 -- ---- a queue
 
 module _ {l : List ℕ} {slot i : ℕ} where
-  pub queue-far : {y : Refusal} → 254 < i → Queues slot i l (Admission.Refused y)
+  pub queue-far : {y : Refusal} → 254 < i → Queues slot i l (Err y)
   queue-far u = record { tells = λ h m g. absurd (omega (arith, u, h)); storable = λ _. tt }
 
-  pub queue_long : {y : Refusal} → 336 < length l → Queues slot i l (Admission.Refused y)
+  pub queue_long : {y : Refusal} → 336 < length l → Queues slot i l (Err y)
   queue_long u = record { tells = λ h m g. absurd (omega (arith, u, ap length g.bytes, message-size m g.good)); storable = λ _. tt }
 
-  pub queue-room : i ≤ 254 → length l ≤ 336 → Queues slot i l (Admission.Admitted (Arrival.Queued slot))
+  pub queue-room : i ≤ 254 → length l ≤ 336 → Queues slot i l (Ok (Arrival.Queued slot))
   queue-room u v = record { tells = λ h m g. refl; storable = λ w. (w, omega (arith, u), v) }
 
 pub ruleset queue-laws = (queue-far, queue_long, queue-room)
@@ -281,27 +276,27 @@ inside : (q n slot : ℕ) → q ≤ 3 → n ≤ 3 → slot ≡ slot_start q n �
 inside q n slot lq ln c = omega (arith, c, lq, ln)
 
 module _ {file l o : List ℕ} {i n q v : ℕ} {t : Target} (x : q ≡ operation_service file i) where
-  nowhere : (4 ≤ (operation_of file i).service) ⊎ (4 ≤ n) → PlacesMessage file i n t l v o (Admission.Refused MoveNotAllowed)
+  nowhere : (4 ≤ (operation_of file i).service) ⊎ (4 ≤ n) → PlacesMessage file i n t l v o (Err MoveNotAllowed)
   nowhere h = record {
     tells = λ w li se G te m g f gone to.
         ap (λ (u : definition.Target). deliver (network_of file) gone (operation_of file i) n u to m) (te ∙ target-far file G (operation_of file i) n w h);
     storable = tt;
   }
 
-  pub far-service : 3 < q → PlacesMessage file i n t l v o (Admission.Refused MoveNotAllowed)
+  pub far-service : 3 < q → PlacesMessage file i n t l v o (Err MoveNotAllowed)
   far-service u = nowhere (inl (omega (arith, u, is-service file i x)))
 
-  pub far-session : 3 < n → PlacesMessage file i n t l v o (Admission.Refused MoveNotAllowed)
+  pub far-session : 3 < n → PlacesMessage file i n t l v o (Err MoveNotAllowed)
   far-session u = nowhere (inr (omega (arith, u)))
 
-  pub to_none : t ≡ Target.NoTarget → PlacesMessage file i n t l v o (Admission.Refused MoveNotAllowed)
+  pub to_none : t ≡ Target.NoTarget → PlacesMessage file i n t l v o (Err MoveNotAllowed)
   unfolding target_as
   to_none f = record {
     tells = λ w li se G te m g d gone to. ap (λ (u : Target). deliver (network_of file) gone (operation_of file i) n (target_as file u) to m) f;
     storable = tt;
   }
 
-  pub to-full : t ≡ Target.QueueFull → PlacesMessage file i n t l v o (Admission.Refused QueueFull)
+  pub to-full : t ≡ Target.QueueFull → PlacesMessage file i n t l v o (Err QueueFull)
   unfolding target_as
   to-full f = record {
     tells = λ w li se G te m g d gone to. ap (λ (u : Target). deliver (network_of file) gone (operation_of file i) n (target_as file u) to m) f;
@@ -309,7 +304,7 @@ module _ {file l o : List ℕ} {i n q v : ℕ} {t : Target} (x : q ≡ operation
   }
 
   module _ {slot : ℕ} (lq : q ≤ 3) (ln : n ≤ 3) (c : slot ≡ slot_start q n) where
-    pub to-queue : {y : Admission} → t ≡ Target.Queued → Queues slot i l y → PlacesMessage file i n t l v o y
+    pub to-queue : {y : std.Result Arrival Refusal} → t ≡ Target.Queued → Queues slot i l y → PlacesMessage file i n t l v o y
     unfolding target_as
     to-queue {y} f h = record {
       tells = λ w li se G te m g d.
@@ -318,7 +313,7 @@ module _ {file l o : List ℕ} {i n q v : ℕ} {t : Target} (x : q ≡ operation
       storable = h.storable (inside q n slot lq ln c);
     }
 
-    pub to_start : {e k a : ℕ} {y : Admission} → t ≡ Target.Starts e k a → StartsSession file slot e k a l v o y → PlacesMessage file i n t l v o y
+    pub to_start : {e k a : ℕ} {y : std.Result Arrival Refusal} → t ≡ Target.Starts e k a → StartsSession file slot e k a l v o y → PlacesMessage file i n t l v o y
     unfolding target_as
     to_start {e} {k} {a} {y} f h = record {
       tells = λ w li se G te m g d.
@@ -361,7 +356,7 @@ is-target q T f m d e =
     let a : refused MoveNotAllowed ≡ refused QueueFull = ap (λ (U : definition.Target). allowed q U (f no)) (sym e) ∙ d no in
     let z : ◌≡◌ {A = ℕ} 0 1 = cc in omega arith
 
-module _ {file s l : List ℕ} {i n : ℕ} {own : Verdict} {other : Refusal} {t : Target} {q b r : ℕ} {v : Verdict} (tg : Targets file s i n t)
+module _ {file s l : List ℕ} {i n : ℕ} {own : std.Result (Unit {0}) Refusal} {other : Refusal} {t : Target} {q b r : ℕ} {v : std.Result (Unit {0}) Refusal} (tg : Targets file s i n t)
     (sb : b ≡ operation_service file i) (sq : q ≡ b) (rt : r ≡ request_type file i) (lt : LetsIn file q t l r own other v) where
   let-in : WellFormed file → i < operation_count file → (G : State) → StateOf file s G → (f : (Tree Value → Result) → Result)
       → MessageOffered own l other (operation_of file i).request f
@@ -372,17 +367,17 @@ module _ {file s l : List ℕ} {i n : ℕ} {own : Verdict} {other : Refusal} {t 
       (subst (λ (z : ℕ). Passed v l (λ k. allowed z (target_as file t) (f k))) (sym (is-service file i (sq ∙ sb)))
       (lt.tells w (request-below file i rt w li) (tg.exists w) f (subst (λ (z : MessageType). MessageOffered own l other z f) (sym (request-is file i rt)) c)))
 
-  pub admit-not : {why : Refusal} {o : List ℕ} → v ≡ Refused why → Admits file s i n l own other o (Admission.Refused why)
+  pub admit-not : {why : Refusal} {o : List ℕ} → v ≡ Err why → Admits file s i n l own other o (Err why)
   admit-not {why} e = record {
     tells = λ w li G st f c gone to.
         let op = operation_of file i in
         let T = definition.target (network_of file) G op n in
-        subst (λ (u : Verdict). Passed u l (λ k. allowed op.service T (f k))) e (let-in w li G st f c)
+        subst (λ (u : std.Result (Unit {0}) Refusal). Passed u l (λ k. allowed op.service T (f k))) e (let-in w li G st f c)
         (λ m. must_find (network_of file) G op n m (deliver (network_of file) gone op n T to m));
     storable = tt;
   }
 
-  module _ {y : Finding} (e : v ≡ Done) (d : Finds file s q n t l y) where
+  module _ {y : Option ℕ} (e : v ≡ (Ok tt)) (d : Finds file s q n t l y) where
     -- The message that was let in, and its key.
     come : WellFormed file → i < operation_count file → (G : State) → StateOf file s G → (f : (Tree Value → Result) → Result)
         → MessageOffered own l other (operation_of file i).request f
@@ -392,12 +387,12 @@ module _ {file s l : List ℕ} {i n : ℕ} {own : Verdict} {other : Refusal} {t 
     come w li G st f c =
         let op = operation_of file i in
         let T = definition.target (network_of file) G op n in
-        let p = subst (λ (u : Verdict). Passed u l (λ k. allowed op.service T (f k))) e (let-in w li G st f c) in
+        let p = subst (λ (u : std.Result (Unit {0}) Refusal). Passed u l (λ k. allowed op.service T (f k))) e (let-in w li G st f c) in
         let found = d.tells w (service-below file i (sq ∙ sb) w li) op (is-service file i (sq ∙ sb)) (tg.tells w)
         (λ h. is-target op.service T f p.0 p.2 (sym (target_is tg w st) ∙ h)) p.0 p.1 in
         (p.0, p.1, p.2, subst (λ (H : State). FoundAs (network_of file) H op n p.0 y) (ap read_state st.bytes ∙ read-state st.shape) found)
 
-    pub admit-another : {o : List ℕ} → y ≡ Finding.Another → Admits file s i n l own other o (Admission.Refused MoveNotAllowed)
+    pub admit-another : {o : List ℕ} → y ≡ None → Admits file s i n l own other o (Err MoveNotAllowed)
     admit-another z = record {
       tells = λ w li G st f c gone to.
           let op = operation_of file i in
@@ -409,7 +404,7 @@ module _ {file s l : List ℕ} {i n : ℕ} {own : Verdict} {other : Refusal} {t 
       storable = tt;
     }
 
-    pub admit-in : {o : List ℕ} {r : ℕ} {x : Admission} → y ≡ Finding.Goes r → PlacesMessage file i n t l r o x → Admits file s i n l own other o x
+    pub admit-in : {o : List ℕ} {r : ℕ} {x : std.Result Arrival Refusal} → y ≡ Some r → PlacesMessage file i n t l r o x → Admits file s i n l own other o x
     admit-in {o} {r} {x} z h = record {
       tells = λ w li G st f c.
           let op = operation_of file i in
@@ -427,10 +422,10 @@ module _ {file s l : List ℕ} {i n : ℕ} {own : Verdict} {other : Refusal} {t 
         by : (G : State) (f : (Tree Value → Result) → Result) (m : Tree Value) → trees.Message l m
             → ((gone : State) (to : Optional Destination) → admitting file G i n f gone to
             ≡ deliver (network_of file) gone (operation_of file i) n (definition.target (network_of file) G (operation_of file i) n) to m)
-            → (x : Admission) → PlacedAs file (operation_of file i) n (definition.target (network_of file) G (operation_of file i) n) m o x
+            → (x : std.Result Arrival Refusal) → PlacedAs file (operation_of file i) n (definition.target (network_of file) G (operation_of file i) n) m o x
             → AdmittedAs file G i n l o f x
-        by G f m g d (Admission.Refused why) p = λ gone to. d gone to ∙ p gone to
-        by G f m g d (Admission.Admitted y) p = (m, g, p, d)
+        by G f m g d (Err why) p = λ gone to. d gone to ∙ p gone to
+        by G f m g d (Ok y) p = (m, g, p, d)
 
 pub ruleset admit-laws = (admit-not, admit-another, admit-in)
 

@@ -7,8 +7,6 @@ use Rattle.scalar.specs.Value.{Value}
 use Rattle.wire.specs.Wire.{part, with_part}
 use Rattle.refusal.specs.declared.Refusal.{Refusal}
 use Rattle.refusal.specs.declared.Refusal.TheVariants.{MoveNotAllowed, Stuck}
-use Rattle.refusal.specs.declared.Verdict.{Verdict}
-use Rattle.refusal.specs.declared.Verdict.TheVariants.{Done, Refused}
 use Rattle.refusal.specs.Refusal.{done_with}
 use Rattle.network_syntax.specs.Syntax.{MessageType, Operation, Optional, none, some}
 use Rattle.network_syntax.specs.Rows.{Input, input_of}
@@ -26,7 +24,6 @@ use Rattle.move_rules.specs.Keys.{key_to_keep}
 use Rattle.move_rules.specs.Moves.{Result, refused, require, allowed, must_find, deliver}
 use Rattle.scalar.specs.Value.{void_value}
 use Rattle.move_rules.specs.Step.{Step, finish}
-use Rattle.state_trees.specs.declared.Change.{Change}
 use Rattle.state_trees.specs.Changing.{KeptTree, ChangedTo, kept_bytes}
 use Rattle.move_targets.specs.declared.Target.{Target}
 use Rattle.move_targets.specs.Answers.{passes_input, target_as, StarterExists}
@@ -34,33 +31,35 @@ use Rattle.move_fitting.specs.Fitting.{Comes, Passed}
 use Rattle.move_frame.specs.Made.{StateOf}
 use Rattle.move_frame.specs.Holding.{Holding}
 use Rattle.move_delivery.specs.declared.Arrival.{Arrival}
-use Rattle.move_delivery.specs.declared.Admission.{Admission}
+use Rattle.std.specs.Prelude.{Option, Some, None}
+use Rattle.std.specs.Prelude as std
+use Rattle.std.specs.Prelude.{Ok, Err}
 
 -- A verdict before the rest of a move.
-abbrev pub on_verdict : Verdict → Result → Result
-on_verdict Done r = r
-on_verdict (Refused why) r = refused why
+abbrev pub on_verdict : std.Result (Unit {0}) Refusal → Result → Result
+on_verdict (Ok tt) r = r
+on_verdict (Err why) r = refused why
 
 -- 15: ".. has an operation that 6 refuses", at the input of B row a.
-pub record Permitted (file : List ℕ) (q a : ℕ) (v : Verdict) : Type 0 where
+pub record Permitted (file : List ℕ) (q a : ℕ) (v : std.Result (Unit {0}) Refusal) : Type 0 where
   pub tells : a < behaviour_count file → (r : Result) → on_verdict v r ≡ require (passes_input q (input_of (behaviour_of file a))) MoveNotAllowed r
 
 -- 15 and 16, as move_rules' `allowed` has them.
-pub record Allowed (file : List ℕ) (q : ℕ) (t : Target) (v : Verdict) : Type 0 where
+pub record Allowed (file : List ℕ) (q : ℕ) (t : Target) (v : std.Result (Unit {0}) Refusal) : Type 0 where
   pub tells : StarterExists file t → (r : Result) → on_verdict v r ≡ allowed q (target_as file t) r
 
 -- What the message itself answers, before its type is tried: a refusal, or bytes that come to the type t.
-abbrev pub MessageOffered : Verdict → List ℕ → Refusal → MessageType → ((Tree Value → Result) → Result) → Type 0
-MessageOffered Done l other t f = Comes l other t f
-MessageOffered (Refused why) l other t f = (k : Tree Value → Result) → f k ≡ refused why
+abbrev pub MessageOffered : std.Result (Unit {0}) Refusal → List ℕ → Refusal → MessageType → ((Tree Value → Result) → Result) → Type 0
+MessageOffered (Ok tt) l other t f = Comes l other t f
+MessageOffered (Err why) l other t f = (k : Tree Value → Result) → f k ≡ refused why
 
 -- 15, 16, the message's own answer, 17 and 19, in this order.
-pub record LetsIn (file : List ℕ) (q : ℕ) (t : Target) (l : List ℕ) (r : ℕ) (own : Verdict) (other : Refusal) (v : Verdict) : Type 0 where
+pub record LetsIn (file : List ℕ) (q : ℕ) (t : Target) (l : List ℕ) (r : ℕ) (own : std.Result (Unit {0}) Refusal) (other : Refusal) (v : std.Result (Unit {0}) Refusal) : Type 0 where
   pub tells : WellFormed file → r < type_count file → StarterExists file t → (f : (Tree Value → Result) → Result) → MessageOffered own l other (type_of file r) f
       → Passed v l (λ k. allowed q (target_as file t) (f k))
 
 -- The tree of a session that starts with a message into the path of P row p.
-pub record StartTree (file : List ℕ) (p : ℕ) (l o : List ℕ) (x : Change) : Type 0 where
+pub record StartTree (file : List ℕ) (p : ℕ) (l o : List ℕ) (x : Option ℕ) : Type 0 where
   pub tells : WellFormed file → p < path_count file → (m : Tree Value) → trees.Message l m → ChangedTo o x (replace_at void_value (path_of file p) m end)
   pub small : kept_bytes x ≤ tree_room
 
@@ -80,9 +79,9 @@ Storable i l (Arrival.Queued slot) = (slot + slot_size ≤ state_size) × (i < 2
 Storable i l (Arrival.Starts slot c k a len x) =
     (slot + slot_size ≤ state_size) × (c < 256) × (a < 256) × (len ≤ tree_room) × (x < 0x100000000)
 
-abbrev pub StorableIf : ℕ → List ℕ → Admission → Type 0
-StorableIf i l (Admission.Refused why) = Unit {0}
-StorableIf i l (Admission.Admitted y) = Storable i l y
+abbrev pub StorableIf : ℕ → List ℕ → std.Result Arrival Refusal → Type 0
+StorableIf i l (Err why) = Unit {0}
+StorableIf i l (Ok y) = Storable i l y
 
 -- A message is queued at a live session with room, and starts a free one.
 abbrev pub Known : State → Operation → ℕ → definition.Target → Type 0
@@ -92,36 +91,36 @@ Known G o n definition.queued = (S : Session) × (G o.service n ≡ live S) × (
 Known G o n (definition.starts c k i) = G o.service n ≡ free
 
 -- A session that starts with the tree F, which stands in o, and the key x; or 18 past its limits.
-abbrev pub StartsOr18 : Forest Value → ℕ → ℕ → ℕ → ℕ → ℕ → List ℕ → Admission → Type 0
+abbrev pub StartsOr18 : Forest Value → ℕ → ℕ → ℕ → ℕ → ℕ → List ℕ → std.Result Arrival Refusal → Type 0
 StartsOr18 F slot c k a x o y =
-    ((y ≡ Admission.Refused Stuck) × (within F ≡ false)) ⊎ ((len : ℕ) × (y ≡ Admission.Admitted (Arrival.Starts slot c k a len x)) × KeptTree o len F)
+    ((y ≡ Err Stuck) × (within F ≡ false)) ⊎ ((len : ℕ) × (y ≡ Ok (Arrival.Starts slot c k a len x)) × KeptTree o len F)
 
 -- By its input's path; by its input, 15 without one.
-pub record StartsBy (file : List ℕ) (slot c k a p : ℕ) (l : List ℕ) (x : ℕ) (o : List ℕ) (y : Admission) : Type 0 where
+pub record StartsBy (file : List ℕ) (slot c k a p : ℕ) (l : List ℕ) (x : ℕ) (o : List ℕ) (y : std.Result Arrival Refusal) : Type 0 where
   pub tells : WellFormed file → c < behaviour_count file → a < behaviour_count file → p < path_count file → (m : Tree Value) → trees.Message l m
       → StartsOr18 (replace_at void_value (path_of file p) m end) slot c k a x o y
   pub storable : slot + slot_size ≤ state_size → (i : ℕ) → StorableIf i l y
 
-abbrev pub StartedAs : Optional Input → ℕ → ℕ → ℕ → ℕ → Tree Value → ℕ → List ℕ → Admission → Type 0
-StartedAs none slot c k a m x o y = y ≡ Admission.Refused MoveNotAllowed
+abbrev pub StartedAs : Optional Input → ℕ → ℕ → ℕ → ℕ → Tree Value → ℕ → List ℕ → std.Result Arrival Refusal → Type 0
+StartedAs none slot c k a m x o y = y ≡ Err MoveNotAllowed
 StartedAs (some i) slot c k a m x o y = (i.row ≡ a) × StartsOr18 (replace_at void_value i.into m end) slot c k a x o y
 
-pub record StartsSession (file : List ℕ) (slot c k a : ℕ) (l : List ℕ) (x : ℕ) (o : List ℕ) (y : Admission) : Type 0 where
+pub record StartsSession (file : List ℕ) (slot c k a : ℕ) (l : List ℕ) (x : ℕ) (o : List ℕ) (y : std.Result Arrival Refusal) : Type 0 where
   pub tells : WellFormed file → c < behaviour_count file → a < behaviour_count file → (m : Tree Value) → trees.Message l m
       → StartedAs (input_of (behaviour_of file a)) slot c k a m x o y
   pub storable : slot + slot_size ≤ state_size → (i : ℕ) → StorableIf i l y
 
 -- One more message of O row i in the queue of the slot's session.
-pub record Queues (slot i : ℕ) (l : List ℕ) (x : Admission) : Type 0 where
-  pub tells : i < 255 → (m : Tree Value) → trees.Message l m → x ≡ Admission.Admitted (Arrival.Queued slot)
+pub record Queues (slot i : ℕ) (l : List ℕ) (x : std.Result Arrival Refusal) : Type 0 where
+  pub tells : i < 255 → (m : Tree Value) → trees.Message l m → x ≡ Ok (Arrival.Queued slot)
   pub storable : slot + slot_size ≤ state_size → StorableIf i l x
 
 -- A message of the input of O row i that was let in, by its target t at session n: where it goes, or what move_rules' `deliver` refuses in any state.
-abbrev pub PlacedAs : List ℕ → Operation → ℕ → definition.Target → Tree Value → List ℕ → Admission → Type 0
-PlacedAs file o n t m o' (Admission.Refused why) = (gone : State) (to : Optional Destination) → deliver (network_of file) gone o n t to m ≡ refused why
-PlacedAs file o n t m o' (Admission.Admitted y) = ArrivesAs file o n t m o' y
+abbrev pub PlacedAs : List ℕ → Operation → ℕ → definition.Target → Tree Value → List ℕ → std.Result Arrival Refusal → Type 0
+PlacedAs file o n t m o' (Err why) = (gone : State) (to : Optional Destination) → deliver (network_of file) gone o n t to m ≡ refused why
+PlacedAs file o n t m o' (Ok y) = ArrivesAs file o n t m o' y
 
-pub record PlacesMessage (file : List ℕ) (i n : ℕ) (t : Target) (l : List ℕ) (x : ℕ) (o : List ℕ) (y : Admission) : Type 0 where
+pub record PlacesMessage (file : List ℕ) (i n : ℕ) (t : Target) (l : List ℕ) (x : ℕ) (o : List ℕ) (y : std.Result Arrival Refusal) : Type 0 where
   pub tells : WellFormed file → i < operation_count file → StarterExists file t → (G : State)
       → target_as file t ≡ definition.target (network_of file) G (operation_of file i) n → (m : Tree Value) → trees.Message l m
       → x ≡ key_to_keep (network_of file) (operation_of file i) m → PlacedAs file (operation_of file i) n (target_as file t) m o y
@@ -135,15 +134,15 @@ admitting file G i n f gone to =
     allowed o.service t (f (λ m. must_find (network_of file) G o n m (deliver (network_of file) gone o n t to m)))
 
 -- It is refused in any state in which the sender has gone on; or it delivers the message m of l in any.
-abbrev pub AdmittedAs : List ℕ → State → ℕ → ℕ → List ℕ → List ℕ → ((Tree Value → Result) → Result) → Admission → Type 0
-AdmittedAs file G i n l o f (Admission.Refused why) = (gone : State) (to : Optional Destination) → admitting file G i n f gone to ≡ refused why
-AdmittedAs file G i n l o f (Admission.Admitted y) =
+abbrev pub AdmittedAs : List ℕ → State → ℕ → ℕ → List ℕ → List ℕ → ((Tree Value → Result) → Result) → std.Result Arrival Refusal → Type 0
+AdmittedAs file G i n l o f (Err why) = (gone : State) (to : Optional Destination) → admitting file G i n f gone to ≡ refused why
+AdmittedAs file G i n l o f (Ok y) =
     (m : Tree Value) × trees.Message l m
     × ArrivesAs file (operation_of file i) n (definition.target (network_of file) G (operation_of file i) n) m o y
     × ((gone : State) (to : Optional Destination) → admitting file G i n f gone to
     ≡ deliver (network_of file) gone (operation_of file i) n (definition.target (network_of file) G (operation_of file i) n) to m)
 
-pub record Admits (file s : List ℕ) (i n : ℕ) (l : List ℕ) (own : Verdict) (other : Refusal) (o : List ℕ) (x : Admission) : Type 0 where
+pub record Admits (file s : List ℕ) (i n : ℕ) (l : List ℕ) (own : std.Result (Unit {0}) Refusal) (other : Refusal) (o : List ℕ) (x : std.Result Arrival Refusal) : Type 0 where
   pub tells : WellFormed file → i < operation_count file → (G : State) → StateOf file s G → (f : (Tree Value → Result) → Result)
       → MessageOffered own l other (operation_of file i).request f → AdmittedAs file G i n l o f x
   pub storable : StorableIf i l x

@@ -3,19 +3,20 @@ use Rattle.std.specs.Prelude.{◌≡◌, refl, Bool, true, false, List, ℕ, suc
 use Rattle.std.proofs.Common.{subst}
 use Rattle.basics.specs.Choice.{pick}
 use Rattle.basics.specs.TestLaws.{lt_of}
+use Rattle.refusal.specs.declared.Refusal.{Refusal}
 use Rattle.network_syntax.specs.Syntax.{Network, Operation, Optional, none, some, Behaviour, Branches, last_branch, branch}
 use Rattle.network_syntax.specs.Rows.{Input, input_of, Choice, choice_of}
 use Rattle.state.specs.Session.{Session, Slot, free, live, State}
 use Rattle.state.specs.Shape.{behaviour_in}
 use Rattle.move_rules.specs.Targets.{Target, no_target, queue_full, queued, starts, start_by, start_from, start_of, target_of, target_in, target}
 use Rattle.move_delivery.specs.declared.Arrival.{Arrival}
-use Rattle.move_delivery.specs.declared.Admission.{Admission}
 use Rattle.move_delivery.specs.Delivery.{Storable, StorableIf, Known}
+use Rattle.std.specs.Prelude.{Result, Ok, Err}
 
 -- ---- an admitted message
 
 -- There is room for it where it arrives.
-pub admitted-storable : (i : ℕ) (l : List ℕ) {x : Admission} {y : Arrival} → StorableIf i l x → x ≡ Admission.Admitted y → Storable i l y
+pub admitted-storable : (i : ℕ) (l : List ℕ) {x : Result Arrival Refusal} {y : Arrival} → StorableIf i l x → x ≡ Ok y → Storable i l y
 admitted-storable i l u e = subst (StorableIf i l) e u
 
 -- ---- targets

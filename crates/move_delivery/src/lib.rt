@@ -10,13 +10,11 @@ ghost use Rattle.state_destinations.specs.Meaning.{reply_of};
 ghost use Rattle.move_delivery.specs.Delivery.{Permitted, Allowed, LetsIn, StartTree, StartsBy, StartsSession, Queues, PlacesMessage, Admits};
 ghost use Rattle.move_delivery.specs.Delivery.{StoresStart, Storable, Stores};
 
-use move_keys::Finding;
 use move_targets::Target;
 use network_rows::InputRow;
-use refusal::{Refusal, Verdict};
-use state_destinations::ReplyTo;
+use refusal::Refusal;
+use state_destinations::Destination;
 use state_progress::Progress;
-use state_trees::Change;
 
 // Where an admitted message goes: into the queue of the live session of the slot; or it starts the session of the free slot, by branch k of
 // the choice c, with input row a, a tree of n bytes and the key x.
@@ -26,30 +24,24 @@ pub enum Arrival {
     Starts(usize, u16, u8, u16, u16, u32),
 }
 
-#[derive(Clone, Copy)]
-pub enum Admission {
-    Refused(Refusal),
-    Admitted(Arrival),
-}
-
 // 15: does 6 pass the starter's input, B row a, in service q?
-fn permitted(file: &[u8], q: u16, a: u16) -> Verdict
+fn permitted(file: &[u8], q: u16, a: u16) -> Result<(), Refusal>
     ensures { Permitted file.now q a result }
 {
     if move_targets::permits_input(file, q, a) {
-        return Verdict::Done;
+        return Ok(());
     }
-    Verdict::Refused(Refusal::MoveNotAllowed)
+    Err(Refusal::MoveNotAllowed)
 }
 
 // 15 and 16: may a message go to its target in service q?
-fn allowed(file: &[u8], q: u16, target: Target) -> Verdict
+fn allowed(file: &[u8], q: u16, target: Target) -> Result<(), Refusal>
     ensures { Allowed file.now q target result }
 {
     match target {
-        Target::NoTarget => Verdict::Refused(Refusal::MoveNotAllowed),
-        Target::QueueFull => Verdict::Refused(Refusal::QueueFull),
-        Target::Queued => Verdict::Done,
+        Target::NoTarget => Err(Refusal::MoveNotAllowed), // 15
+        Target::QueueFull => Err(Refusal::QueueFull), // 16
+        Target::Queued => Ok(()),
         Target::Starts(_, _, a) => permitted(file, q, a),
     }
 }
@@ -61,23 +53,18 @@ fn lets_in(
     target: Target,
     message: &[u8],
     r: u16,
-    own: Verdict,
+    own: Result<(), Refusal>,
     other: Refusal,
-) -> Verdict
+) -> Result<(), Refusal>
     ensures { LetsIn file.now q target message.now r own other result }
 {
-    let v = allowed(file, q, target);
-    let Verdict::Done = v else {
-        return v;
-    };
-    let Verdict::Done = own else {
-        return own;
-    };
+    allowed(file, q, target)?;
+    own?;
     move_fitting::passes(message, file, r, other)
 }
 
 // Writes the tree of a new session that receives the message into the path of P row p to the start of out.
-fn start_tree(out: &mut [u8], file: &[u8], p: u16, message: &[u8]) -> Change
+fn start_tree(out: &mut [u8], file: &[u8], p: u16, message: &[u8]) -> Option<u16>
     requires { 2304 ≤ length out.old }
     ensures { StartTree file.now p message.now out.new result }
 {
@@ -97,20 +84,18 @@ fn start_by(
     p: u16,
     message: &[u8],
     x: u32,
-) -> Admission
+) -> Result<Arrival, Refusal>
     requires { 2304 ≤ length out.old }
     ensures { StartsBy file.now slot c k a p message.now x out.new result }
 {
-    let Change::Kept(n) = start_tree(out, file, p, message) else {
-        return Admission::Refused(Refusal::Stuck);
-    };
+    let n = start_tree(out, file, p, message).ok_or(Refusal::Stuck)?;
     if 255 < c {
-        return Admission::Refused(Refusal::MoveNotAllowed);
+        return Err(Refusal::MoveNotAllowed);
     }
     if 255 < a {
-        return Admission::Refused(Refusal::MoveNotAllowed);
+        return Err(Refusal::MoveNotAllowed);
     }
-    Admission::Admitted(Arrival::Starts(slot, c, k, a, n, x))
+    Ok(Arrival::Starts(slot, c, k, a, n, x))
 }
 
 // The same by the input of B row a.
@@ -123,29 +108,29 @@ fn start(
     a: u16,
     message: &[u8],
     x: u32,
-) -> Admission
+) -> Result<Arrival, Refusal>
     requires { 2304 ≤ length out.old }
     ensures { StartsSession file.now slot c k a message.now x out.new result }
 {
     match network_rows::input_of(file, a) {
         InputRow::OneWay(_, p) => start_by(out, file, slot, c, k, a, p, message, x),
         InputRow::RequestResponse(_, p, _, _) => start_by(out, file, slot, c, k, a, p, message, x),
-        InputRow::Nothing => Admission::Refused(Refusal::MoveNotAllowed),
+        InputRow::Nothing => Err(Refusal::MoveNotAllowed),
     }
 }
 
 // Queues the message of O row i at the live session of the slot. A message has 336 bytes at most and a file 64 operations, so the tests only
 // keep the store inside the entry.
-fn queue(slot: usize, i: u16, message: &[u8]) -> Admission
+fn queue(slot: usize, i: u16, message: &[u8]) -> Result<Arrival, Refusal>
     ensures { Queues slot i message.now result }
 {
     if 254 < i {
-        return Admission::Refused(Refusal::MoveNotAllowed);
+        return Err(Refusal::MoveNotAllowed);
     }
     if state::MESSAGE_ROOM < message.len() {
-        return Admission::Refused(Refusal::MoveNotAllowed);
+        return Err(Refusal::MoveNotAllowed);
     }
-    Admission::Admitted(Arrival::Queued(slot))
+    Ok(Arrival::Queued(slot))
 }
 
 // Where a message of the input of O row i of service q, which was let in, goes to session n by its target; 18 past a tree's limits. A session that
@@ -159,20 +144,20 @@ fn place(
     target: Target,
     message: &[u8],
     x: u32,
-) -> Admission
+) -> Result<Arrival, Refusal>
     requires { (2304 ≤ length out.old) × (q ≡ operation_service file.now i) }
     ensures { PlacesMessage file.now i n target message.now x out.new result }
 {
     if 3 < q {
-        return Admission::Refused(Refusal::MoveNotAllowed);
+        return Err(Refusal::MoveNotAllowed);
     }
     if 3 < n {
-        return Admission::Refused(Refusal::MoveNotAllowed);
+        return Err(Refusal::MoveNotAllowed);
     }
     let slot = state::slot_start(q, n);
     match target {
-        Target::NoTarget => Admission::Refused(Refusal::MoveNotAllowed),
-        Target::QueueFull => Admission::Refused(Refusal::QueueFull),
+        Target::NoTarget => Err(Refusal::MoveNotAllowed),
+        Target::QueueFull => Err(Refusal::QueueFull),
         Target::Queued => queue(slot, i, message),
         Target::Starts(c, k, a) => start(out, file, slot, c, k, a, message, x),
     }
@@ -187,29 +172,18 @@ pub fn admit(
     i: u16,
     n: u16,
     message: &[u8],
-    own: Verdict,
+    own: Result<(), Refusal>,
     other: Refusal,
-) -> Admission
+) -> Result<Arrival, Refusal>
     requires { 2304 ≤ length out.old }
     ensures { Admits file.now state.now i n message.now own other out.new result }
 {
     let target = move_targets::target_of(file, state, i, n);
-    let q = wire::byte_to_u16(network_rows::operation_service(file, i));
-    match lets_in(
-        file,
-        q,
-        target,
-        message,
-        network_rows::request_type(file, i),
-        own,
-        other,
-    ) {
-        Verdict::Refused(why) => Admission::Refused(why),
-        Verdict::Done => match move_keys::find(file, state, q, n, target, message) {
-            Finding::Another => Admission::Refused(Refusal::MoveNotAllowed),
-            Finding::Goes(x) => place(out, file, q, i, n, target, message, x),
-        },
-    }
+    let q = u16::from(network_rows::operation_service(file, i));
+    let r = network_rows::request_type(file, i);
+    lets_in(file, q, target, message, r, own, other)?;
+    let x = move_keys::find(file, state, q, n, target, message).ok_or(Refusal::MoveNotAllowed)?;
+    place(out, file, q, i, n, target, message, x)
 }
 
 // Makes a new session of the free slot, with the first n bytes of `tree` as its tree, branch k of the choice c taken, the input a received and
@@ -236,7 +210,14 @@ fn store_start(
 }
 
 // Stores an admitted message of O row i where it arrives; its reply goes to `to`, and `tree` is what `admit` wrote.
-pub fn store(state: &mut [u8], i: u16, to: ReplyTo, message: &[u8], y: Arrival, tree: &[u8])
+pub fn store(
+    state: &mut [u8],
+    i: u16,
+    to: Option<Destination>,
+    message: &[u8],
+    y: Arrival,
+    tree: &[u8],
+)
     requires { (length state.old ≡ 65536) × Storable i message.now y × (2304 ≤ length tree.now) }
     ensures { Stores i (reply_of to) message.now tree.now y state.old state.new }
 {

@@ -25,7 +25,6 @@ use Rattle.tree.specs.Ids.{is_path, path_from_ids, last_id}
 use Rattle.tree.specs.Standing.{Root, Spot, Followed}
 use Rattle.tree.specs.StandingLaws.{encodes-root, root-fields, root-seen, root-unseen}
 use Rattle.tree.specs.declared.Head.{Head}
-use Rattle.tree.specs.declared.Found.{Found}
 use Rattle.network.specs.Form.{WellFormed}
 use Rattle.network.specs.Layout.{path_count, expression_count, data_size, data_part}
 use Rattle.network.specs.Rows.{constant_fits}
@@ -42,22 +41,27 @@ use Rattle.check_typing.specs.Result.{Attempt, fails, yields}
 use Rattle.check_typing.specs.ExpressionTyping.{unary_type, binary_type}
 use Rattle.tree_forest.specs.Forest.{is_present}
 use Rattle.network_row_parts.specs.PathLaws.{path-is, ids-path}
-use Rattle.move_evaluation.specs.declared.Source.{Source}
+use Rattle.move_evaluation.specs.declared.Place.{Place}
+use Rattle.move_evaluation.specs.declared.Fault.{Fault}
 use Rattle.move_evaluation.specs.declared.Evaluated.{Evaluated}
 use Rattle.network_row_parts.specs.declared.Part.{Part}
 use Rattle.network_row_parts.specs.Parts.{expression_part}
 use Rattle.move_evaluation.specs.Evaluated.{on_source, literal, unary_on, binary_on, AloneAs, Computes, SourceOf, StandsFor, StandsAt, Reads}
 use Rattle.move_evaluation.specs.Evaluated.{Presents, Evaluates}
 use Rattle.network_row_parts.specs.PartLaws.{part-is}
+use Rattle.std.specs.Prelude.{Option, Some, None}
+use Rattle.tree.specs.Decode.{header}
+use Rattle.std.specs.Prelude.{Ok, Err}
+use Rattle.std.specs.Prelude as std
 
 -- ---- what is alone stands for a leaf
 
-source-alone : (s : List ℕ) (k : Source) (v : Operand) (w : Evaluation Value) → AloneAs k v w → SourceOf s k v (as_leaf w)
-source-alone s (Source.At at) v w h = absurd h
-source-alone s Source.Alone v w h = ap as_leaf h
-source-alone s Source.Missing v w h = ap as_leaf h
-source-alone s Source.Wrong v w h = ap as_leaf h
-source-alone s Source.Outside v w h = ap as_leaf h
+source-alone : (s : List ℕ) (k : std.Result Place Fault) (v : Operand) (w : Evaluation Value) → AloneAs k v w → SourceOf s k v (as_leaf w)
+source-alone s (Ok (Place.At at)) v w h = absurd h
+source-alone s (Ok Place.Alone) v w h = ap as_leaf h
+source-alone s (Err Fault.Missing) v w h = ap as_leaf h
+source-alone s (Err Fault.Wrong) v w h = ap as_leaf h
+source-alone s (Err Fault.Outside) v w h = ap as_leaf h
 
 stands-alone : (s : List ℕ) {x : Evaluated} {w : Evaluation Value} → Computes x w → StandsFor s x (as_leaf w)
 stands-alone s {x} {w} h = source-alone s x.source x.root w h.gives
@@ -67,7 +71,7 @@ stands-as s x e h = subst (StandsFor s x) e h
 
 -- ---- the tree at a place
 
-module _ (s : List ℕ) (at : ℕ) {i b c m : ℕ} {h : Head} (p : h ≡ bytes.head_at s at) (q : h ≡ Head.Node i b c m) where
+module _ (s : List ℕ) (at : ℕ) {i b c m : ℕ} {h : Option Head} (p : h ≡ bytes.head_at s at) (q : h ≡ Some (header i b c m)) where
   pub head-start : at + 5 ≤ length s
   head-start = (sized s at (got p q).ok).header
 
@@ -83,10 +87,10 @@ module _ (s : List ℕ) (at : ℕ) {i b c m : ℕ} {h : Head} (p : h ≡ bytes.h
   pub head-value : is_value b (part s (at + 5) (m - at - 5)) ≡ true
   head-value = rw (value-bytes, (got p q).basic) (sized s at (got p q).ok).valid
 
-  pub tree-there : (v : Operand) → value_of v ≡ value b (part s (at + 5) (m - at - 5)) → StandsAt s at (record { source = Source.At at; root = v })
+  pub tree-there : (v : Operand) → value_of v ≡ value b (part s (at + 5) (m - at - 5)) → StandsAt s at (record { source = Ok (Place.At at); root = v })
   tree-there v e = record { tells = tells; text = read-text v e head-value }
     where
-      tells : (j : ℕ) (t : Tree Value) → Root s at j t → StandsFor s (record { source = Source.At at; root = v }) (given t)
+      tells : (j : ℕ) (t : Tree Value) → Root s at j t → StandsFor s (record { source = Ok (Place.At at); root = v }) (given t)
       tells j (tree (value d u) ks) w =
           let y = root-seen s at j d u ks w h i b c m p q in
           record {
@@ -97,38 +101,38 @@ module _ (s : List ℕ) (at : ℕ) {i b c m : ℕ} {h : Head} (p : h ≡ bytes.h
             value = e ∙ rw (value-bytes, (root-fields s at j d u ks w).value, y.basic) refl;
           }
 
-pub tree-fault : (s : List ℕ) (at : ℕ) {h : Head} (x : Evaluated) → h ≡ bytes.head_at s at → h ≡ Head.Fault → Computes x missing → StandsAt s at x
+pub tree-fault : (s : List ℕ) (at : ℕ) {h : Option Head} (x : Evaluated) → h ≡ bytes.head_at s at → h ≡ None → Computes x missing → StandsAt s at x
 tree-fault s at x p q c = record { tells = λ i t w. root-unseen s at i t w _ p q; text = c.text }
 
 pub ruleset place-laws = (tree-there, tree-fault)
 
 -- ---- paths
 
-module _ (file s : List ℕ) (p : ℕ) {ids : List ℕ} {y : Found} (d : ids ≡ path_ids file p) (l : Followed s ids y) where
+module _ (file s : List ℕ) (p : ℕ) {ids : List ℕ} {y : Option ℕ} (d : ids ≡ path_ids file p) (l : Followed s ids y) where
   -- Where the path leads, in the session's tree F.
-  spot : {z : Found} → y ≡ z → (F : Forest Value) → Encodes session_levels session_nodes s (tree empty F) → WellFormed file → p < path_count file
+  spot : {z : Option ℕ} → y ≡ z → (F : Forest Value) → Encodes session_levels session_nodes s (tree empty F) → WellFormed file → p < path_count file
       → Spot s (last_id (path_from_ids ids)) z (read (network.path_of file p) F)
   spot {z} e F w wf le =
       let h = l.tells 0 (tree empty F) (encodes-root session_levels session_nodes s (tree empty F) (omega arith) (omega arith) w) (ap is_path d ∙ ids-path file wf p le) in
       subst (λ (q : Path). Spot s (last_id (path_from_ids ids)) z (read q F)) (ap path_from_ids d ∙ path-is file p)
-      (subst (λ (w : Found). Spot s (last_id (path_from_ids ids)) w (read (path_from_ids ids) F)) e h)
+      (subst (λ (w : Option ℕ). Spot s (last_id (path_from_ids ids)) w (read (path_from_ids ids) F)) e h)
 
-  pub read_none : (x : Evaluated) → y ≡ Found.Nothing → Computes x missing → Reads file s p x
+  pub read_none : (x : Evaluated) → y ≡ None → Computes x missing → Reads file s p x
   read_none x e c = record { tells = λ F w wf le. stands-as s x (sym (ap found (spot e F w wf le))) (stands-alone s c); text = c.text }
 
-  pub read-there : (x : Evaluated) {at : ℕ} → y ≡ Found.At at → StandsAt s at x → Reads file s p x
+  pub read-there : (x : Evaluated) {at : ℕ} → y ≡ Some at → StandsAt s at x → Reads file s p x
   read-there x e c = record {
     tells = λ F w wf le. let u = spot e F w wf le in stands-as s x (sym (ap found u.is)) (c.tells _ u.there u.root);
     text = c.text;
   }
 
-  pub present-none : (x : Evaluated) → y ≡ Found.Nothing → Computes x (given (of_bool false)) → Presents file s p x
+  pub present-none : (x : Evaluated) → y ≡ None → Computes x (given (of_bool false)) → Presents file s p x
   present-none x e c = record {
     tells = λ F w wf le. stands-as s x (ap (λ (f : Lookup Value). given (leaf (of_bool (is_present f)))) (sym (spot e F w wf le))) (stands-alone s c);
     text = c.text;
   }
 
-  pub present-there : (x : Evaluated) {at : ℕ} → y ≡ Found.At at → Computes x (given (of_bool true)) → Presents file s p x
+  pub present-there : (x : Evaluated) {at : ℕ} → y ≡ Some at → Computes x (given (of_bool true)) → Presents file s p x
   present-there x e c = record {
     tells = λ F w wf le. stands-as s x (ap (λ (f : Lookup Value). given (leaf (of_bool (is_present f)))) (sym (spot e F w wf le).is)) (stands-alone s c);
     text = c.text;
@@ -142,14 +146,14 @@ root-of : (t : Tree Value) (g : ℕ → Evaluation Value) (f : Value → Evaluat
 root-of (tree v k) g f = refl
 
 -- Where only the kind is known, g says what f gives without its value.
-source-operand : (s : List ℕ) (k : Source) (v : Operand) (x : Evaluation (Tree Value)) (g : ℕ → Evaluation Value) (f : Value → Evaluation Value)
+source-operand : (s : List ℕ) (k : std.Result Place Fault) (v : Operand) (x : Evaluation (Tree Value)) (g : ℕ → Evaluation Value) (f : Value → Evaluation Value)
     → without_value (f (value_of v)) ≡ g (basic_of (value_of v)) → SourceOf s k v x → on_operand x g f ≡ on_source k (f (value_of v))
-source-operand s (Source.At at) v x g f e h =
+source-operand s (Ok (Place.At at)) v x g f e h =
     ap (λ (z : Evaluation (Tree Value)). on_operand z g f) h.is ∙ root-of h.there g f ∙ ap f (sym h.value)
-source-operand s Source.Alone v x g f e h = ap (λ (z : Evaluation (Tree Value)). on_operand z g f) h
-source-operand s Source.Missing v x g f e h = ap (λ (z : Evaluation (Tree Value)). on_operand z g f) h
-source-operand s Source.Wrong v x g f e h = ap (λ (z : Evaluation (Tree Value)). on_operand z g f) h
-source-operand s Source.Outside v x g f e h = ap (λ (z : Evaluation (Tree Value)). on_operand z g f) h ∙ sym e
+source-operand s (Ok Place.Alone) v x g f e h = ap (λ (z : Evaluation (Tree Value)). on_operand z g f) h
+source-operand s (Err Fault.Missing) v x g f e h = ap (λ (z : Evaluation (Tree Value)). on_operand z g f) h
+source-operand s (Err Fault.Wrong) v x g f e h = ap (λ (z : Evaluation (Tree Value)). on_operand z g f) h
+source-operand s (Err Fault.Outside) v x g f e h = ap (λ (z : Evaluation (Tree Value)). on_operand z g f) h ∙ sym e
 
 without-twice : (w : Evaluation Value) → without_value (without_value w) ≡ without_value w
 without-twice missing = refl
@@ -161,12 +165,12 @@ without-rule : (r : Attempt MessageType) → without_value (by_rule r) ≡ by_ru
 without-rule (fails why) = refl
 without-rule (yields t) = refl
 
-without_source : (k : Source) (w : Evaluation Value) → without_value (on_source k w) ≡ on_source k (without_value w)
-without_source (Source.At at) w = refl
-without_source Source.Alone w = refl
-without_source Source.Missing w = refl
-without_source Source.Wrong w = refl
-without_source Source.Outside w = refl
+without_source : (k : std.Result Place Fault) (w : Evaluation Value) → without_value (on_source k w) ≡ on_source k (without_value w)
+without_source (Ok (Place.At at)) w = refl
+without_source (Ok Place.Alone) w = refl
+without_source (Err Fault.Missing) w = refl
+without_source (Err Fault.Wrong) w = refl
+without_source (Err Fault.Outside) w = refl
 
 unary-stands : (s : List ℕ) (o : Unary) (x : Evaluated) (a : Evaluation (Tree Value)) → StandsFor s x a
     → unary_result o a ≡ on_source x.source (apply_unary o (value_of x.root))

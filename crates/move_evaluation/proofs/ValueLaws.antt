@@ -13,7 +13,7 @@ use Rattle.scalar.specs.Scalar.{value_of, value_beside, answer_of, kind_of, trut
 use Rattle.scalar.specs.ScalarLaws.{basic-kind, plain-text, read-text}
 use Rattle.scalar.specs.declared.Operand.{Operand}
 use Rattle.scalar.specs.declared.Scalar.{Scalar}
-use Rattle.scalar.specs.declared.Computed.{Computed}
+use Rattle.scalar.specs.declared.Failure.{Failure}
 use Rattle.network_layout.specs.Loops.{clip, clip-below, drop-clip, take-clip}
 use Rattle.network.specs.Layout.{D, start, data_part}
 use Rattle.network_row_parts.specs.Parts.{unary_of, binary_of}
@@ -21,12 +21,14 @@ use Rattle.network_row_parts.specs.declared.UnaryOperator.{UnaryOperator}
 use Rattle.network_row_parts.specs.declared.BinaryOperator.{BinaryOperator}
 use Rattle.move_rules.specs.Evaluation.{Evaluation, missing, wrong_kind, beyond, given, answered, apply_unary, apply_binary}
 use Rattle.move_rules.specs.OperatorLaws.{without_value}
-use Rattle.scalar.specs.declared.Truth.{Truth}
-use Rattle.move_evaluation.specs.declared.Decision.{Decision}
 use Rattle.move_evaluation.specs.declared.Evaluated.{Evaluated}
-use Rattle.move_evaluation.specs.declared.Source.{Source}
+use Rattle.move_evaluation.specs.declared.Place.{Place}
+use Rattle.move_evaluation.specs.declared.Fault.{Fault}
 use Rattle.move_evaluation.specs.Condition.{decision_by, without_truth, decision_of, condition_of}
 use Rattle.move_evaluation.specs.Evaluated.{is_given, has_kind, on_source, literal, unary_on, binary_on, AloneAs, Computes}
+use Rattle.std.specs.Prelude.{Option, Some, None, Ok, Err}
+use Rattle.std.specs.Option.{ok_or}
+use Rattle.std.specs.Prelude as std
 
 computes-as : {x : Evaluated} {v w : Evaluation Value} → v ≡ w → Computes x v → Computes x w
 computes-as {x} e h = subst (Computes x) e h
@@ -34,47 +36,47 @@ computes-as {x} e h = subst (Computes x) e h
 pub value-alone : (v : Operand) {w : Value} {x : Evaluated} → value_of v ≡ w → Computes x (given (value_of v)) → Computes x (given w)
 value-alone v e h = computes-as (ap given e) h
 
-pub answer-wrong : {c : Computed} {x : Evaluated} → c ≡ Computed.Wrong → Computes x wrong_kind → Computes x (answered (answer_of c))
+pub answer-wrong : {c : std.Result Scalar Failure} {x : Evaluated} → c ≡ Err Failure.Wrong → Computes x wrong_kind → Computes x (answered (answer_of c))
 unfolding answer_of
-answer-wrong e h = computes-as (sym (ap (λ (c : Computed). answered (answer_of c)) e)) h
+answer-wrong e h = computes-as (sym (ap (λ (c : std.Result Scalar Failure). answered (answer_of c)) e)) h
 
-pub answer-gives : (v : Operand) {c : Computed} {y : Scalar} {x : Evaluated} → c ≡ Computed.Gives y → value_of v ≡ value_beside y []
+pub answer-gives : (v : Operand) {c : std.Result Scalar Failure} {y : Scalar} {x : Evaluated} → c ≡ Ok y → value_of v ≡ value_beside y []
     → Computes x (given (value_of v)) → Computes x (answered (answer_of c))
 unfolding answer_of
-answer-gives v e f h = computes-as (ap given f ∙ sym (ap (λ (c : Computed). answered (answer_of c)) e)) h
+answer-gives v e f h = computes-as (ap given f ∙ sym (ap (λ (c : std.Result Scalar Failure). answered (answer_of c)) e)) h
 
 -- Where nothing is given, the root says nothing: it is a scalar with no bytes beside it.
-pub none-missing : (v : Operand) (y : Scalar) → value_of v ≡ value_beside y [] → Computes (record { source = Source.Missing; root = v }) missing
+pub none-missing : (v : Operand) (y : Scalar) → value_of v ≡ value_beside y [] → Computes (record { source = (Err Fault.Missing); root = v }) missing
 none-missing v y e = record { gives = refl; text = plain-text v y e }
 
-pub none-wrong : (v : Operand) (y : Scalar) → value_of v ≡ value_beside y [] → Computes (record { source = Source.Wrong; root = v }) wrong_kind
+pub none-wrong : (v : Operand) (y : Scalar) → value_of v ≡ value_beside y [] → Computes (record { source = (Err Fault.Wrong); root = v }) wrong_kind
 none-wrong v y e = record { gives = refl; text = plain-text v y e }
 
 -- The root beside a result outside its width has the scalar's kind.
-pub outside-kind : (v : Operand) (y : Scalar) → value_of v ≡ value_beside y [] → Computes (record { source = Source.Outside; root = v }) (beyond (kind_of y))
+pub outside-kind : (v : Operand) (y : Scalar) → value_of v ≡ value_beside y [] → Computes (record { source = (Err Fault.Outside); root = v }) (beyond (kind_of y))
 outside-kind v y e = record { gives = ap beyond (sym (ap basic_of e ∙ basic-kind y [])); text = plain-text v y e }
 
-pub answer-outside : {c : Computed} {y : Scalar} {x : Evaluated} → c ≡ Computed.Outside y → Computes x (beyond (kind_of y)) → Computes x (answered (answer_of c))
+pub answer-outside : {c : std.Result Scalar Failure} {y : Scalar} {x : Evaluated} → c ≡ Err (Failure.Outside y) → Computes x (beyond (kind_of y)) → Computes x (answered (answer_of c))
 unfolding answer_of
-answer-outside e h = computes-as (sym (ap (λ (c : Computed). answered (answer_of c)) e)) h
+answer-outside e h = computes-as (sym (ap (λ (c : std.Result Scalar Failure). answered (answer_of c)) e)) h
 
 pub ruleset answer-laws = (value-alone, outside-kind, answer-wrong, answer-outside, answer-gives)
 
 -- ---- an operator's answer without its value
 
-abbrev Kind : Computed → Evaluation Value
+abbrev Kind : std.Result Scalar Failure → Evaluation Value
 Kind c = without_value (answered (answer_of c))
 
-pub kind-wrong : {c : Computed} {x : Evaluated} → c ≡ Computed.Wrong → Computes x wrong_kind → Computes x (without_value (answered (answer_of c)))
+pub kind-wrong : {c : std.Result Scalar Failure} {x : Evaluated} → c ≡ Err Failure.Wrong → Computes x wrong_kind → Computes x (without_value (answered (answer_of c)))
 unfolding answer_of
 kind-wrong e h = computes-as (sym (ap Kind e)) h
 
-pub kind-outside : {c : Computed} {y : Scalar} {x : Evaluated} → c ≡ Computed.Outside y → Computes x (beyond (kind_of y))
+pub kind-outside : {c : std.Result Scalar Failure} {y : Scalar} {x : Evaluated} → c ≡ Err (Failure.Outside y) → Computes x (beyond (kind_of y))
     → Computes x (without_value (answered (answer_of c)))
 unfolding answer_of
 kind-outside e h = computes-as (sym (ap Kind e)) h
 
-pub kind-gives : {c : Computed} {y : Scalar} {x : Evaluated} → c ≡ Computed.Gives y → Computes x (beyond (kind_of y))
+pub kind-gives : {c : std.Result Scalar Failure} {y : Scalar} {x : Evaluated} → c ≡ Ok y → Computes x (beyond (kind_of y))
     → Computes x (without_value (answered (answer_of c)))
 unfolding answer_of
 kind-gives {y = y} e h = computes-as (sym (ap Kind e ∙ ap beyond (basic-kind y []))) h
@@ -83,7 +85,7 @@ pub ruleset kind-laws = (kind-wrong, kind-outside, kind-gives)
 
 -- ---- operators on values
 
-module _ (o : UnaryOperator) (v : Operand) (c : Computed) where
+module _ (o : UnaryOperator) (v : Operand) (c : std.Result Scalar Failure) where
   abbrev Applies : Type 0
   Applies = answered (answer_of c) ≡ apply_unary (unary_of o) (value_of v)
 
@@ -93,7 +95,7 @@ module _ (o : UnaryOperator) (v : Operand) (c : Computed) where
   pub negate-applies : o ≡ UnaryOperator.Negate → answer_of c ≡ negate_of (value_of v) → Applies
   negate-applies e f = ap answered f ∙ sym (ap (λ (o : UnaryOperator). apply_unary (unary_of o) (value_of v)) e)
 
-module _ (o : BinaryOperator) (v w : Operand) (c : Computed) where
+module _ (o : BinaryOperator) (v w : Operand) (c : std.Result Scalar Failure) where
   abbrev AppliesBoth : Type 0
   AppliesBoth = answered (answer_of c) ≡ apply_binary (binary_of o) (value_of v) (value_of w)
 
@@ -120,65 +122,65 @@ pub ruleset operator-laws = (not-applies, negate-applies, add-applies, subtract-
 -- ---- operators on what evaluation answers
 
 -- Where no kind is known, the answer itself stays; of a value outside its width the kind counts; else what follows.
-source_stays : (k : Source) (v : Operand) (w : Evaluation Value) → has_kind k ≡ false → AloneAs k v (on_source k w)
-source_stays (Source.At at) v w e = true-false e
-source_stays Source.Alone v w e = true-false e
-source_stays Source.Missing v w e = refl
-source_stays Source.Wrong v w e = refl
-source_stays Source.Outside v w e = true-false e
+source_stays : (k : std.Result Place Fault) (v : Operand) (w : Evaluation Value) → has_kind k ≡ false → AloneAs k v (on_source k w)
+source_stays (Ok (Place.At at)) v w e = true-false e
+source_stays (Ok Place.Alone) v w e = true-false e
+source_stays (Err Fault.Missing) v w e = refl
+source_stays (Err Fault.Wrong) v w e = refl
+source_stays (Err Fault.Outside) v w e = true-false e
 
-source-gives : (k : Source) (w : Evaluation Value) → is_given k ≡ true → on_source k w ≡ w
-source-gives (Source.At at) w e = refl
-source-gives Source.Alone w e = refl
-source-gives Source.Missing w e = apart e
-source-gives Source.Wrong w e = apart e
-source-gives Source.Outside w e = apart e
+source-gives : (k : std.Result Place Fault) (w : Evaluation Value) → is_given k ≡ true → on_source k w ≡ w
+source-gives (Ok (Place.At at)) w e = refl
+source-gives (Ok Place.Alone) w e = refl
+source-gives (Err Fault.Missing) w e = apart e
+source-gives (Err Fault.Wrong) w e = apart e
+source-gives (Err Fault.Outside) w e = apart e
 
-source-kind : (k : Source) (w : Evaluation Value) → is_given k ≡ false → has_kind k ≡ true → on_source k w ≡ without_value w
-source-kind (Source.At at) w e f = true-false e
-source-kind Source.Alone w e f = true-false e
-source-kind Source.Missing w e f = apart f
-source-kind Source.Wrong w e f = apart f
-source-kind Source.Outside w e f = refl
+source-kind : (k : std.Result Place Fault) (w : Evaluation Value) → is_given k ≡ false → has_kind k ≡ true → on_source k w ≡ without_value w
+source-kind (Ok (Place.At at)) w e f = true-false e
+source-kind (Ok Place.Alone) w e f = true-false e
+source-kind (Err Fault.Missing) w e f = apart f
+source-kind (Err Fault.Wrong) w e f = apart f
+source-kind (Err Fault.Outside) w e f = refl
 
 -- Without the value, a source of known kind counts for nothing more.
-kind-passes : (k : Source) (w : Evaluation Value) → has_kind k ≡ true → without_value (on_source k w) ≡ without_value w
-kind-passes (Source.At at) w e = refl
-kind-passes Source.Alone w e = refl
-kind-passes Source.Missing w e = apart e
-kind-passes Source.Wrong w e = apart e
-kind-passes Source.Outside missing e = refl
-kind-passes Source.Outside wrong_kind e = refl
-kind-passes Source.Outside (beyond b) e = refl
-kind-passes Source.Outside (given v) e = refl
+kind-passes : (k : std.Result Place Fault) (w : Evaluation Value) → has_kind k ≡ true → without_value (on_source k w) ≡ without_value w
+kind-passes (Ok (Place.At at)) w e = refl
+kind-passes (Ok Place.Alone) w e = refl
+kind-passes (Err Fault.Missing) w e = apart e
+kind-passes (Err Fault.Wrong) w e = apart e
+kind-passes (Err Fault.Outside) missing e = refl
+kind-passes (Err Fault.Outside) wrong_kind e = refl
+kind-passes (Err Fault.Outside) (beyond b) e = refl
+kind-passes (Err Fault.Outside) (given v) e = refl
 
 -- A source of known kind lets the other's answer stay.
-kind-stays : (k j : Source) (w : Evaluation Value) → has_kind k ≡ true → has_kind j ≡ false → on_source k (on_source j w) ≡ on_source j w
-kind-stays (Source.At at) j w e f = refl
-kind-stays Source.Alone j w e f = refl
-kind-stays Source.Missing j w e f = apart e
-kind-stays Source.Wrong j w e f = apart e
-kind-stays Source.Outside (Source.At at) w e f = true-false f
-kind-stays Source.Outside Source.Alone w e f = true-false f
-kind-stays Source.Outside Source.Missing w e f = refl
-kind-stays Source.Outside Source.Wrong w e f = refl
-kind-stays Source.Outside Source.Outside w e f = true-false f
+kind-stays : (k j : std.Result Place Fault) (w : Evaluation Value) → has_kind k ≡ true → has_kind j ≡ false → on_source k (on_source j w) ≡ on_source j w
+kind-stays (Ok (Place.At at)) j w e f = refl
+kind-stays (Ok Place.Alone) j w e f = refl
+kind-stays (Err Fault.Missing) j w e f = apart e
+kind-stays (Err Fault.Wrong) j w e f = apart e
+kind-stays (Err Fault.Outside) (Ok (Place.At at)) w e f = true-false f
+kind-stays (Err Fault.Outside) (Ok Place.Alone) w e f = true-false f
+kind-stays (Err Fault.Outside) (Err Fault.Missing) w e f = refl
+kind-stays (Err Fault.Outside) (Err Fault.Wrong) w e f = refl
+kind-stays (Err Fault.Outside) (Err Fault.Outside) w e f = true-false f
 
 -- Two sources of known kinds that are not both given.
-kinds-alone : (k j : Source) (w : Evaluation Value) → (is_given k && is_given j) ≡ false → has_kind k ≡ true → has_kind j ≡ true
+kinds-alone : (k j : std.Result Place Fault) (w : Evaluation Value) → (is_given k && is_given j) ≡ false → has_kind k ≡ true → has_kind j ≡ true
     → on_source k (on_source j w) ≡ without_value w
-kinds-alone (Source.At at) j w e f g = source-kind j w e g
-kinds-alone Source.Alone j w e f g = source-kind j w e g
-kinds-alone Source.Missing j w e f g = apart f
-kinds-alone Source.Wrong j w e f g = apart f
-kinds-alone Source.Outside j w e f g = kind-passes j w g
+kinds-alone (Ok (Place.At at)) j w e f g = source-kind j w e g
+kinds-alone (Ok Place.Alone) j w e f g = source-kind j w e g
+kinds-alone (Err Fault.Missing) j w e f g = apart f
+kinds-alone (Err Fault.Wrong) j w e f g = apart f
+kinds-alone (Err Fault.Outside) j w e f g = kind-passes j w g
 
 answer-stays : (x : Evaluated) (w : Evaluation Value) {t : Bool} → SoundText (value_of x.root) → t ≡ has_kind x.source → not t ≡ true
     → Computes x (on_source x.source w)
 answer-stays x w text e f = record { gives = source_stays x.source x.root w (untold e f); text = text }
 
 module _ (o : UnaryOperator) (x : Evaluated) {t : Bool} (e : t ≡ is_given x.source) where
-  pub unary-gives : {z : Evaluated} (c : Computed) → t ≡ true → answered (answer_of c) ≡ apply_unary (unary_of o) (value_of x.root)
+  pub unary-gives : {z : Evaluated} (c : std.Result Scalar Failure) → t ≡ true → answered (answer_of c) ≡ apply_unary (unary_of o) (value_of x.root)
       → Computes z (answered (answer_of c)) → Computes z (unary_on o x)
   unfolding unary_on
   unary-gives c f g h = computes-as (g ∙ sym (source-gives x.source _ (sym e ∙ f))) h
@@ -188,13 +190,13 @@ module _ (o : UnaryOperator) (x : Evaluated) {t : Bool} (e : t ≡ is_given x.so
     unfolding unary_on
     unary-stays text g = answer-stays x _ text d g
 
-    pub unary-kind : {z : Evaluated} (c : Computed) → not u ≡ false → answered (answer_of c) ≡ apply_unary (unary_of o) (value_of x.root)
+    pub unary-kind : {z : Evaluated} (c : std.Result Scalar Failure) → not u ≡ false → answered (answer_of c) ≡ apply_unary (unary_of o) (value_of x.root)
         → Computes z (without_value (answered (answer_of c))) → Computes z (unary_on o x)
     unfolding unary_on
     unary-kind c q g h = computes-as (ap without_value g ∙ sym (source-kind x.source _ (sym e ∙ f) (told d q))) h
 
 module _ (o : BinaryOperator) (x y : Evaluated) {t : Bool} (e : t ≡ (is_given x.source && is_given y.source)) where
-  pub binary-gives : {z : Evaluated} (c : Computed) → t ≡ true → answered (answer_of c) ≡ apply_binary (binary_of o) (value_of x.root) (value_of y.root)
+  pub binary-gives : {z : Evaluated} (c : std.Result Scalar Failure) → t ≡ true → answered (answer_of c) ≡ apply_binary (binary_of o) (value_of x.root) (value_of y.root)
       → Computes z (answered (answer_of c)) → Computes z (binary_on o x y)
   unfolding binary_on
   binary-gives c f g h =
@@ -211,7 +213,7 @@ module _ (o : BinaryOperator) (x y : Evaluated) {t : Bool} (e : t ≡ (is_given 
       unfolding binary_on
       right-stays text j = computes-as (sym (kind-stays x.source y.source _ (told d g) (untold i j))) (answer-stays y _ text i j)
 
-      pub binary-kind : {z : Evaluated} (c : Computed) → not v ≡ false
+      pub binary-kind : {z : Evaluated} (c : std.Result Scalar Failure) → not v ≡ false
           → answered (answer_of c) ≡ apply_binary (binary_of o) (value_of x.root) (value_of y.root)
           → Computes z (without_value (answered (answer_of c))) → Computes z (binary_on o x y)
       unfolding binary_on
@@ -256,24 +258,28 @@ pub ruleset constant-laws = (from-inside, part-inside, constant-value, constant-
 
 -- ---- conditions
 
-decides-as : (x : Evaluated) {k : Source} {d : Decision} → x.source ≡ k → d ≡ decision_of k (truth_of (value_of x.root)) → d ≡ condition_of x
+decides-as : (x : Evaluated) {k : std.Result Place Fault} {d : std.Result Bool Fault} → x.source ≡ k → d ≡ decision_of k (truth_of (value_of x.root)) → d ≡ condition_of x
 unfolding condition_of
-decides-as x e f = f ∙ ap (λ (k : Source). decision_of k (truth_of (value_of x.root))) (sym e)
+decides-as x e f = f ∙ ap (λ (k : std.Result Place Fault). decision_of k (truth_of (value_of x.root))) (sym e)
 
-pub condition-at : (x : Evaluated) {at : ℕ} {t : Truth} {d : Decision} → x.source ≡ Source.At at → t ≡ truth_of (value_of x.root) → d ≡ decision_by t → d ≡ condition_of x
-condition-at x e f g = decides-as x e (g ∙ ap decision_by f)
+decided : (t : Option Bool) → ok_or t Fault.Wrong ≡ decision_by t
+decided (Some p) = refl
+decided None = refl
 
-pub condition-alone : (x : Evaluated) {t : Truth} {d : Decision} → x.source ≡ Source.Alone → t ≡ truth_of (value_of x.root) → d ≡ decision_by t → d ≡ condition_of x
-condition-alone x e f g = decides-as x e (g ∙ ap decision_by f)
+pub condition-given : (x : Evaluated) {p : Place} {t : Option Bool} {d : std.Result Bool Fault} → x.source ≡ Ok p → t ≡ truth_of (value_of x.root) → d ≡ ok_or t Fault.Wrong
+    → d ≡ condition_of x
+condition-given x {t = t} e f g = decides-as x e (g ∙ decided t ∙ ap decision_by f)
 
-pub condition-missing : (x : Evaluated) → x.source ≡ Source.Missing → Decision.Missing ≡ condition_of x
+pub condition-missing : (x : Evaluated) → x.source ≡ Err Fault.Missing → Err Fault.Missing ≡ condition_of x
 condition-missing x e = decides-as x e refl
 
-pub condition-wrong : (x : Evaluated) → x.source ≡ Source.Wrong → Decision.Wrong ≡ condition_of x
+pub condition-wrong : (x : Evaluated) → x.source ≡ Err Fault.Wrong → Err Fault.Wrong ≡ condition_of x
 condition-wrong x e = decides-as x e refl
 
-pub condition-outside : (x : Evaluated) {t : Truth} {d : Decision} → x.source ≡ Source.Outside → t ≡ truth_of (value_of x.root) → d ≡ without_truth t
-    → d ≡ condition_of x
-condition-outside x e f g = decides-as x e (g ∙ ap without_truth f)
+pub condition-outside : (x : Evaluated) {b : Bool} → x.source ≡ Err Fault.Outside → Some b ≡ truth_of (value_of x.root) → Err Fault.Outside ≡ condition_of x
+condition-outside x e f = decides-as x e (ap without_truth f)
 
-pub ruleset condition-laws = (condition-at, condition-alone, condition-missing, condition-wrong, condition-outside)
+pub condition-no-bool : (x : Evaluated) → x.source ≡ Err Fault.Outside → None ≡ truth_of (value_of x.root) → Err Fault.Wrong ≡ condition_of x
+condition-no-bool x e f = decides-as x e (ap without_truth f)
+
+pub ruleset condition-laws = (condition-given, condition-missing, condition-wrong, condition-outside, condition-no-bool)

@@ -20,12 +20,14 @@ use Rattle.tree_edit.specs.Wrote.{Wrote}
 use Rattle.tree_edit.specs.WroteLaws.{wrote-more, wrote-all-of}
 use Rattle.state.proofs.SizeLaws.{session-tree-size}
 use Rattle.move_rules.specs.Evaluation.{Evaluation, leaf}
-use Rattle.move_evaluation.specs.declared.Source.{Source}
+use Rattle.move_evaluation.specs.declared.Place.{Place}
+use Rattle.move_evaluation.specs.declared.Fault.{Fault}
 use Rattle.move_evaluation.specs.declared.Evaluated.{Evaluated}
-use Rattle.move_evaluation.specs.declared.Written.{Written}
 use Rattle.move_evaluation.specs.Evaluated.{SourceOf, StandsFor}
-use Rattle.move_evaluation.specs.Writing.{WritesLeaf, WritesTree, Writes}
+use Rattle.move_evaluation.specs.Writing.{WritesLeaf, WritesTree, WrittenAs, Writes}
 use Rattle.move_evaluation.specs.WritingLaws.{leaf-good}
+use Rattle.std.specs.Prelude.{Ok, Err}
+use Rattle.std.specs.Prelude as std
 
 -- ---- a value alone
 
@@ -100,11 +102,11 @@ module _ (s : List ℕ) (at e : ℕ) (h : Ended s at e) (o : List ℕ) where
 session-small : (s : List ℕ) (F : Forest Value) → Encodes session_levels session_nodes s (tree empty F) → length s ≤ 1024
 session-small s F m = omega (arith, ap length m.bytes, session-tree-size F m.good)
 
-stood : (s : List ℕ) (x : Evaluated) {k : Source} → x.source ≡ k → (f : Evaluation (Tree Value)) → StandsFor s x f → SourceOf s k x.root f
-stood s x e f h = subst (λ (k : Source). SourceOf s k x.root f) e h
+stood : (s : List ℕ) (x : Evaluated) {k : std.Result Place Fault} → x.source ≡ k → (f : Evaluation (Tree Value)) → StandsFor s x f → SourceOf s k x.root f
+stood s x e f h = subst (λ (k : std.Result Place Fault). SourceOf s k x.root f) e h
 
 module _ (s : List ℕ) (x : Evaluated) {o : List ℕ} (l : 1024 ≤ length o) where
-  pub source-at : {at r : ℕ} {o' : List ℕ} → x.source ≡ Source.At at → WritesTree s at o o' r → Writes s x o o' (Written.Tree r)
+  pub source-at : {at r : ℕ} {o' : List ℕ} → x.source ≡ Ok (Place.At at) → WritesTree s at o o' r → Writes s x o o' (Ok r)
   source-at {at} {r} {o'} e w = record {
     inside = w.inside;
     rest = w.rest;
@@ -118,8 +120,8 @@ module _ (s : List ℕ) (x : Evaluated) {o : List ℕ} (l : 1024 ≤ length o) w
     );
   }
 
-  pub source-alone : {r : ℕ} {o' : List ℕ} → x.source ≡ Source.Alone → WritesLeaf x.root o o' r → length o' ≡ length o
-      → Writes s x o o' (Written.Tree r)
+  pub source-alone : {r : ℕ} {o' : List ℕ} → x.source ≡ Ok Place.Alone → WritesLeaf x.root o o' r → length o' ≡ length o
+      → Writes s x o o' (Ok r)
   source-alone {r} {o'} e w k = record {
     inside = omega (arith, w.wrote.fits);
     rest = w.wrote.keeps;
@@ -127,15 +129,14 @@ module _ (s : List ℕ) (x : Evaluated) {o : List ℕ} (l : 1024 ≤ length o) w
         (leaf (value_of x.root), stood s x e f h, record { bytes = w.wrote.holds; good = leaf-good session_levels session_nodes (value_of x.root) w.proper });
   }
 
-  pub source-missing : x.source ≡ Source.Missing → Writes s x o o Written.Missing
-  source-missing e = record { inside = omega arith; rest = refl; tells = λ F f m h. stood s x e f h }
-
-  pub source-wrong : x.source ≡ Source.Wrong → Writes s x o o Written.Wrong
-  source-wrong e = record { inside = omega arith; rest = refl; tells = λ F f m h. stood s x e f h }
-
-  pub source-outside : x.source ≡ Source.Outside → Writes s x o o Written.Outside
-  source-outside e = record { inside = omega arith; rest = refl; tells = λ F f m h. (basic_of (value_of x.root), stood s x e f h) }
+  pub source-fault : {k : Fault} → x.source ≡ Err k → Writes s x o o (Err k)
+  source-fault {k} e = record { inside = omega arith; rest = refl; tells = λ F f m h. by k f (stood s x e f h) }
+    where
+      by : (k : Fault) (f : Evaluation (Tree Value)) → SourceOf s (Err k) x.root f → WrittenAs o (Err k) f
+      by Fault.Missing f h = h
+      by Fault.Wrong f h = h
+      by Fault.Outside f h = (basic_of (value_of x.root), h)
 
 pub ruleset tree_laws = (tree-past, tree-before, tree-short, tree-long, tree-written)
 
-pub ruleset source-laws = (source-at, source-alone, source-missing, source-wrong, source-outside)
+pub ruleset source-laws = (source-at, source-alone, source-fault)

@@ -21,31 +21,34 @@ use Rattle.network_row_parts.specs.declared.BinaryOperator.{BinaryOperator}
 use Rattle.move_rules.specs.Evaluation.{Evaluation, missing, wrong_kind, beyond, given, leaf, found, apply_unary, apply_binary, evaluate}
 use Rattle.move_rules.specs.OperatorLaws.{without_value}
 use Rattle.tree_forest.specs.Forest.{is_present}
-use Rattle.move_evaluation.specs.declared.Source.{Source}
+use Rattle.move_evaluation.specs.declared.Place.{Place}
+use Rattle.move_evaluation.specs.declared.Fault.{Fault}
 use Rattle.move_evaluation.specs.declared.Evaluated.{Evaluated}
+use Rattle.std.specs.Prelude.{Ok, Err}
+use Rattle.std.specs.Prelude as std
 
 -- Is the value given? Is it given, or is its kind known at least?
-abbrev pub is_given : Source → Bool
-is_given (Source.At at) = true
-is_given Source.Alone = true
-is_given Source.Missing = false
-is_given Source.Wrong = false
-is_given Source.Outside = false
+abbrev pub is_given : std.Result Place Fault → Bool
+is_given (Ok (Place.At at)) = true
+is_given (Ok Place.Alone) = true
+is_given (Err Fault.Missing) = false
+is_given (Err Fault.Wrong) = false
+is_given (Err Fault.Outside) = false
 
-abbrev pub has_kind : Source → Bool
-has_kind (Source.At at) = true
-has_kind Source.Alone = true
-has_kind Source.Missing = false
-has_kind Source.Wrong = false
-has_kind Source.Outside = true
+abbrev pub has_kind : std.Result Place Fault → Bool
+has_kind (Ok (Place.At at)) = true
+has_kind (Ok Place.Alone) = true
+has_kind (Err Fault.Missing) = false
+has_kind (Err Fault.Wrong) = false
+has_kind (Err Fault.Outside) = true
 
 -- What follows of the value; where none is given, the answer stays; of one outside its width, the kind alone counts.
-abbrev pub on_source : Source → Evaluation Value → Evaluation Value
-on_source (Source.At at) w = w
-on_source Source.Alone w = w
-on_source Source.Missing w = missing
-on_source Source.Wrong w = wrong_kind
-on_source Source.Outside w = without_value w
+abbrev pub on_source : std.Result Place Fault → Evaluation Value → Evaluation Value
+on_source (Ok (Place.At at)) w = w
+on_source (Ok Place.Alone) w = w
+on_source (Err Fault.Missing) w = missing
+on_source (Err Fault.Wrong) w = wrong_kind
+on_source (Err Fault.Outside) w = without_value w
 
 -- A constant's value; none where the bytes are no value, as in no file that 2 to 5 let pass.
 unfoldable pub literal : ℕ → List ℕ → Evaluation Value
@@ -59,12 +62,12 @@ unfoldable pub binary_on : BinaryOperator → Evaluated → Evaluated → Evalua
 binary_on o x y = on_source x.source (on_source y.source (apply_binary (binary_of o) (value_of x.root) (value_of y.root)))
 
 -- The value is alone, or none is given, or it is outside the width of the root's kind.
-abbrev pub AloneAs : Source → Operand → Evaluation Value → Type 0
-AloneAs (Source.At at) v w = ⊥
-AloneAs Source.Alone v w = w ≡ given (value_of v)
-AloneAs Source.Missing v w = w ≡ missing
-AloneAs Source.Wrong v w = w ≡ wrong_kind
-AloneAs Source.Outside v w = w ≡ beyond (basic_of (value_of v))
+abbrev pub AloneAs : std.Result Place Fault → Operand → Evaluation Value → Type 0
+AloneAs (Ok (Place.At at)) v w = ⊥
+AloneAs (Ok Place.Alone) v w = w ≡ given (value_of v)
+AloneAs (Err Fault.Missing) v w = w ≡ missing
+AloneAs (Err Fault.Wrong) v w = w ≡ wrong_kind
+AloneAs (Err Fault.Outside) v w = w ≡ beyond (basic_of (value_of v))
 
 -- The root is always sound as text.
 pub record Computes (x : Evaluated) (w : Evaluation Value) : Type 0 where
@@ -80,12 +83,12 @@ pub record FoundAt (s : List ℕ) (at : ℕ) (v : Operand) (f : Evaluation (Tree
   pub value : value_of v ≡ payload there
 
 -- The answer stands for what evaluation gives: a tree at a place of the session's tree s, a value alone, none, or one outside its width.
-abbrev pub SourceOf : List ℕ → Source → Operand → Evaluation (Tree Value) → Type 0
-SourceOf s (Source.At at) v f = FoundAt s at v f
-SourceOf s Source.Alone v f = f ≡ given (leaf (value_of v))
-SourceOf s Source.Missing v f = f ≡ missing
-SourceOf s Source.Wrong v f = f ≡ wrong_kind
-SourceOf s Source.Outside v f = f ≡ beyond (basic_of (value_of v))
+abbrev pub SourceOf : List ℕ → std.Result Place Fault → Operand → Evaluation (Tree Value) → Type 0
+SourceOf s (Ok (Place.At at)) v f = FoundAt s at v f
+SourceOf s (Ok Place.Alone) v f = f ≡ given (leaf (value_of v))
+SourceOf s (Err Fault.Missing) v f = f ≡ missing
+SourceOf s (Err Fault.Wrong) v f = f ≡ wrong_kind
+SourceOf s (Err Fault.Outside) v f = f ≡ beyond (basic_of (value_of v))
 
 abbrev pub StandsFor : List ℕ → Evaluated → Evaluation (Tree Value) → Type 0
 StandsFor s x f = SourceOf s x.source x.root f

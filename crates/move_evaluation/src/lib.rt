@@ -10,19 +10,24 @@ ghost use Rattle.network_row_parts.specs.Parts.{unary_of, binary_of};
 ghost use Rattle.move_rules.specs.Evaluation.{missing, wrong_kind, beyond, given, answered, apply_unary, apply_binary};
 ghost use Rattle.move_rules.specs.OperatorLaws.{without_value};
 ghost use Rattle.network.specs.Layout.{data_part};
-ghost use Rattle.move_evaluation.specs.Condition.{decision_by, without_truth, condition_of};
+ghost use Rattle.move_evaluation.specs.Condition.{refusal_of, condition_of};
 ghost use Rattle.move_evaluation.specs.Writing.{WritesLeaf, WritesTree, Writes};
 ghost use Rattle.move_evaluation.specs.Evaluated.{is_given, has_kind, literal, unary_on, binary_on, Computes, StandsAt, Reads, Presents, Evaluates};
 
 use network_row_parts::{BinaryOperator, Part, UnaryOperator};
-use scalar::{Computed, Operand, Scalar, Truth};
+use refusal::Refusal;
+use scalar::{Failure, Operand, Scalar};
 
-// Where the value of an expression is: a tree at a place of the session's tree, or a value alone. Or a value read is missing, an operand is
-// of the wrong kind, or a result is outside its width.
+// Where the value of an expression is: a tree at a place of the session's tree, or a value alone.
 #[derive(Clone, Copy)]
-pub enum Source {
+pub enum Place {
     At(usize),
     Alone,
+}
+
+// Why there is no value: one that is read is missing, an operand or the condition itself is of the wrong kind, or a result is outside its width.
+#[derive(Clone, Copy)]
+pub enum Fault {
     Missing,
     Wrong,
     Outside,
@@ -32,61 +37,36 @@ pub enum Source {
 // or an operand of the wrong kind, the root says nothing.
 #[derive(Clone, Copy)]
 pub struct Evaluated {
-    pub source: Source,
+    pub source: Result<Place, Fault>,
     pub root: Operand,
 }
 
-// What a condition says; or a value read is missing, an operand or the condition itself is of the wrong kind, or a result is outside its
-// width.
-#[derive(Clone, Copy)]
-pub enum Decision {
-    True,
-    False,
-    Missing,
-    Wrong,
-    Outside,
-}
-
-// The length of a tree that was written; or a value read is missing, an operand is of the wrong kind, or a result is outside its width.
-#[derive(Clone, Copy)]
-pub enum Written {
-    Tree(usize),
-    Missing,
-    Wrong,
-    Outside,
-}
-
-fn is_given(p: Source) -> bool
-    ensures { result ≡ is_given p }
+// The refusal that tells a fault: 18 or 22.
+pub fn refusal_of(fault: Fault) -> Refusal
+    ensures { result ≡ refusal_of fault }
 {
-    match p {
-        Source::At(_) => true,
-        Source::Alone => true,
-        Source::Missing => false,
-        Source::Wrong => false,
-        Source::Outside => false,
+    match fault {
+        Fault::Missing => Refusal::Stuck,
+        Fault::Wrong => Refusal::Stuck,
+        Fault::Outside => Refusal::OutOfRange,
     }
 }
 
-fn both_given(p: Source, q: Source) -> bool
+fn both_given(p: Result<Place, Fault>, q: Result<Place, Fault>) -> bool
     ensures { result ≡ (is_given p && is_given q) }
 {
-    if is_given(p) {
-        return is_given(q);
-    }
-    false
+    p.is_ok() && q.is_ok()
 }
 
 // Is the value given, or is its kind known at least?
-fn has_kind(p: Source) -> bool
+fn has_kind(p: Result<Place, Fault>) -> bool
     ensures { result ≡ has_kind p }
 {
     match p {
-        Source::At(_) => true,
-        Source::Alone => true,
-        Source::Missing => false,
-        Source::Wrong => false,
-        Source::Outside => true,
+        Ok(_) => true,
+        Err(Fault::Missing) => false,
+        Err(Fault::Wrong) => false,
+        Err(Fault::Outside) => true,
     }
 }
 
@@ -94,10 +74,9 @@ fn has_kind(p: Source) -> bool
 fn absent() -> Evaluated
     ensures { Computes result missing }
 {
-    let v = scalar::plain(Scalar::Void);
     Evaluated {
-        source: Source::Missing,
-        root: v,
+        source: Err(Fault::Missing),
+        root: scalar::plain(Scalar::Void),
     }
 }
 
@@ -105,10 +84,9 @@ fn absent() -> Evaluated
 fn wrong() -> Evaluated
     ensures { Computes result wrong_kind }
 {
-    let v = scalar::plain(Scalar::Void);
     Evaluated {
-        source: Source::Wrong,
-        root: v,
+        source: Err(Fault::Wrong),
+        root: scalar::plain(Scalar::Void),
     }
 }
 
@@ -117,7 +95,7 @@ fn alone(v: Operand) -> Evaluated
     ensures { Computes result (given (value_of v)) }
 {
     Evaluated {
-        source: Source::Alone,
+        source: Ok(Place::Alone),
         root: v,
     }
 }
@@ -126,10 +104,9 @@ fn alone(v: Operand) -> Evaluated
 fn outside(x: Scalar) -> Evaluated
     ensures { Computes result (beyond (kind_of x)) }
 {
-    let v = scalar::plain(x);
     Evaluated {
-        source: Source::Outside,
-        root: v,
+        source: Err(Fault::Outside),
+        root: scalar::plain(x),
     }
 }
 
@@ -141,28 +118,28 @@ fn flag(p: bool) -> Evaluated
 }
 
 // What an operator gives.
-fn computed(c: Computed) -> Evaluated
+fn computed(c: Result<Scalar, Failure>) -> Evaluated
     ensures { Computes result (answered (answer_of c)) }
 {
     match c {
-        Computed::Wrong => wrong(),
-        Computed::Outside(x) => outside(x),
-        Computed::Gives(x) => alone(scalar::plain(x)),
+        Ok(x) => alone(scalar::plain(x)),
+        Err(Failure::Wrong) => wrong(),
+        Err(Failure::Outside(x)) => outside(x),
     }
 }
 
 // What an operator gives where an operand is outside its width: its kind alone.
-fn without_value(c: Computed) -> Evaluated
+fn without_value(c: Result<Scalar, Failure>) -> Evaluated
     ensures { Computes result (without_value (answered (answer_of c))) }
 {
     match c {
-        Computed::Wrong => wrong(),
-        Computed::Outside(x) => outside(x),
-        Computed::Gives(x) => outside(x),
+        Ok(x) => outside(x),
+        Err(Failure::Wrong) => wrong(),
+        Err(Failure::Outside(x)) => outside(x),
     }
 }
 
-fn unary_value(o: UnaryOperator, v: Operand) -> Computed
+fn unary_value(o: UnaryOperator, v: Operand) -> Result<Scalar, Failure>
     ensures { answered (answer_of result) ≡ apply_unary (unary_of o) (value_of v) }
 {
     match o {
@@ -171,7 +148,7 @@ fn unary_value(o: UnaryOperator, v: Operand) -> Computed
     }
 }
 
-fn binary_value(o: BinaryOperator, v: Operand, w: Operand) -> Computed
+fn binary_value(o: BinaryOperator, v: Operand, w: Operand) -> Result<Scalar, Failure>
     ensures { answered (answer_of result) ≡ apply_binary (binary_of o) (value_of v) (value_of w) }
 {
     match o {
@@ -188,15 +165,13 @@ fn unary(o: UnaryOperator, x: Evaluated) -> Evaluated
     requires { SoundText (value_of x.root) }
     ensures { Computes result (unary_on o x) }
 {
-    let p = x.source;
-    let v = x.root;
-    if is_given(p) {
-        return computed(unary_value(o, v));
+    if x.source.is_ok() {
+        return computed(unary_value(o, x.root));
     }
-    if !has_kind(p) {
+    if !has_kind(x.source) {
         return x;
     }
-    without_value(unary_value(o, v))
+    without_value(unary_value(o, x.root))
 }
 
 // Where a value is missing or a kind is wrong, the left operand's answer comes first, then the right one's, then the operator's.
@@ -204,20 +179,16 @@ fn binary(o: BinaryOperator, x: Evaluated, y: Evaluated) -> Evaluated
     requires { SoundText (value_of x.root) × SoundText (value_of y.root) }
     ensures { Computes result (binary_on o x y) }
 {
-    let p = x.source;
-    let q = y.source;
-    let v = x.root;
-    let w = y.root;
-    if both_given(p, q) {
-        return computed(binary_value(o, v, w));
+    if both_given(x.source, y.source) {
+        return computed(binary_value(o, x.root, y.root));
     }
-    if !has_kind(p) {
+    if !has_kind(x.source) {
         return x;
     }
-    if !has_kind(q) {
+    if !has_kind(y.source) {
         return y;
     }
-    without_value(binary_value(o, v, w))
+    without_value(binary_value(o, x.root, y.root))
 }
 
 // The constant of the basic type b in the n bytes of D from v on.
@@ -237,12 +208,19 @@ fn constant(file: &[u8], b: u8, v: u16, n: u16) -> Evaluated
 fn tree_at(s: &[u8], at: usize) -> Evaluated
     ensures { StandsAt s.now at result }
 {
-    let tree::Head::Node(_, b, _, mid) = tree::head_at(s, at) else {
+    let Some(
+        tree::Head {
+            basic: b,
+            start: mid,
+            ..
+        },
+    ) = tree::head_at(s, at)
+    else {
         return absent();
     };
     let v = scalar::read(s, at + 5, b, mid - at - 5);
     Evaluated {
-        source: Source::At(at),
+        source: Ok(Place::At(at)),
         root: v,
     }
 }
@@ -251,7 +229,7 @@ fn tree_at(s: &[u8], at: usize) -> Evaluated
 fn value_at(file: &[u8], s: &[u8], p: u16) -> Evaluated
     ensures { Reads file.now s.now p result }
 {
-    let tree::Found::At(at) = tree::follow(s, network_rows::path_row(file, p)) else {
+    let Some(at) = tree::follow(s, network_rows::path_row(file, p)) else {
         return absent();
     };
     tree_at(s, at)
@@ -260,7 +238,7 @@ fn value_at(file: &[u8], s: &[u8], p: u16) -> Evaluated
 fn presence(file: &[u8], s: &[u8], p: u16) -> Evaluated
     ensures { Presents file.now s.now p result }
 {
-    let tree::Found::At(_) = tree::follow(s, network_rows::path_row(file, p)) else {
+    let Some(_) = tree::follow(s, network_rows::path_row(file, p)) else {
         return flag(false);
     };
     flag(true)
@@ -287,40 +265,18 @@ pub fn evaluate(file: &[u8], s: &[u8], r: u16) -> Evaluated
     }
 }
 
-// What a value's truth decides.
-fn decided(t: Truth) -> Decision
-    ensures { result ≡ decision_by t }
-{
-    match t {
-        Truth::True => Decision::True,
-        Truth::False => Decision::False,
-        Truth::Wrong => Decision::Wrong,
-    }
-}
-
-// The same of a value outside its width: 18 where it is no bool.
-fn undecided(t: Truth) -> Decision
-    ensures { result ≡ without_truth t }
-{
-    match t {
-        Truth::True => Decision::Outside,
-        Truth::False => Decision::Outside,
-        Truth::Wrong => Decision::Wrong,
-    }
-}
-
-// The condition of an if or a while: "as an operand its root value counts", and so here.
-pub fn condition(x: Evaluated) -> Decision
+// The condition of an if or a while: "as an operand its root value counts", and so here. Of a value outside its width too, the kind counts.
+pub fn condition(x: Evaluated) -> Result<bool, Fault>
     ensures { result ≡ condition_of x }
 {
-    let p = x.source;
-    let v = x.root;
-    match p {
-        Source::At(_) => decided(scalar::truth_of(v)),
-        Source::Alone => decided(scalar::truth_of(v)),
-        Source::Missing => Decision::Missing,
-        Source::Wrong => Decision::Wrong,
-        Source::Outside => undecided(scalar::truth_of(v)),
+    match x.source {
+        Ok(_) => scalar::truth_of(x.root).ok_or(Fault::Wrong),
+        Err(Fault::Missing) => Err(Fault::Missing),
+        Err(Fault::Wrong) => Err(Fault::Wrong),
+        Err(Fault::Outside) => match scalar::truth_of(x.root) {
+            Some(_) => Err(Fault::Outside),
+            None => Err(Fault::Wrong),
+        },
     }
 }
 
@@ -360,17 +316,12 @@ fn write_tree(out: &mut [u8], s: &[u8], at: usize) -> usize
 }
 
 // Writes what evaluation in the session's tree s gave to the start of out as a tree alone; where nothing is given, the answer stays.
-pub fn write_value(out: &mut [u8], s: &[u8], x: Evaluated) -> Written
+pub fn write_value(out: &mut [u8], s: &[u8], x: Evaluated) -> Result<usize, Fault>
     requires { (1024 ≤ length out.old) × SoundText (value_of x.root) }
     ensures { Writes s.now x out.old out.new result }
 {
-    let p = x.source;
-    let v = x.root;
-    match p {
-        Source::At(at) => Written::Tree(write_tree(out, s, at)),
-        Source::Alone => Written::Tree(write_leaf(out, v)),
-        Source::Missing => Written::Missing,
-        Source::Wrong => Written::Wrong,
-        Source::Outside => Written::Outside,
+    match x.source? {
+        Place::At(at) => Ok(write_tree(out, s, at)),
+        Place::Alone => Ok(write_leaf(out, x.root)),
     }
 }

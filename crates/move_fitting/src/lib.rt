@@ -4,18 +4,18 @@
 
 ghost use Rattle.move_fitting.specs.Fitting.{Passes};
 
-use refusal::{Refusal, Verdict};
+use refusal::Refusal;
 
 // Do the bytes pass at the type of T row r? `other` is the refusal of bytes that are no message; then 19.
-pub fn passes(message: &[u8], file: &[u8], r: u16, other: Refusal) -> Verdict
+pub fn passes(message: &[u8], file: &[u8], r: u16, other: Refusal) -> Result<(), Refusal>
     ensures { Passes message.now file.now r other result }
 {
     tree::octets(message);
     if !tree::is_message(message) {
-        return Verdict::Refused(other);
+        return Err(other);
     }
     if !check_types::fits(message, file, r) {
-        return Verdict::Refused(Refusal::MessageMisfit);
+        return Err(Refusal::MessageMisfit);
     }
-    Verdict::Done
+    Ok(())
 }

@@ -17,11 +17,10 @@ use Rattle.state.specs.Bytes.{read_session, read_slot}
 use Rattle.state.specs.Shape.{behaviour_in}
 use Rattle.state.proofs.ReadLaws.{stands_read}
 use Rattle.move_rules.specs.Moves.{Result, not_allowed, on_live, on_behaviour, in_session}
-use Rattle.move_targets.specs.declared.Runs as targets
 use Rattle.move_targets.specs.Answers.{behaviour_run, RowExists, RunsIn}
 use Rattle.state_slots.specs.SlotLaws.{stands-living}
-use Rattle.move_frame.specs.declared.Running.{Running}
 use Rattle.move_frame.specs.Made.{StateOf, InSession, RunsAt}
+use Rattle.std.specs.Prelude.{Option, Some, None}
 
 -- A free session, and one that runs nothing, allow no move.
 free-session : (file : List ℕ) (G : State) (q n : ℕ) → G q n ≡ free → (f : Behaviour → Session → Result) → in_session (network_of file) G q n f ≡ not_allowed
@@ -32,18 +31,18 @@ free-session file G q n e f =
     by none = refl
     by (some B) = refl
 
-nowhere : {at b : ℕ} {A : Type 0} → Running.Nothing ≡ Running.Session at b → A
+nowhere : {at b : ℕ} {A : Type 0} → ◌≡◌ {A = Option (ℕ × ℕ)} None (Some (at, b)) → A
 nowhere e = absurd (let z : ◌≡◌ {A = ℕ} 0 1 = cc in omega arith)
 
 module _ (file s : List ℕ) (q n : ℕ) where
-  pub far-service : 3 < q → RunsAt file s q n Running.Nothing
+  pub far-service : 3 < q → RunsAt file s q n None
   far-service l = record { tells = λ w G st. free-session file G q n (st.shape.elsewhere q n (inl l)); inside = λ at b e. nowhere e }
 
-  pub far-session : 3 < n → RunsAt file s q n Running.Nothing
+  pub far-session : 3 < n → RunsAt file s q n None
   far-session l = record { tells = λ w G st. free-session file G q n (st.shape.elsewhere q n (inr l)); inside = λ at b e. nowhere e }
 
-  module _ {x : targets.Runs} (r : RunsIn file q n x) where
-    pub runs-nothing : x ≡ targets.Runs.Nothing → RunsAt file s q n Running.Nothing
+  module _ {x : Option ℕ} (r : RunsIn file q n x) where
+    pub runs-nothing : x ≡ None → RunsAt file s q n None
     unfolding behaviour_run
     runs-nothing e = record {
       tells = λ w G st f.
@@ -52,12 +51,12 @@ module _ (file s : List ℕ) (q n : ℕ) where
       inside = λ at b e. nowhere e;
     }
 
-    module _ {b : ℕ} (e : x ≡ targets.Runs.Row b) {slot y : ℕ} (l : q ≤ 3) (m : n ≤ 3) (place : slot ≡ slot_start q n) (v : y ≡ byte_at s slot) where
+    module _ {b : ℕ} (e : x ≡ Some b) {slot y : ℕ} (l : q ≤ 3) (m : n ≤ 3) (place : slot ≡ slot_start q n) (v : y ≡ byte_at s slot) where
       slot_is : (G : State) → StateOf file s G → G q n ≡ pick (eqb (byte_at s (slot_start q n)) 0) free (live (read_session s (slot_start q n)))
       unfolding read_slot
       slot_is G st = sym (stands_read st q n (omega (arith, l)) (omega (arith, m)))
 
-      pub slot-free : y ≡ 0 → RunsAt file s q n Running.Nothing
+      pub slot-free : y ≡ 0 → RunsAt file s q n None
       slot-free z = record {
         tells = λ w G st.
             free-session file G q n (slot_is G st ∙ ap (λ (t : Bool). pick t free (live (read_session s (slot_start q n))))
@@ -65,7 +64,7 @@ module _ (file s : List ℕ) (q n : ℕ) where
         inside = λ at b e. nowhere e;
       }
 
-      pub slot-live : (y ≡ 0 → ⊥) → RunsAt file s q n (Running.Session slot b)
+      pub slot-live : (y ≡ 0 → ⊥) → RunsAt file s q n (Some (slot, b))
       unfolding behaviour_run
       slot-live z = record {
         tells = λ w G st.
@@ -86,7 +85,9 @@ module _ (file s : List ℕ) (q n : ℕ) where
         inside = λ at k h. by at k h;
       }
         where
-          by : (at k : ℕ) → Running.Session slot b ≡ Running.Session at k → at + slot_size ≤ 65536
-          by at k h = let p : slot ≡ at = cc in omega (arith, p, place, l, m)
+          by : (at k : ℕ) → ◌≡◌ {A = Option (ℕ × ℕ)} (Some (slot, b)) (Some (at, k)) → at + slot_size ≤ 65536
+          by at k h =
+              let e : ◌≡◌ {A = ℕ × ℕ} (slot, b) (at, k) = cc in
+              omega (arith, ap (λ (z : ℕ × ℕ). z.0) e, place, l, m)
 
 pub ruleset session-laws = (far-service, far-session, runs-nothing, slot-free, slot-live)

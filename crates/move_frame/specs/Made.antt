@@ -14,7 +14,7 @@ use Rattle.state.specs.Shape.{behaviour_in, Stands}
 use Rattle.move_rules.specs.Moves.{Result, not_allowed, in_session}
 use Rattle.move_rules.specs.Step.{Step, finish}
 use Rattle.state_slots.specs.Living.{Living}
-use Rattle.move_frame.specs.declared.Running.{Running}
+use Rattle.std.specs.Prelude.{Option, Some, None}
 
 -- The bytes s stand for the state G of the file's shape.
 abbrev pub StateOf : List ℕ → List ℕ → State → Type 0
@@ -43,10 +43,10 @@ pub record InSession (file s : List ℕ) (G : State) (q n at b : ℕ) : Type 0 w
   pub reads : read_session s at ≡ session
 
 -- What is known of a session: its slot and what it runs; or that a move in it is not allowed.
-abbrev pub Runs : List ℕ → List ℕ → State → ℕ → ℕ → Running → Type 0
-Runs file s G q n Running.Nothing = (f : Behaviour → Session → Result) → in_session (network_of file) G q n f ≡ not_allowed
-Runs file s G q n (Running.Session at b) = InSession file s G q n at b
+abbrev pub Runs : List ℕ → List ℕ → State → ℕ → ℕ → Option (ℕ × ℕ) → Type 0
+Runs file s G q n None = (f : Behaviour → Session → Result) → in_session (network_of file) G q n f ≡ not_allowed
+Runs file s G q n (Some (at, b)) = InSession file s G q n at b
 
-pub record RunsAt (file s : List ℕ) (q n : ℕ) (x : Running) : Type 0 where
+pub record RunsAt (file s : List ℕ) (q n : ℕ) (x : Option (ℕ × ℕ)) : Type 0 where
   pub tells : WellFormed file → (G : State) → StateOf file s G → Runs file s G q n x
-  pub inside : (at b : ℕ) → x ≡ Running.Session at b → at + slot_size ≤ state_size
+  pub inside : (at b : ℕ) → x ≡ Some (at, b) → at + slot_size ≤ state_size

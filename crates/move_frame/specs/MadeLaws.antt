@@ -20,7 +20,7 @@ use Rattle.state_slots.specs.SlotLaws.{stands_set}
 use Rattle.move_targets.specs.declared.Target.{Target}
 use Rattle.move_targets.specs.Answers.{target_as, Targets}
 use Rattle.move_frame.specs.Made.{StateOf, Made, InSession, MadeOut, Runs, RunsAt}
-use Rattle.move_frame.specs.declared.Running.{Running}
+use Rattle.std.specs.Prelude.{Option, Some}
 
 -- A refused move leaves the bytes as they were.
 pub made-refused : (file : List ℕ) (f : Network → State → Result) {s : List ℕ} {o : Outcome} {why : Refusal} → o ≡ refused_by why
@@ -60,11 +60,11 @@ in-session {file} {s} {G} {q} {n} {at} {b} h f =
     ∙ ap (λ (x : Slot). on_live x (λ S. f (behaviour_of file b) S)) h.is_live
 
 -- A session that runs, and its slot.
-pub running : {file s : List ℕ} {q n slot b : ℕ} {x : Running} → RunsAt file s q n x → x ≡ Running.Session slot b → WellFormed file → (G : State)
+pub running : {file s : List ℕ} {q n slot b : ℕ} {x : Option (ℕ × ℕ)} → RunsAt file s q n x → x ≡ Some (slot, b) → WellFormed file → (G : State)
     → StateOf file s G → InSession file s G q n slot b
 running {file} {s} {q} {n} h e w G st = subst (Runs file s G q n) e (h.tells w G st)
 
-pub slot-inside : {file s : List ℕ} {q n slot b : ℕ} {x : Running} → RunsAt file s q n x → x ≡ Running.Session slot b → slot + slot_size ≤ 65536
+pub slot-inside : {file s : List ℕ} {q n slot b : ℕ} {x : Option (ℕ × ℕ)} → RunsAt file s q n x → x ≡ Some (slot, b) → slot + slot_size ≤ 65536
 slot-inside {slot = slot} {b = b} h e = h.inside slot b e
 
 -- The target in the state that the bytes stand for.

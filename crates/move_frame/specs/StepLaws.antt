@@ -5,8 +5,6 @@ use Rattle.std.proofs.Math.Path.{ap}
 use Rattle.std.proofs.lemmas.Bool.{lt-leb}
 use Rattle.refusal.specs.declared.Refusal.{Refusal}
 use Rattle.refusal.specs.declared.Refusal.TheVariants.{BufferSize, NoState}
-use Rattle.refusal.specs.declared.Verdict.{Verdict}
-use Rattle.refusal.specs.declared.Verdict.TheVariants.{Refused}
 use Rattle.refusal.specs.declared.Outcome.{Outcome}
 use Rattle.refusal.specs.Refusal.{refused_by}
 use Rattle.basics.specs.Choice.{pick}
@@ -24,6 +22,7 @@ use Rattle.move_rules.specs.Moves.{Move, move}
 use Rattle.move_rules.specs.Step.{Step, refuse, finish, on_form, on_state, buffers_fit, step}
 use Rattle.move_frame.specs.Made.{StateOf, Made, MadeOut}
 use Rattle.move_frame.specs.Stepped.{Stepped}
+use Rattle.std.specs.Prelude.{Result, Err}
 
 module _ (file s out : List ℕ) (m : Move) (outside : List ℕ) where
   stepped : {o : Outcome} {s' out' : List ℕ} → step file s out m outside ≡ record { outcome = o; state = s'; out = out' }
@@ -56,14 +55,14 @@ module _ (file s out : List ℕ) (m : Move) (outside : List ℕ) where
       fitting = unfit true (ap (λ (x : Bool). x && leb out_room (length out)) (eq-eqb (length s) state_size l) ∙ le-leb out_room (length out) k)
 
       -- 2 to 5
-      pub step-form : {o : Outcome} {v : Verdict} {why : Refusal} → v ≡ form_of file → v ≡ Refused why → o ≡ record { bytes = 0; verdict = v }
+      pub step-form : {o : Outcome} {v : Result (Unit {0}) Refusal} {why : Refusal} → v ≡ form_of file → v ≡ Err why → o ≡ record { bytes = 0; verdict = v }
           → Stepped file s out m outside o s out
       unfolding inner
       step-form {o} {v} {why} f r e =
           stepped (fitting
-          ∙ (ap (λ (x : Verdict). on_form x s out (on_state (decode_state (network_of file) (behaviour_count file) s) s out
+          ∙ (ap (λ (x : Result (Unit {0}) Refusal). on_form x s out (on_state (decode_state (network_of file) (behaviour_count file) s) s out
           (λ G. finish s out (move (network_of file) G m outside)))) (sym f ∙ r)
-          ∙ refused_as (e ∙ ap (λ (x : Verdict). record { bytes = 0; verdict = x }) r)))
+          ∙ refused_as (e ∙ ap (λ (x : Result (Unit {0}) Refusal). record { bytes = 0; verdict = x }) r)))
 
       module _ (w : WellFormed file) where
         decoded : (x : Optional State) → decode_state (network_of file) (behaviour_count file) s ≡ x
@@ -71,7 +70,7 @@ module _ (file s out : List ℕ) (m : Move) (outside : List ℕ) where
         unfolding inner
         decoded x e =
             fitting
-            ∙ (ap (λ (v : Verdict). on_form v s out (on_state (decode_state (network_of file) (behaviour_count file) s) s out
+            ∙ (ap (λ (v : Result (Unit {0}) Refusal). on_form v s out (on_state (decode_state (network_of file) (behaviour_count file) s) s out
             (λ G. finish s out (move (network_of file) G m outside)))) w
             ∙ ap (λ (y : Optional State). on_state y s out (λ G. finish s out (move (network_of file) G m outside))) e)
 

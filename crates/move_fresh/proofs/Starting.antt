@@ -1,22 +1,18 @@
 -- Clearing a buffer and starting clients in it, at each of the ways out of the code.
 use mathlib.Core.Path.{◌≡◌, refl, sym, ap, ◌∙◌}
-use mathlib.Core.List.{List, [], ◌∷◌, ◌++◌}
+use mathlib.Core.List.{List}
 use mathlib.Core.Bool.{Bool, false}
 use Prim.Native.Nat.{ℕ, zero, suc, ◌+◌, ◌-◌, ◌≤◌, ◌<◌}
 use native.Mathlib.Numerals.{add-one}
 use native.Mathlib.Omega.{arith}
-use lib.ListN.{length, take, set, length-set}
-use lib.Seq.{take-suc-set, take_all}
+use lib.ListN.{length, replicate}
 use lib.Dec.{ltb}
 use borrow.Author.Tests.{eq-eqb, ne_eqb, le-ltb}
 use Rattle.refusal.specs.declared.Refusal.{Refusal}
 use Rattle.refusal.specs.declared.Refusal.TheVariants.{BufferSize}
-use Rattle.refusal.specs.declared.Verdict.{Verdict}
-use Rattle.refusal.specs.declared.Verdict.TheVariants.{Done, Refused}
 use Rattle.refusal.specs.declared.Outcome.{Outcome}
 use Rattle.refusal.specs.Refusal.{done_with, refused_by}
 use Rattle.basics.specs.Choice.{pick}
-use Rattle.basics.specs.TestLaws.{one_less}
 use Rattle.network_syntax.specs.Rows.{entry}
 use Rattle.network_syntax.specs.Syntax.{none, some, Service}
 use Rattle.network.specs.Form.{form_of, WellFormed}
@@ -35,36 +31,12 @@ use Rattle.state.specs.Places.{slot_start}
 use Rattle.state.specs.Session.{free}
 use Rattle.state.specs.Bytes.{zeros, state_bytes}
 use Rattle.state.specs.Shape.{service_of_row, client_of, fresh_state, fresh_up_to}
-use Rattle.state.proofs.FreshLaws.{free_bytes, fresh-none, fresh-all, fresh-idle, fresh-client, fresh-sized}
+use Rattle.state.proofs.FreshLaws.{replicate-zeros, free_bytes, fresh-none, fresh-all, fresh-idle, fresh-client, fresh-sized}
 use Rattle.move_rules.specs.Fresh.{Freshened, fresh_refused, after_check, fresh}
 use Rattle.move_fresh.specs.Starting.{StartsClient, StartsClientsFrom}
 use Rattle.state_slots.specs.Slots.{begun}
 use Rattle.state_slots.specs.SlotLaws.{begun-state}
-
--- ---- clearing
-
-one_more : (n : ℕ) → zeros n ++ (0 ∷ []) ≡ zeros (suc n)
-unfolding zeros
-one_more zero = refl
-one_more (suc n) = ap (λ (l : List ℕ). 0 ∷ l) (one_more n)
-
-pub clear_none : (s : List ℕ) → (0 ≤ length s) × (length s ≡ length s) × (take 0 s ≡ zeros 0)
-unfolding zeros
-clear_none s = (omega arith, refl, refl)
-
-pub clear_step : (s s₁ : List ℕ) (i n : ℕ) → (i ≤ n) × (length s ≡ n) × (take i s ≡ zeros i) → i < length s → s₁ ≡ set s i 0
-    → (i + 1 ≤ n) × (length s₁ ≡ n) × (take (i + 1) s₁ ≡ zeros (i + 1))
-clear_step s s₁ i n v l e = (
-  omega (arith, v.1, l),
-  ap length e ∙ (length-set s i 0 ∙ v.1),
-  ap (take (i + 1)) e ∙ (ap (λ (j : ℕ). take j (set s i 0)) (add-one i) ∙ (take-suc-set s i 0 l ∙ (ap (λ (z : List ℕ). z ++ (0 ∷ [])) v.2
-      ∙ (one_more i ∙ ap zeros (sym (add-one i)))))),
-)
-
-pub clear-all : (s : List ℕ) (i n : ℕ) → (i ≤ n) × (length s ≡ n) × (take i s ≡ zeros i) → length s ≤ i → s ≡ zeros n
-clear-all s i n v l =
-    let e : i ≡ n = omega (arith, v.0, v.1, l) in
-    sym (take_all i s l) ∙ (v.2 ∙ ap zeros e)
+use Rattle.std.specs.Prelude.{Result, Ok, Err}
 
 -- ---- one client
 
@@ -109,20 +81,17 @@ client-new file q r at {s} {s₁} k e m d t = record {
 
 -- ---- all clients
 
-pub clients-none : (file : List ℕ) (q n : ℕ) {s : List ℕ} → n ≡ 0 → StartsClientsFrom file q n s s
-clients-none file q n z = record { tells = λ w l h. let e : q ≡ q + n = omega (arith, z) in h ∙ ap (λ (j : ℕ). state_bytes (fresh_up_to (network_of file) j)) e }
+pub clients-none : (file s : List ℕ) → StartsClientsFrom file 0 0 s s
+clients-none file s = record { tells = λ w l h. h }
 
-pub clients-next : (file : List ℕ) (q n : ℕ) {s s₁ s₂ : List ℕ} → (n ≡ 0 → ⊥) → StartsClient file q s s₁ → StartsClientsFrom file (q + 1) (n - 1) s₁ s₂
-    → StartsClientsFrom file q n s s₂
-clients-next file q n z a b = record {
+pub clients-next : (file : List ℕ) (q : ℕ) {s s₁ s₂ : List ℕ} → StartsClientsFrom file 0 q s s₁ → StartsClient file q s₁ s₂ → StartsClientsFrom file 0 (q + 1) s s₂
+clients-next file q a b = record {
   tells = λ w l h.
-      let m = one_less n z in
-      let e : q + 1 + (n - 1) ≡ q + n = omega (arith, m) in
-      b.tells w (omega (arith, m, l)) (a.tells w (omega (arith, m, l)) h ∙ ap (λ (j : ℕ). state_bytes (fresh_up_to (network_of file) j)) (sym (add-one q)))
-      ∙ ap (λ (j : ℕ). state_bytes (fresh_up_to (network_of file) j)) e;
+      let x : 0 + q ≡ q = omega arith in
+      let y : suc q ≡ 0 + (q + 1) = omega arith in
+      b.tells w (omega (arith, l)) (a.tells w (omega (arith, l)) h ∙ ap (λ (j : ℕ). state_bytes (fresh_up_to (network_of file) j)) x)
+      ∙ ap (λ (j : ℕ). state_bytes (fresh_up_to (network_of file) j)) y;
 }
-
-pub ruleset clients-laws = (clients-none, clients-next)
 
 -- ---- fresh
 
@@ -139,18 +108,18 @@ module _ (file state : List ℕ) where
       (e ∙ sym (ap (λ (z : Freshened). z.outcome) f), sym (ap (λ (z : Freshened). z.state) f))
 
   module _ {x : Answer} (l : length state ≡ 65536) (k : (x ≡ check_answer (check_file file)) × IfPassed ShapedAll (check_file file)) where
-    pub fresh-refused : {why : Refusal} {o : Outcome} → x.verdict ≡ Refused why → o ≡ record { bytes = 0; verdict = x.verdict }
+    pub fresh-refused : {why : Refusal} {o : Outcome} → x.verdict ≡ Err why → o ≡ refused_by why
         → (o ≡ (fresh file state).outcome) × (state ≡ (fresh file state).state)
     unfolding check_answer
     fresh-refused {why} {o} v e =
         let f = fitting l ∙ ap (after_check file state) (by (check_file file) k.0) in
-        (e ∙ (ap (λ (z : Verdict). record { bytes = 0; verdict = z }) v ∙ sym (ap (λ (z : Freshened). z.outcome) f)), sym (ap (λ (z : Freshened). z.state) f))
+        (e ∙ sym (ap (λ (z : Freshened). z.outcome) f), sym (ap (λ (z : Freshened). z.state) f))
       where
         by : (c : Checked (List Environments)) → x ≡ check_answer c → c ≡ refused why
         by (refused w) e = let z = ap (λ (t : Answer). t.verdict) e in cc
         by (passed Es) e = let z = ap (λ (t : Answer). t.verdict) e in absurd (let y : ◌≡◌ {A = ℕ} 0 1 = cc in omega arith)
 
-    accepted : x.verdict ≡ Done → (Es : List Environments) × (check_file file ≡ passed Es)
+    accepted : x.verdict ≡ (Ok tt) → (Es : List Environments) × (check_file file ≡ passed Es)
     unfolding check_answer
     accepted v = by (check_file file) k.0
       where
@@ -158,24 +127,25 @@ module _ (file state : List ℕ) where
         by (refused w) e = let z = ap (λ (t : Answer). t.verdict) e in absurd (let y : ◌≡◌ {A = ℕ} 0 1 = cc in omega arith)
         by (passed Es) e = (Es, refl)
 
-    well_formed : x.verdict ≡ Done → WellFormed file
+    well_formed : x.verdict ≡ (Ok tt) → WellFormed file
     unfolding check_file
     well_formed v = by (form_of file) refl (accepted v).1
       where
-        by : (f : Verdict) → form_of file ≡ f → after_form f (check_network (network_of file)) ≡ passed (accepted v).0 → form_of file ≡ Done
-        by Done e h = e
-        by (Refused why) e h = absurd (let y : ◌≡◌ {A = ℕ} 0 1 = cc in omega arith)
+        by : (f : Result (Unit {0}) Refusal) → form_of file ≡ f → after_form f (check_network (network_of file)) ≡ passed (accepted v).0 → form_of file ≡ (Ok tt)
+        by (Ok tt) e h = e
+        by (Err why) e h = absurd (let y : ◌≡◌ {A = ℕ} 0 1 = cc in omega arith)
 
     -- 3 has refused more than four services.
-    pub fresh-many : {n : ℕ} {A : Type 0} → x.verdict ≡ Done → n ≡ service_count file → 4 < n → A
+    pub fresh-many : {n : ℕ} {A : Type 0} → x.verdict ≡ (Ok tt) → n ≡ service_count file → 4 < n → A
     fresh-many v c m = absurd (omega (arith, c, m, (counts-kept file (well_formed v)).services))
 
-    pub fresh-done : {n : ℕ} {s₁ s₂ : List ℕ} {o : Outcome} → x.verdict ≡ Done → n ≡ service_count file → s₁ ≡ zeros (length state)
-        → StartsClientsFrom file 0 n s₁ s₂ → o ≡ done_with 0 → (o ≡ (fresh file state).outcome) × (s₂ ≡ (fresh file state).state)
-    fresh-done {n} {s₁} {s₂} {o} v c z t e =
+    pub fresh-done : {n q : ℕ} {z s : List ℕ} {o : Outcome} → x.verdict ≡ (Ok tt) → n ≡ service_count file → z ≡ replicate (length state) 0 → n ≤ q → q ≤ n
+        → StartsClientsFrom file 0 q z s → o ≡ done_with 0 → (o ≡ (fresh file state).outcome) × (s ≡ (fresh file state).state)
+    fresh-done {n} {q} {z} {s} {o} v c k i j t e =
         let N = network_of file in
+        let m : q ≡ service_count file = omega (arith, c, i, j) in
         let f = fitting l ∙ ap (after_check file state) (accepted v).1 in
-        let a : s₁ ≡ state_bytes (fresh_up_to N 0) = z ∙ (ap zeros l ∙ (sym free_bytes ∙ ap state_bytes (sym (fresh-none N)))) in
-        let b = t.tells (well_formed v) (omega (arith, c)) a in
-        let g : fresh_up_to N (0 + n) ≡ fresh_state N = fresh-all N (0 + n) (omega (arith, c, service-length file)) in
+        let a : z ≡ state_bytes (fresh_up_to N 0) = k ∙ (replicate-zeros (length state) ∙ ap zeros l) ∙ (sym free_bytes ∙ ap state_bytes (sym (fresh-none N))) in
+        let b = t.tells (well_formed v) (omega (arith, m)) a in
+        let g : fresh_up_to N (0 + q) ≡ fresh_state N = fresh-all N (0 + q) (omega (arith, m, service-length file)) in
         (e ∙ sym (ap (λ (y : Freshened). y.outcome) f), b ∙ (ap state_bytes g ∙ sym (ap (λ (y : Freshened). y.state) f)))

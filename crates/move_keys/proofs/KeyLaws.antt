@@ -11,14 +11,13 @@ use lib.Dec.{eqb}
 use lib.ListN.{length}
 use borrow.Author.Tests.{eq-eqb, ne_eqb}
 use Rattle.basics.specs.Choice.{pick}
-use Rattle.wire.specs.Wire.{byte_at, u32_at, part, unsigned_of}
+use Rattle.wire.specs.Wire.{u32_at, part, unsigned_of}
 use Rattle.scalar.specs.Basic.{int}
 use Rattle.scalar.specs.Value.{Value, value}
 use Rattle.scalar.specs.ValueLaws.{integer-bytes, number-32}
 use Rattle.tree_forest.specs.Forest.{Tree, tree, present, find}
 use Rattle.tree_forest.specs.Limits.{message_levels_below, message_nodes_below}
 use Rattle.tree.specs.declared.Head.{Head}
-use Rattle.tree.specs.declared.Found.{Found}
 use Rattle.tree.specs.Encode.{Message}
 use Rattle.tree.specs.Decode.{head_at, len_at}
 use Rattle.tree.specs.EncodeLaws.{got, sized}
@@ -33,33 +32,32 @@ use Rattle.network.specs.Rows.{service_key}
 use Rattle.network.specs.Decode.{behaviour_of, network_of}
 use Rattle.network.proofs.RowLaws.{counts-kept}
 use Rattle.network.proofs.NetworkLaws.{service-key}
-use Rattle.state.specs.Places.{slot_start}
-use Rattle.state.specs.Bytes.{read_key, read_session, read_slot, read_state}
+use Rattle.state.specs.Bytes.{read_state}
 use Rattle.move_rules.specs.Targets as definition
-use Rattle.move_rules.specs.Keys.{int_of, key_of, key_or_zero, key_to_keep, finds_by_key, finds_by, finds_session}
+use Rattle.move_rules.specs.Keys.{int_of, key_of, key_or_zero, key_to_keep, live_with, finds_by_key, finds_by, finds_session}
 use Rattle.move_targets.specs.declared.Target.{Target}
 use Rattle.move_targets.specs.Answers.{start_with, target_as}
-use Rattle.move_targets.specs.SessionLaws.{slot_read, target-far}
-use Rattle.move_keys.specs.declared.Key.{Key}
-use Rattle.move_keys.specs.declared.Finding.{Finding}
+use Rattle.move_targets.specs.SessionLaws.{target-far}
 use Rattle.move_keys.specs.Finding.{key_found, IntAt, MessageKey, HoldsKey, IsHeld, IsTarget, GoesTo, Finds}
+use Rattle.std.specs.Prelude.{Option, Some, None}
+use Rattle.tree.specs.Decode.{header}
 
 -- ---- the key of a message
 
-pub int-fault : (l : List ℕ) (at : ℕ) {h : Head} → h ≡ head_at l at → h ≡ Head.Fault → IntAt l at Key.Nothing
+pub int-fault : (l : List ℕ) (at : ℕ) {h : Option Head} → h ≡ head_at l at → h ≡ None → IntAt l at None
 int-fault l at p q = record { tells = λ i t w. root-unseen l at i t w _ p q }
 
-module _ (l : List ℕ) (at : ℕ) {h : Head} {i b c m : ℕ} (p : h ≡ head_at l at) (q : h ≡ Head.Node i b c m) where
+module _ (l : List ℕ) (at : ℕ) {h : Option Head} {i b c m : ℕ} (p : h ≡ head_at l at) (q : h ≡ Some (header i b c m)) where
   pub int-start : at + 5 ≤ length l
   int-start = (sized l at (got p q).ok).header
 
-  pub int-other : (b ≡ int → ⊥) → IntAt l at Key.Nothing
+  pub int-other : (b ≡ int → ⊥) → IntAt l at None
   int-other e = record { tells = go }
     where
       go : (j : ℕ) (t : Tree Value) → Root l at j t → none ≡ int_of (present t)
       go j (tree (value d v) ks) w = rw (ne_eqb d int (λ f. e ((root-seen l at j d v ks w h i b c m p q).basic ∙ f)))
 
-  pub int-there : {x : ℕ} → b ≡ int → x ≡ u32_at l (at + 5) → IntAt l at (Key.Int x)
+  pub int-there : {x : ℕ} → b ≡ int → x ≡ u32_at l (at + 5) → IntAt l at (Some x)
   int-there {x} e f = record { tells = go }
     where
       go : (j : ℕ) (t : Tree Value) → Root l at j t → some x ≡ int_of (present t)
@@ -72,55 +70,23 @@ module _ (l : List ℕ) (at : ℕ) {h : Head} {i b c m : ℕ} (p : h ≡ head_at
           ap unsigned_of (sym u.value) ∙ (ap (λ (r : ℕ). unsigned_of (part l (at + 5) r)) n ∙ (number-32 l (at + 5) (omega (arith, u.size, k)) ∙ sym f)) in
           rw (eq-eqb d int z, y)
 
-pub ruleset int_laws = (int-fault, int-other, int-there)
-
-module _ (l : List ℕ) (k : ℕ) {f : Found} (h : Below l 0 k f) where
-  child : {g : Found} → f ≡ g → (v : Value) → (ks : _) → Message l (tree v ks) → Spot l k g (find k ks)
+module _ (l : List ℕ) (k : ℕ) {f : Option ℕ} (h : Below l 0 k f) where
+  child : {g : Option ℕ} → f ≡ g → (v : Value) → (ks : _) → Message l (tree v ks) → Spot l k g (find k ks)
   child e v ks w =
-      subst (λ (g : Found). Spot l k g (find k ks)) e
+      subst (λ (g : Option ℕ). Spot l k g (find k ks)) e
       (h.tells 0 (tree v ks) (encodes-root message_levels_below message_nodes_below l (tree v ks) (omega arith) (omega arith) w))
 
-  pub key-none : f ≡ Found.Nothing → MessageKey l k Key.Nothing
+  pub key-none : f ≡ None → MessageKey l k None
   key-none e = record { tells = go }
     where
       go : (m : Tree Value) → Message l m → none ≡ key_of k m
       go (tree v ks) w = sym (ap int_of (child e v ks w))
 
-  pub key-there : {at : ℕ} {x : Key} → f ≡ Found.At at → IntAt l at x → MessageKey l k x
+  pub key-there : {at : ℕ} {x : Option ℕ} → f ≡ Some at → IntAt l at x → MessageKey l k x
   key-there {x = x} e i = record { tells = go }
     where
       go : (m : Tree Value) → Message l m → key_found x ≡ key_of k m
       go (tree v ks) w = let u = child e v ks w in i.tells k u.there u.root ∙ ap int_of (sym u.is)
-
-pub ruleset key_laws = (key-none, key-there)
-
--- ---- the sessions that hold keys
-
-module _ {s : List ℕ} {q n at b : ℕ} (x : ℕ) (e : at ≡ slot_start q n) (f : b ≡ byte_at s at) where
-  pub held-free : b ≡ 0 → HoldsKey s q n x false
-  unfolding read_slot
-  held-free z = record { tells = λ i j. rw (slot_read s q n i j, sym e, sym f ∙ z) }
-
-  pub held-live : {y : ℕ} → (b ≡ 0 → ⊥) → y ≡ read_key s at → HoldsKey s q n x (eqb y x)
-  unfolding read_slot read_session
-  held-live z g = record { tells = λ i j. rw (slot_read s q n i j, sym e, sym f, ne_eqb b 0 z, g) }
-
-pub ruleset held-laws = (held-free, held-live)
-
-module _ {s : List ℕ} {q x : ℕ} {a : Bool} (h : HoldsKey s q 1 x a) where
-  pub is-first : a ≡ true → IsHeld s q x true
-  is-first e = record { tells = λ i. rw (sym (h.tells i (omega arith)) ∙ e) }
-
-  module _ {b : Bool} (e : a ≡ false) (i : HoldsKey s q 2 x b) where
-    pub is-second : b ≡ true → IsHeld s q x true
-    is-second f = record { tells = λ l. rw (sym (h.tells l (omega arith)) ∙ e, sym (i.tells l (omega arith)) ∙ f) }
-
-    pub is-third : {c : Bool} → b ≡ false → HoldsKey s q 3 x c → IsHeld s q x c
-    is-third f j = record {
-      tells = λ l. rw (sym (h.tells l (omega arith)) ∙ e, sym (i.tells l (omega arith)) ∙ f) (j.tells l (omega arith));
-    }
-
-pub ruleset is-held-laws = (is-first, is-second, is-third)
 
 -- ---- by the target
 
@@ -133,11 +99,20 @@ module _ {s : List ℕ} {q n x : ℕ} {t : Target} where
   unfolding target_as
   goes-full e = record { tells = λ file i j h. sym (ap (λ (u : Target). finds_by_key (read_state s q) n (target_as file u) x) e) }
 
-  pub goes-queued : {a b : Bool} → t ≡ Target.Queued → HoldsKey s q n x a → b ≡ (not (eqb n 0) && a) → GoesTo s q n t x b
+  pub goes-client : t ≡ Target.Queued → n ≡ 0 → GoesTo s q n t x false
   unfolding target_as
-  goes-queued {a} e g f = record {
+  goes-client e z = record {
     tells = λ file i j h.
-        f ∙ (ap (λ (y : Bool). not (eqb n 0) && y) (g.tells i j) ∙ sym (ap (λ (u : Target). finds_by_key (read_state s q) n (target_as file u) x) e));
+        sym (ap (λ (u : Target). finds_by_key (read_state s q) n (target_as file u) x) e
+        ∙ ap (λ (y : Bool). not y && live_with x (read_state s q n)) (eq-eqb n 0 z));
+  }
+
+  pub goes-queued : {a : Bool} → t ≡ Target.Queued → (n ≡ 0 → ⊥) → HoldsKey s q n x a → GoesTo s q n t x a
+  unfolding target_as
+  goes-queued {a} e z g = record {
+    tells = λ file i j h.
+        g.tells i j ∙ sym (ap (λ (u : Target). finds_by_key (read_state s q) n (target_as file u) x) e
+        ∙ ap (λ (y : Bool). not y && live_with x (read_state s q n)) (ne_eqb n 0 z));
   }
 
   pub goes-starts : {c k r : ℕ} {a : Bool} → t ≡ Target.Starts c k r → IsHeld s q x a → GoesTo s q n t x (not a)
@@ -150,8 +125,6 @@ module _ {s : List ℕ} {q n x : ℕ} {t : Target} where
       by : (z : Optional Input) → q < 4 → IsTarget (start_with c k z) → not a ≡ finds_by_key (read_state s q) n (start_with c k z) x
       by none i h = absurd (h refl)
       by (some z) i h = ap not (g.tells i)
-
-pub ruleset goes-laws = (goes_none, goes-full, goes-queued, goes-starts)
 
 -- ---- the whole
 
@@ -172,7 +145,7 @@ module _ (file s l : List ℕ) (q n k : ℕ) (t : Target) (e : k ≡ service_key
       ap (λ (j : ℕ). pick (is_keyed (network_of file) j) (key_or_zero (key_of (key_id (network_of file) j) m)) 0) u
       ∙ ap (λ (j : ℕ). pick (not (eqb j 0)) (key_or_zero (key_of j m)) 0) (service-key file q i ∙ sym e)
 
-  pub find-unkeyed : k ≡ 0 → Finds file s q n t l (Finding.Goes 0)
+  pub find-unkeyed : k ≡ 0 → Finds file s q n t l (Some 0)
   find-unkeyed z = record {
     tells = λ w i o u te h m g. (asked i o u te m ∙ unkeyed z _ true, sym (kept i o u m ∙ unkeyed z _ 0));
   }
@@ -180,17 +153,17 @@ module _ (file s l : List ℕ) (q n k : ℕ) (t : Target) (e : k ≡ service_key
       unkeyed : {A : Type 0} → k ≡ 0 → (a b : A) → pick (not (eqb k 0)) a b ≡ b
       unkeyed z a b = rw (eq-eqb k 0 z)
 
-  module _ {x : Key} (z : k ≡ 0 → ⊥) (h : MessageKey l k x) where
+  module _ {x : Option ℕ} (z : k ≡ 0 → ⊥) (h : MessageKey l k x) where
     keyed : {A : Type 0} (a b : A) → pick (not (eqb k 0)) a b ≡ a
     keyed a b = rw (ne_eqb k 0 z)
 
-    pub find_none : x ≡ Key.Nothing → Finds file s q n t l Finding.Another
+    pub find_none : x ≡ None → Finds file s q n t l None
     find_none f = record {
       tells = λ w i o u te c m g.
           asked i o u te m ∙ (keyed _ true ∙ ap (finds_by (read_state s q) n (target_as file t)) (sym (h.tells m g) ∙ ap key_found f));
     }
 
-    module _ {y : ℕ} {b : Bool} (f : x ≡ Key.Int y) (d : GoesTo s q n t y b) where
+    module _ {y : ℕ} {b : Bool} (f : x ≡ Some y) (d : GoesTo s q n t y b) where
       found-is : WellFormed file → q < service_count file → (o : Operation) → o.service ≡ q
           → target_as file t ≡ definition.target (network_of file) (read_state s) o n → IsTarget (target_as file t) → (m : Tree Value) → Message l m
           → finds_session (network_of file) (read_state s) o n m ≡ b
@@ -204,7 +177,7 @@ module _ (file s l : List ℕ) (q n k : ℕ) (t : Target) (e : k ≡ service_key
           near (yes j) = j
           near (no j) = absurd (c (te ∙ target-far file (read_state s) o n w (inr (omega arith))))
 
-      pub find-goes : b ≡ true → Finds file s q n t l (Finding.Goes y)
+      pub find-goes : b ≡ true → Finds file s q n t l (Some y)
       find-goes v = record {
         tells = λ w i o u te c m g. (
           found-is w i o u te c m g ∙ v,
@@ -212,7 +185,5 @@ module _ (file s l : List ℕ) (q n k : ℕ) (t : Target) (e : k ≡ service_key
         );
       }
 
-      pub find-another : b ≡ false → Finds file s q n t l Finding.Another
+      pub find-another : b ≡ false → Finds file s q n t l None
       find-another v = record { tells = λ w i o u te c m g. found-is w i o u te c m g ∙ v }
-
-pub ruleset find-laws = (find-unkeyed, find_none, find-goes, find-another)

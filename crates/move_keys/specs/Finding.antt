@@ -15,20 +15,19 @@ use Rattle.move_rules.specs.Targets as definition
 use Rattle.move_rules.specs.Keys.{int_of, key_of, key_to_keep, live_with, finds_by_key, finds_session}
 use Rattle.move_targets.specs.declared.Target.{Target}
 use Rattle.move_targets.specs.Answers.{target_as}
-use Rattle.move_keys.specs.declared.Key.{Key}
-use Rattle.move_keys.specs.declared.Finding.{Finding}
+use Rattle.std.specs.Prelude.{Option, Some, None}
 
 -- The key, if there is one.
-abbrev pub key_found : Key → Optional ℕ
-key_found (Key.Int x) = some x
-key_found Key.Nothing = none
+abbrev pub key_found : Option ℕ → Optional ℕ
+key_found (Some x) = some x
+key_found None = none
 
 -- The int of the tree that stands at `at`.
-pub record IntAt (l : List ℕ) (at : ℕ) (x : Key) : Type 0 where
+pub record IntAt (l : List ℕ) (at : ℕ) (x : Option ℕ) : Type 0 where
   pub tells : (i : ℕ) (t : Tree Value) → Root l at i t → key_found x ≡ int_of (present t)
 
 -- The key of the message in l, by the key id k.
-pub record MessageKey (l : List ℕ) (k : ℕ) (x : Key) : Type 0 where
+pub record MessageKey (l : List ℕ) (k : ℕ) (x : Option ℕ) : Type 0 where
   pub tells : (m : Tree Value) → Message l m → key_found x ≡ key_of k m
 
 -- Session n of service q is live and holds the key x; one of 1 to 3 is.
@@ -47,12 +46,12 @@ pub record GoesTo (s : List ℕ) (q n : ℕ) (t : Target) (x : ℕ) (b : Bool) :
   pub tells : (file : List ℕ) → q < 4 → n < 4 → IsTarget (target_as file t) → b ≡ finds_by_key (read_state s q) n (target_as file t) x
 
 -- The message m of an operation o goes to session n of its service, with the key that a session keeps that it starts; or it does not.
-abbrev pub FoundAs : Network → State → Operation → ℕ → Tree Value → Finding → Type 0
-FoundAs N G o n m (Finding.Goes y) = (finds_session N G o n m ≡ true) × (y ≡ key_to_keep N o m)
-FoundAs N G o n m Finding.Another = finds_session N G o n m ≡ false
+abbrev pub FoundAs : Network → State → Operation → ℕ → Tree Value → Option ℕ → Type 0
+FoundAs N G o n m (Some y) = (finds_session N G o n m ≡ true) × (y ≡ key_to_keep N o m)
+FoundAs N G o n m None = finds_session N G o n m ≡ false
 
 -- The message in l of any operation of service q, by its target t in the state that is read from s.
-pub record Finds (file s : List ℕ) (q n : ℕ) (t : Target) (l : List ℕ) (x : Finding) : Type 0 where
+pub record Finds (file s : List ℕ) (q n : ℕ) (t : Target) (l : List ℕ) (x : Option ℕ) : Type 0 where
   pub tells : WellFormed file → q < service_count file → (o : Operation) → o.service ≡ q
       → target_as file t ≡ definition.target (network_of file) (read_state s) o n → IsTarget (target_as file t)
       → (m : Tree Value) → Message l m → FoundAs (network_of file) (read_state s) o n m x

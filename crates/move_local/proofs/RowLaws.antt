@@ -51,10 +51,10 @@ use Rattle.move_rules.specs.Step.{Step, finish}
 use Rattle.state_slots.specs.Slots.{tree_in, tree_stored}
 use Rattle.state_slots.specs.SlotLaws.{row-set, tree_set, living-set, set-again, stands_set, living-holds, living-tree}
 use Rattle.state_slots.specs.Living.{Living}
-use Rattle.move_evaluation.specs.declared.Decision.{Decision}
+use Rattle.move_evaluation.specs.declared.Place.{Place}
+use Rattle.move_evaluation.specs.declared.Fault.{Fault}
 use Rattle.move_evaluation.specs.declared.Evaluated.{Evaluated}
-use Rattle.move_evaluation.specs.declared.Source.{Source}
-use Rattle.move_evaluation.specs.Condition.{if_given, condition_of, on_condition}
+use Rattle.move_evaluation.specs.Condition.{refusal_of, if_given, condition_of, on_condition}
 use Rattle.move_evaluation.specs.ConditionLaws.{on_value, on-condition}
 use Rattle.move_evaluation.specs.Evaluated.{Evaluates}
 use Rattle.state_reopening.specs.Reopening.{rows_below, with_undone}
@@ -62,25 +62,30 @@ use Rattle.state_reopening.specs.ReopeningLaws.{undone-rows}
 use Rattle.move_readiness.specs.declared.Reached as coded
 use Rattle.move_readiness.specs.Reaching.{reached_as, ReachTells}
 use Rattle.move_readiness.specs.ReachedLaws.{reached-row}
-use Rattle.state_trees.specs.declared.Change.{Change}
 use Rattle.state_trees.specs.Changing.{KeptTree, ChangedTo}
-use Rattle.move_frame.specs.declared.Running.{Running}
 use Rattle.move_frame.specs.Made.{StateOf, Made, InSession, Runs, RunsAt}
 use Rattle.move_frame.specs.MadeLaws.{in-session, refused-step}
 use Rattle.move_local.specs.Local.{ready_while, Decides, SetsRoot, AssignsValue, RefusesValue, MadeBy, RowMade}
 use Rattle.move_frame.specs.UndoneLaws.{if-undone}
 use Rattle.move_local.proofs.MarkLaws.{if-ready-while}
 use Rattle.state_progress.specs.Stored.{row_stored}
+use Rattle.std.specs.Prelude.{Option, Some, None, Ok, Err}
+use Rattle.std.specs.Prelude as std
 
 -- ---- a condition
 
-pub condition-decides : (file s : List ℕ) (slot e : ℕ) {t : List ℕ} {x : Evaluated} {d : Decision} → t ≡ tree_in s slot → Evaluates file t e x
+pub condition-decides : (file s : List ℕ) (slot e : ℕ) {t : List ℕ} {x : Evaluated} {d : std.Result Bool Fault} → t ≡ tree_in s slot → Evaluates file t e x
     → d ≡ condition_of x → Decides file s slot e d
 condition-decides file s slot e {t} {x} {d} q v c = record {
   tells = λ w S h l f.
       on-condition f t x (evaluate S.tree (expression_of file e)) (v.tells S.tree (record { bytes = q ∙ living-tree h; good = h.made.bounded }) w l)
-      ∙ ap (λ (z : Decision). on_condition z f) (sym c);
+      ∙ ap (λ (z : std.Result Bool Fault). on_condition z f) (sym c);
 }
+
+on-fault : (k : Fault) (f : Bool → Result) → on_condition (Err k) f ≡ refused (refusal_of k)
+on-fault Fault.Missing f = refl
+on-fault Fault.Wrong f = refl
+on-fault Fault.Outside f = refl
 
 -- ---- one store after another
 
@@ -154,20 +159,20 @@ root_set file p v S = set_payload_at void_value (path_of file p) (value_of v) S.
 
 -- ---- a value outside its width: whether the tree would keep to its limits does not depend on the value
 
-module _ (file s : List ℕ) (slot p : ℕ) (v : Operand) {c : Change} {o' : List ℕ} (a : SetsRoot file s slot p v o' c) where
-  would-be : {y : Change} → c ≡ y → WellFormed file → {G : State} {q n b : ℕ} (h : InSession file s G q n slot b) → p < path_count file
+module _ (file s : List ℕ) (slot p : ℕ) (v : Operand) {c : Option ℕ} {o' : List ℕ} (a : SetsRoot file s slot p v o' c) where
+  would-be : {y : Option ℕ} → c ≡ y → WellFormed file → {G : State} {q n b : ℕ} (h : InSession file s G q n slot b) → p < path_count file
       → ChangedTo o' y (root_set file p v h.session)
-  would-be g w h l = subst (λ (z : Change). ChangedTo o' z (root_set file p v h.session)) g (a.tells w h.session h.living l)
+  would-be g w h l = subst (λ (z : Option ℕ). ChangedTo o' z (root_set file p v h.session)) g (a.tells w h.session h.living l)
 
   unassigned-is : {G : State} {q n b : ℕ} (h : InSession file s G q n slot b) {t : Bool} → within (root_set file p v h.session) ≡ t
       → unassigned G q n h.session (path_of file p) ≡ require t Stuck out_of_range
   unassigned-is h e =
       ap (λ (z : Bool). require z Stuck out_of_range) (within-payload void_value (path_of file p) void_value (value_of v) h.session.tree ∙ e)
 
-  pub outside_kept : {o : Outcome} {m : ℕ} → c ≡ Change.Kept m → o ≡ refused_by OutOfRange → RefusesValue file s slot p o
+  pub outside_kept : {o : Outcome} {m : ℕ} → c ≡ Some m → o ≡ refused_by OutOfRange → RefusesValue file s slot p o
   outside_kept g k = record { tells = λ w G q n b h l out. refused-step k (unassigned-is h (would-be g w h l).fits) }
 
-  pub outside-large : {o : Outcome} → c ≡ Change.TooLarge → o ≡ refused_by Stuck → RefusesValue file s slot p o
+  pub outside-large : {o : Outcome} → c ≡ None → o ≡ refused_by Stuck → RefusesValue file s slot p o
   outside-large g k = record { tells = λ w G q n b h l out. refused-step k (unassigned-is h (would-be g w h l)) }
 
 pub ruleset outside-laws = (outside_kept, outside-large)
@@ -203,8 +208,8 @@ module _ (file s : List ℕ) (slot r : ℕ) where
 
   -- ---- a value that is assigned
 
-  module _ (p : ℕ) (v : Operand) {c : Change} {o' : List ℕ} (a : SetsRoot file s slot p v o' c) where
-    pub value-large : {o : Outcome} → c ≡ Change.TooLarge → o ≡ refused_by Stuck → AssignsValue file s s slot r p v o
+  module _ (p : ℕ) (v : Operand) {c : Option ℕ} {o' : List ℕ} (a : SetsRoot file s slot p v o' c) where
+    pub value-large : {o : Outcome} → c ≡ None → o ≡ refused_by Stuck → AssignsValue file s s slot r p v o
     value-large g k = record {
       tells = λ w G st q n b h l out.
           let S = h.session in
@@ -212,10 +217,10 @@ module _ (file s : List ℕ) (slot r : ℕ) where
     }
 
     -- A tree that keeps to its limits has 1,013 bytes at most.
-    pub value-long : {o : Outcome} {s' : List ℕ} {m : ℕ} → c ≡ Change.Kept m → 1024 < m → AssignsValue file s s' slot r p v o
+    pub value-long : {o : Outcome} {s' : List ℕ} {m : ℕ} → c ≡ Some m → 1024 < m → AssignsValue file s s' slot r p v o
     value-long g l = record { tells = λ w G st q n b h j out. absurd (omega (arith, l, (would-be file s slot p v a g w h j).small)) }
 
-    pub value-kept : {o : Outcome} {s' : List ℕ} {m : ℕ} → c ≡ Change.Kept m → r < 256
+    pub value-kept : {o : Outcome} {s' : List ℕ} {m : ℕ} → c ≡ Some m → r < 256
         → (s' ≡ row_stored (tree_stored s slot o' m) slot r done) × (o ≡ done_with 0)
         → AssignsValue file s s' slot r p v o
     value-kept {o} {s'} {m} g l k = record {
@@ -246,7 +251,7 @@ module _ (file s : List ℕ) (slot r : ℕ) where
           let next = on_truth (evaluate S.tree (expression_of file e)) (decided G q n S r) in
           if-undone (S.progress r) next ∙ ap (λ (z : Bool). require z MoveNotAllowed next) (undone-is h (failed u f)))
 
-      module _ {d : Decision} (f : not x ≡ false) (v : Decides file s slot e d) where
+      module _ {d : std.Result Bool Fault} (f : not x ≡ false) (v : Decides file s slot e d) where
         if-decides : WellFormed file → (G : State) (q n c left : ℕ) (h : InSession file s G q n slot c) → KeptBy file left (BehaviourRow.If e a b)
             → local_at G q n h.session (behaviour_by file r (BehaviourRow.If e a b)) ≡ on_condition d (decided G q n h.session r)
         unfolding local_at
@@ -256,19 +261,11 @@ module _ (file s : List ℕ) (slot r : ℕ) where
             if-undone (S.progress r) next ∙ (ap (λ (z : Bool). require z MoveNotAllowed next) (undone-is h (held u f))
             ∙ v.tells w S h.living p.0 (decided G q n S r))
 
-        pub if-missing : {o : Outcome} → d ≡ Decision.Missing → o ≡ refused_by Stuck → MadeBy (BehaviourRow.If e a b) file s s slot r o
-        if-missing g k = by-refused (BehaviourRow.If e a b) k (λ w G q n c left h p.
-            if-decides w G q n c left h p ∙ ap (λ (z : Decision). on_condition z (decided G q n h.session r)) g)
+        pub if-fault : {o : Outcome} {k : Fault} {v : Refusal} → d ≡ Err k → v ≡ refusal_of k → o ≡ refused_by v → MadeBy (BehaviourRow.If e a b) file s s slot r o
+        if-fault {k = k} g u i = by-refused (BehaviourRow.If e a b) (i ∙ ap refused_by u) (λ w G q n c left h p.
+            if-decides w G q n c left h p ∙ (ap (λ (z : std.Result Bool Fault). on_condition z (decided G q n h.session r)) g ∙ on-fault k (decided G q n h.session r)))
 
-        pub if-wrong : {o : Outcome} → d ≡ Decision.Wrong → o ≡ refused_by Stuck → MadeBy (BehaviourRow.If e a b) file s s slot r o
-        if-wrong g k = by-refused (BehaviourRow.If e a b) k (λ w G q n c left h p.
-            if-decides w G q n c left h p ∙ ap (λ (z : Decision). on_condition z (decided G q n h.session r)) g)
-
-        pub if-outside : {o : Outcome} → d ≡ Decision.Outside → o ≡ refused_by OutOfRange → MadeBy (BehaviourRow.If e a b) file s s slot r o
-        if-outside g k = by-refused (BehaviourRow.If e a b) k (λ w G q n c left h p.
-            if-decides w G q n c left h p ∙ ap (λ (z : Decision). on_condition z (decided G q n h.session r)) g)
-
-        pub if-true : {o : Outcome} {s' : List ℕ} → d ≡ Decision.True → r < 256
+        pub if-true : {o : Outcome} {s' : List ℕ} → d ≡ Ok true → r < 256
             → (s' ≡ row_stored s slot r (taken 0)) × (o ≡ done_with 0) → MadeBy (BehaviourRow.If e a b) file s s' slot r o
         unfolding advanced
         if-true g l k = by-moved (BehaviourRow.If e a b) k.1 (λ w G q n c left h p.
@@ -276,10 +273,10 @@ module _ (file s : List ℕ) (slot r : ℕ) where
               advanced S r (taken 0),
               k.0 ∙ row-set h.living r (taken 0) l,
               advanced-made S r (taken 0) l h.living.made,
-              if-decides w G q n c left h p ∙ ap (λ (z : Decision). on_condition z (decided G q n S r)) g,
+              if-decides w G q n c left h p ∙ ap (λ (z : std.Result Bool Fault). on_condition z (decided G q n S r)) g,
             ))
 
-        pub if-false : {o : Outcome} {s' : List ℕ} → d ≡ Decision.False → r < 256
+        pub if-false : {o : Outcome} {s' : List ℕ} → d ≡ Ok false → r < 256
             → (s' ≡ row_stored s slot r (taken 1)) × (o ≡ done_with 0) → MadeBy (BehaviourRow.If e a b) file s s' slot r o
         unfolding advanced
         if-false g l k = by-moved (BehaviourRow.If e a b) k.1 (λ w G q n c left h p.
@@ -287,7 +284,7 @@ module _ (file s : List ℕ) (slot r : ℕ) where
               advanced S r (taken 1),
               k.0 ∙ row-set h.living r (taken 1) l,
               advanced-made S r (taken 1) l h.living.made,
-              if-decides w G q n c left h p ∙ ap (λ (z : Decision). on_condition z (decided G q n S r)) g,
+              if-decides w G q n c left h p ∙ ap (λ (z : std.Result Bool Fault). on_condition z (decided G q n S r)) g,
             ))
 
     -- ---- assign
@@ -303,7 +300,7 @@ module _ (file s : List ℕ) (slot r : ℕ) where
 
       module _ {t : List ℕ} {y : Evaluated} (f : not x ≡ false) (g : t ≡ tree_in s slot) (v : Evaluates file t e y) where
         assign-is : WellFormed file → (G : State) (q n b left : ℕ) (h : InSession file s G q n slot b) → KeptBy file left (BehaviourRow.Assign p e)
-            → {k : Source} → y.source ≡ k → local_at G q n h.session (behaviour_by file r (BehaviourRow.Assign p e))
+            → {k : std.Result Place Fault} → y.source ≡ k → local_at G q n h.session (behaviour_by file r (BehaviourRow.Assign p e))
             ≡ if_given k (unassigned G q n h.session (path_of file p)) (assigned G q n h.session r (path_of file p) (leaf (value_of y.root)))
         unfolding local_at
         assign-is w G q n b left h j i =
@@ -314,30 +311,26 @@ module _ (file s : List ℕ) (slot r : ℕ) where
             if-undone (S.progress r) next ∙ (ap (λ (z : Bool). require z MoveNotAllowed next) (undone-is h (held u f))
             ∙ (on_value t y (evaluate S.tree (expression_of file e)) (λ b. none) set
             (v.tells S.tree (record { bytes = g ∙ living-tree h.living; good = h.living.made.bounded }) w j.1)
-            ∙ ap (λ (z : Source). if_given z none (set (value_of y.root))) i))
+            ∙ ap (λ (z : std.Result Place Fault). if_given z none (set (value_of y.root))) i))
 
-        assign-by : {k : Source} {s' : List ℕ} {o : Outcome} → y.source ≡ k → ((x z : Result) → if_given k x z ≡ z)
+        assign-by : {k : std.Result Place Fault} {s' : List ℕ} {o : Outcome} → y.source ≡ k → ((x z : Result) → if_given k x z ≡ z)
             → AssignsValue file s s' slot r p y.root o → MadeBy (BehaviourRow.Assign p e) file s s' slot r o
         assign-by i j a = record {
           tells = λ w G st q n b left h d out.
               a.tells w G st q n b h d.0 out ∙ ap (finish s out) (sym (assign-is w G q n b left h d i ∙ j _ _));
         }
 
-        pub assign-at : {at : ℕ} {s' : List ℕ} {o : Outcome} → y.source ≡ Source.At at → AssignsValue file s s' slot r p y.root o
+        pub assign-given : {k : Place} {s' : List ℕ} {o : Outcome} → y.source ≡ Ok k → AssignsValue file s s' slot r p y.root o
             → MadeBy (BehaviourRow.Assign p e) file s s' slot r o
-        assign-at i a = assign-by i (λ x z. refl) a
+        assign-given i a = assign-by i (λ x z. refl) a
 
-        pub assign-alone : {s' : List ℕ} {o : Outcome} → y.source ≡ Source.Alone → AssignsValue file s s' slot r p y.root o
-            → MadeBy (BehaviourRow.Assign p e) file s s' slot r o
-        assign-alone i a = assign-by i (λ x z. refl) a
-
-        pub assign-missing : {o : Outcome} → y.source ≡ Source.Missing → o ≡ refused_by Stuck → MadeBy (BehaviourRow.Assign p e) file s s slot r o
+        pub assign-missing : {o : Outcome} → y.source ≡ Err Fault.Missing → o ≡ refused_by Stuck → MadeBy (BehaviourRow.Assign p e) file s s slot r o
         assign-missing i k = by-refused (BehaviourRow.Assign p e) k (λ w G q n b left h j. assign-is w G q n b left h j i)
 
-        pub assign-wrong : {o : Outcome} → y.source ≡ Source.Wrong → o ≡ refused_by Stuck → MadeBy (BehaviourRow.Assign p e) file s s slot r o
+        pub assign-wrong : {o : Outcome} → y.source ≡ Err Fault.Wrong → o ≡ refused_by Stuck → MadeBy (BehaviourRow.Assign p e) file s s slot r o
         assign-wrong i k = by-refused (BehaviourRow.Assign p e) k (λ w G q n b left h j. assign-is w G q n b left h j i)
 
-        pub assign-outside : {o : Outcome} → y.source ≡ Source.Outside → RefusesValue file s slot p o → MadeBy (BehaviourRow.Assign p e) file s s slot r o
+        pub assign-outside : {o : Outcome} → y.source ≡ Err Fault.Outside → RefusesValue file s slot p o → MadeBy (BehaviourRow.Assign p e) file s s slot r o
         assign-outside i a = record {
           tells = λ w G st q n b left h d out. a.tells w G q n b h d.0 out ∙ ap (finish s out) (sym (assign-is w G q n b left h d i));
         }
@@ -358,7 +351,7 @@ module _ (file s : List ℕ) (slot r : ℕ) where
         if-ready-while (S.progress r) (is_done S.progress (behaviour_of file b)) next
         ∙ ap (λ (z : Bool). require z MoveNotAllowed next) (ready-is h (failed u f)))
 
-    module _ {d : Decision} (f : not x ≡ false) (v : Decides file s slot e d) where
+    module _ {d : std.Result Bool Fault} (f : not x ≡ false) (v : Decides file s slot e d) where
       while-decides : WellFormed file → (G : State) (q n c left : ℕ) (h : InSession file s G q n slot c) → KeptBy file left (BehaviourRow.While e b)
           → local_at G q n h.session (behaviour_by file r (BehaviourRow.While e b)) ≡ on_condition d (repeated G q n h.session r (behaviour_of file b))
       unfolding local_at
@@ -369,19 +362,11 @@ module _ (file s : List ℕ) (slot r : ℕ) where
           ∙ (ap (λ (z : Bool). require z MoveNotAllowed next) (ready-is h (held u f))
           ∙ v.tells w S h.living p.0 (repeated G q n S r (behaviour_of file b)))
 
-      pub while-missing : {o : Outcome} → d ≡ Decision.Missing → o ≡ refused_by Stuck → MadeBy (BehaviourRow.While e b) file s s slot r o
-      while-missing g k = by-refused (BehaviourRow.While e b) k (λ w G q n c left h p.
-          while-decides w G q n c left h p ∙ ap (λ (z : Decision). on_condition z (repeated G q n h.session r (behaviour_of file b))) g)
+      pub while-fault : {o : Outcome} {k : Fault} {v : Refusal} → d ≡ Err k → v ≡ refusal_of k → o ≡ refused_by v → MadeBy (BehaviourRow.While e b) file s s slot r o
+      while-fault {k = k} g u i = by-refused (BehaviourRow.While e b) (i ∙ ap refused_by u) (λ w G q n c left h p.
+          while-decides w G q n c left h p ∙ (ap (λ (z : std.Result Bool Fault). on_condition z (repeated G q n h.session r (behaviour_of file b))) g ∙ on-fault k (repeated G q n h.session r (behaviour_of file b))))
 
-      pub while-wrong : {o : Outcome} → d ≡ Decision.Wrong → o ≡ refused_by Stuck → MadeBy (BehaviourRow.While e b) file s s slot r o
-      while-wrong g k = by-refused (BehaviourRow.While e b) k (λ w G q n c left h p.
-          while-decides w G q n c left h p ∙ ap (λ (z : Decision). on_condition z (repeated G q n h.session r (behaviour_of file b))) g)
-
-      pub while-outside : {o : Outcome} → d ≡ Decision.Outside → o ≡ refused_by OutOfRange → MadeBy (BehaviourRow.While e b) file s s slot r o
-      while-outside g k = by-refused (BehaviourRow.While e b) k (λ w G q n c left h p.
-          while-decides w G q n c left h p ∙ ap (λ (z : Decision). on_condition z (repeated G q n h.session r (behaviour_of file b))) g)
-
-      pub while-false : {o : Outcome} {s' : List ℕ} → d ≡ Decision.False → r < 256
+      pub while-false : {o : Outcome} {s' : List ℕ} → d ≡ Ok false → r < 256
           → (s' ≡ row_stored s slot r done) × (o ≡ done_with 0) → MadeBy (BehaviourRow.While e b) file s s' slot r o
       unfolding advanced
       while-false g l k = by-moved (BehaviourRow.While e b) k.1 (λ w G q n c left h p.
@@ -389,10 +374,10 @@ module _ (file s : List ℕ) (slot r : ℕ) where
             advanced S r done,
             k.0 ∙ row-set h.living r done l,
             advanced-made S r done l h.living.made,
-            while-decides w G q n c left h p ∙ ap (λ (z : Decision). on_condition z (repeated G q n S r (behaviour_of file b))) g,
+            while-decides w G q n c left h p ∙ ap (λ (z : std.Result Bool Fault). on_condition z (repeated G q n S r (behaviour_of file b))) g,
           ))
 
-      pub while-true : {o : Outcome} {s' : List ℕ} → d ≡ Decision.True → r < 256
+      pub while-true : {o : Outcome} {s' : List ℕ} → d ≡ Ok true → r < 256
           → (s' ≡ row_stored (with_undone (rows_below file b) slot s) slot r (taken 0)) × (o ≡ done_with 0)
           → MadeBy (BehaviourRow.While e b) file s s' slot r o
       unfolding advanced reopened
@@ -406,16 +391,16 @@ module _ (file s : List ℕ) (slot r : ℕ) where
             k.0 ∙ (ap (λ (y : List ℕ). row_stored y slot r (taken 0)) (reopen-set h.living file b)
                 ∙ (row-set (living-set h.living S₁ w₁) r (taken 0) l ∙ set-again h.living S₁ (live (advanced S₁ r (taken 0))) w₁ w₂)),
             w₂,
-            while-decides w G q n c left h p ∙ ap (λ (z : Decision). on_condition z (repeated G q n S r B)) g,
+            while-decides w G q n c left h p ∙ ap (λ (z : std.Result Bool Fault). on_condition z (repeated G q n S r B)) g,
           ))
 
-pub ruleset if-laws = (if-not-ready, if-missing, if-wrong, if-outside, if-true, if-false)
+pub ruleset if-laws = (if-not-ready, if-fault, if-true, if-false)
 
-pub ruleset assign-laws = (assign-not-ready, assign-at, assign-alone, assign-missing, assign-wrong, assign-outside)
+pub ruleset assign-laws = (assign-not-ready, assign-given, assign-missing, assign-wrong, assign-outside)
 
 pub ruleset value-laws = (value-large, value-long, value-kept)
 
-pub ruleset while-laws = (while-not-ready, while-missing, while-wrong, while-outside, while-false, while-true)
+pub ruleset while-laws = (while-not-ready, while-fault, while-false, while-true)
 
 -- ---- any row
 
@@ -462,23 +447,23 @@ is_offered (coded.Reached.Offered c k i) = true
 pub offered-is : {y : coded.Reached} {c k i : ℕ} → y ≡ coded.Reached.Offered c k i → is_offered y ≡ true
 offered-is e = ap is_offered e
 
-module _ {file s : List ℕ} {q n : ℕ} {x : Running} (a : RunsAt file s q n x) {slot b : ℕ} (e : x ≡ Running.Session slot b) where
+module _ {file s : List ℕ} {q n : ℕ} {x : Option (ℕ × ℕ)} (a : RunsAt file s q n x) {slot b : ℕ} (e : x ≡ Some (slot, b)) where
   pub slot-starts : slot < 65536
   slot-starts = let l = a.inside slot b e in omega arith
 
   pub slot-fits : length s ≡ 65536 → slot + slot_size ≤ length s
   slot-fits g = let l = a.inside slot b e in omega arith
 
-module _ (file s : List ℕ) (q n r : ℕ) {x : Running} (a : RunsAt file s q n x) where
-  pub local-nothing : {o : Outcome} → x ≡ Running.Nothing → o ≡ refused_by MoveNotAllowed → Made file (λ N G. local_move N G q n r) s s o
+module _ (file s : List ℕ) (q n r : ℕ) {x : Option (ℕ × ℕ)} (a : RunsAt file s q n x) where
+  pub local-nothing : {o : Outcome} → x ≡ None → o ≡ refused_by MoveNotAllowed → Made file (λ N G. local_move N G q n r) s s o
   local-nothing e k = record {
     tells = λ w G st out.
-        let h : Runs file s G q n Running.Nothing = subst (Runs file s G q n) e (a.tells w G st) in
+        let h : Runs file s G q n None = subst (Runs file s G q n) e (a.tells w G st) in
         ap (λ (z : Outcome). record { outcome = z; state = s; out = out }) k
         ∙ ap (finish s out) (sym (h (λ B S. local_reached G q n S (reach S.progress r B))));
   }
 
-  module _ {slot b : ℕ} {y : coded.Reached} (e : x ≡ Running.Session slot b) (c : ReachTells file (read_session s slot).progress r b y) where
+  module _ {slot b : ℕ} {y : coded.Reached} (e : x ≡ Some (slot, b)) (c : ReachTells file (read_session s slot).progress r b y) where
     session : WellFormed file → (G : State) → StateOf file s G → InSession file s G q n slot b
     session w G st = subst (Runs file s G q n) e (a.tells w G st)
 

@@ -12,10 +12,10 @@ use Rattle.network_rows.specs.Readers.{path_ids}
 use Rattle.scalar.specs.Value.{void_value}
 use Rattle.move_evaluation.specs.Writing.{WritesLeaf}
 use Rattle.move_evaluation.specs.WritingLaws.{leaf-good}
-use Rattle.state_trees.specs.declared.Change.{Change}
 use Rattle.state_trees.specs.Changing.{ChangedTo, SetsLeaf}
 use Rattle.network_row_parts.specs.PathLaws.{path-is, ids-path}
 use Rattle.move_local.specs.Local.{SetsRoot}
+use Rattle.std.specs.Prelude.{Option, Some, None}
 
 pub leaf_room : {v : Operand} {o o' : List ℕ} {n : ℕ} → WritesLeaf v o o' n → n ≤ length o'
 leaf_room w = w.wrote.fits
@@ -23,7 +23,7 @@ leaf_room w = w.wrote.fits
 pub leaf-length : {v : Operand} {o o' : List ℕ} {n : ℕ} → WritesLeaf v o o' n → n ≡ length (take n o')
 leaf-length {v} {o} {o'} {n} w = sym (length-take-le n o' w.wrote.fits)
 
-pub root-set : (file s : List ℕ) (slot p : ℕ) (v : Operand) {o o' m out ids : List ℕ} {n : ℕ} {x : Change} → WritesLeaf v o o' n → m ≡ take n o'
+pub root-set : (file s : List ℕ) (slot p : ℕ) (v : Operand) {o o' m out ids : List ℕ} {n : ℕ} {x : Option ℕ} → WritesLeaf v o o' n → m ≡ take n o'
     → ids ≡ path_ids file p → SetsLeaf s slot ids m out x → SetsRoot file s slot p v out x
 root-set file s slot p v {o} {o'} {m} {out} {ids} {n} {x} l e d a = record {
   tells = λ w S h k.

@@ -15,12 +15,13 @@ use Rattle.move_rules.specs.Evaluation.{leaf, evaluate}
 use Rattle.move_rules.specs.Moves.{Result, on_truth, assigned, unassigned, local_at}
 use Rattle.scalar.specs.Value.{void_value}
 use Rattle.move_rules.specs.Step.{Step, finish}
-use Rattle.move_evaluation.specs.declared.Decision.{Decision}
+use Rattle.move_evaluation.specs.declared.Fault.{Fault}
 use Rattle.move_evaluation.specs.Condition.{on_condition}
-use Rattle.state_trees.specs.declared.Change.{Change}
 use Rattle.state_trees.specs.Changing.{ChangedTo}
 use Rattle.move_frame.specs.Made.{StateOf, InSession}
 use Rattle.state_slots.specs.Living.{Living}
+use Rattle.std.specs.Prelude.{Option, Some, None}
+use Rattle.std.specs.Prelude as std
 
 -- Moves' `if_ready_while` as a test: "a while whose body is done is again".
 abbrev pub ready_while : Progress → Bool → Bool
@@ -31,12 +32,12 @@ ready_while (received to) body_done = false
 ready_while (taken k) body_done = body_done
 
 -- A condition, by its E row: a move goes on as the definition does. 18: "condition .. of the wrong kind"; 22.
-pub record Decides (file s : List ℕ) (slot e : ℕ) (d : Decision) : Type 0 where
+pub record Decides (file s : List ℕ) (slot e : ℕ) (d : std.Result Bool Fault) : Type 0 where
   pub tells : WellFormed file → (S : Session) → Living s slot S → e < expression_count file → (f : Bool → Result)
       → on_truth (evaluate S.tree (expression_of file e)) f ≡ on_condition d f
 
 -- The value v set at P row p: "sets one root value and keeps children".
-pub record SetsRoot (file s : List ℕ) (slot p : ℕ) (v : Operand) (o : List ℕ) (x : Change) : Type 0 where
+pub record SetsRoot (file s : List ℕ) (slot p : ℕ) (v : Operand) (o : List ℕ) (x : Option ℕ) : Type 0 where
   pub tells : WellFormed file → (S : Session) → Living s slot S → p < path_count file
       → ChangedTo o x (set_payload_at void_value (path_of file p) (value_of v) S.tree)
 

@@ -21,14 +21,12 @@ ghost use Rattle.move_frame.specs.Made.{Made};
 ghost use Rattle.move_local.specs.Local.{ready_while, Decides, SetsRoot, AssignsValue, RefusesValue, MadeBy, RowMade};
 ghost use Rattle.state_slots.specs.Slots.{tree_stored};
 
-use move_evaluation::{Decision, Source};
-use move_frame::Running;
+use move_evaluation::Fault;
 use move_readiness::Reached;
 use network_rows::BehaviourRow;
 use refusal::{Outcome, Refusal};
 use scalar::Operand;
 use state_progress::Progress;
-use state_trees::Change;
 
 // 15: "The move is not allowed by the list above".
 fn not_allowed() -> Outcome
@@ -53,7 +51,7 @@ fn is_ready_while(file: &[u8], state: &[u8], slot: usize, r: u16, b: u16) -> boo
 }
 
 // What the condition of E row e says in the tree of the slot's session.
-fn condition_at(file: &[u8], state: &[u8], slot: usize, e: u16) -> Decision
+fn condition_at(file: &[u8], state: &[u8], slot: usize, e: u16) -> Result<bool, Fault>
     requires { slot + slot_size ≤ length state.now }
     ensures { Decides file.now state.now slot e result }
 {
@@ -82,11 +80,9 @@ fn decide(file: &[u8], state: &mut [u8], slot: usize, r: u16, e: u16, a: u16, b:
         return not_allowed();
     }
     match condition_at(file, state, slot, e) {
-        Decision::True => settle(state, slot, r, Progress::Taken(0)),
-        Decision::False => settle(state, slot, r, Progress::Taken(1)),
-        Decision::Missing => refusal::refused(Refusal::Stuck),
-        Decision::Wrong => refusal::refused(Refusal::Stuck),
-        Decision::Outside => refusal::refused(Refusal::OutOfRange),
+        Ok(true) => settle(state, slot, r, Progress::Taken(0)),
+        Ok(false) => settle(state, slot, r, Progress::Taken(1)),
+        Err(fault) => refusal::refused(move_evaluation::refusal_of(fault)),
     }
 }
 
@@ -108,16 +104,21 @@ fn repeat(file: &[u8], state: &mut [u8], slot: usize, r: u16, e: u16, b: u16) ->
         return not_allowed();
     }
     match condition_at(file, state, slot, e) {
-        Decision::True => take_body(file, state, slot, r, b),
-        Decision::False => settle(state, slot, r, Progress::Done),
-        Decision::Missing => refusal::refused(Refusal::Stuck),
-        Decision::Wrong => refusal::refused(Refusal::Stuck),
-        Decision::Outside => refusal::refused(Refusal::OutOfRange),
+        Ok(true) => take_body(file, state, slot, r, b),
+        Ok(false) => settle(state, slot, r, Progress::Done),
+        Err(fault) => refusal::refused(move_evaluation::refusal_of(fault)),
     }
 }
 
 // The tree of the slot's session with the value v set at P row p, in the scratch buffer.
-fn set_root(out: &mut [u8], file: &[u8], state: &[u8], slot: usize, p: u16, v: Operand) -> Change
+fn set_root(
+    out: &mut [u8],
+    file: &[u8],
+    state: &[u8],
+    slot: usize,
+    p: u16,
+    v: Operand,
+) -> Option<u16>
     requires { (slot + slot_size ≤ length state.now) × (2304 ≤ length out.old) × SoundText (value_of v) }
     ensures { SetsRoot file.now state.now slot p v out.new result }
 {
@@ -149,13 +150,13 @@ fn assign_value(file: &[u8], state: &mut [u8], slot: usize, r: u16, p: u16, v: O
 {
     let mut tree = [0u8; 2304];
     match set_root(&mut tree, file, state, slot, p, v) {
-        Change::Kept(n) => {
+        Some(n) => {
             if 1024 < n {
                 return refusal::refused(Refusal::Stuck);
             }
             store(state, slot, r, &tree, n)
         }
-        Change::TooLarge => refusal::refused(Refusal::Stuck),
+        None => refusal::refused(Refusal::Stuck),
     }
 }
 
@@ -166,8 +167,8 @@ fn refuse_value(file: &[u8], state: &[u8], slot: usize, p: u16, v: Operand) -> O
 {
     let mut tree = [0u8; 2304];
     match set_root(&mut tree, file, state, slot, p, v) {
-        Change::Kept(_) => refusal::refused(Refusal::OutOfRange),
-        Change::TooLarge => refusal::refused(Refusal::Stuck),
+        Some(_) => refusal::refused(Refusal::OutOfRange),
+        None => refusal::refused(Refusal::Stuck),
     }
 }
 
@@ -180,14 +181,11 @@ fn assign(file: &[u8], state: &mut [u8], slot: usize, r: u16, p: u16, e: u16) ->
         return not_allowed();
     }
     let x = move_evaluation::evaluate(file, state_slots::tree_of(state, slot), e);
-    let v = x.root;
-    let source = x.source;
-    match source {
-        Source::At(_) => assign_value(file, state, slot, r, p, v),
-        Source::Alone => assign_value(file, state, slot, r, p, v),
-        Source::Missing => refusal::refused(Refusal::Stuck),
-        Source::Wrong => refusal::refused(Refusal::Stuck),
-        Source::Outside => refuse_value(file, state, slot, p, v),
+    match x.source {
+        Ok(_) => assign_value(file, state, slot, r, p, x.root),
+        Err(Fault::Missing) => refusal::refused(Refusal::Stuck),
+        Err(Fault::Wrong) => refusal::refused(Refusal::Stuck),
+        Err(Fault::Outside) => refuse_value(file, state, slot, p, x.root),
     }
 }
 
@@ -209,7 +207,7 @@ pub fn local_move(file: &[u8], state: &mut [u8], q: u16, n: u16, r: u16) -> Outc
     requires { length state.old ≡ 65536 }
     ensures { Made file.now (λ N G. local_move N G q n r) state.old state.new result }
 {
-    let Running::Session(slot, b) = move_frame::session_at(file, state, q, n) else {
+    let Some((slot, b)) = move_frame::session_at(file, state, q, n) else {
         return not_allowed();
     };
     match move_readiness::reach(file, state, slot, r, b) {

@@ -12,21 +12,18 @@ ghost use Rattle.move_rules.specs.Moves.{outer_message_move, outer_reply_move};
 ghost use Rattle.move_frame.specs.Made.{Made};
 ghost use Rattle.move_outer.specs.Outside.{Arrives};
 
-use check_operations::Met;
-use move_delivery::Admission;
-use move_frame::Running;
-use move_waiting::{Sender, Waiting};
-use refusal::{Outcome, Refusal, Verdict};
-use state_destinations::{Destination, ReplyTo};
+use move_waiting::Sender;
+use refusal::{Outcome, Refusal};
+use state_destinations::Destination;
 
 // Where the reply goes: to the outsider under its number, "ignored if one-way".
-fn reply_to(file: &[u8], i: u16, number: u32) -> ReplyTo
+fn reply_to(file: &[u8], i: u16, number: u32) -> Option<Destination>
     ensures { reply_of result ≡ pick (operation_of file.now i).two_way (some (outsider number)) none }
 {
     if network_rows::operation_two_way(file, i) == 1 {
-        return ReplyTo::To(Destination::Outsider(number));
+        return Some(Destination::Outsider(number));
     }
-    ReplyTo::Nobody
+    None
 }
 
 // A message for the input of O row i.
@@ -35,19 +32,18 @@ fn arrive(file: &[u8], state: &mut [u8], i: u16, n: u16, number: u32, bytes: &[u
     ensures { Arrives file.now i n number bytes.now state.old state.new result }
 {
     let mut tree = [0u8; 2304];
-    let x = move_delivery::admit(
+    match move_delivery::admit(
         &mut tree,
         file,
         state,
         i,
         n,
         bytes,
-        Verdict::Done,
+        Ok(()),
         Refusal::NoMessage,
-    );
-    match x {
-        Admission::Refused(why) => refusal::refused(why),
-        Admission::Admitted(y) => {
+    ) {
+        Err(why) => refusal::refused(why),
+        Ok(y) => {
             move_delivery::store(state, i, reply_to(file, i, number), bytes, y, &tree);
             refusal::done(0)
         }
@@ -67,7 +63,7 @@ pub fn outer_message(
     requires { length state.old ≡ 65536 }
     ensures { Made file.now (λ N G. outer_message_move N G q id n number bytes.now) state.old state.new result }
 {
-    let Met::Input(i) = move_targets::named_input(file, q, id) else {
+    let Some(i) = move_targets::named_input(file, q, id) else {
         return refusal::refused(Refusal::MoveNotAllowed);
     };
     arrive(file, state, i, n, number, bytes)
@@ -79,22 +75,18 @@ pub fn outer_reply(file: &[u8], state: &mut [u8], q: u16, n: u16, r: u16, bytes:
     requires { length state.old ≡ 65536 }
     ensures { Made file.now (λ N G. outer_reply_move N G q n r bytes.now) state.old state.new result }
 {
-    let Running::Session(slot, b) = move_frame::session_at(file, state, q, n) else {
+    let Some((slot, b)) = move_frame::session_at(file, state, q, n) else {
         return refusal::refused(Refusal::MoveNotAllowed);
     };
-    let Waiting::Row(o, path) = move_waiting::waiting_at(file, state, slot, b, q, r) else {
+    let Some((o, path)) = move_waiting::waiting_at(file, state, slot, b, q, r) else {
         return refusal::refused(Refusal::MoveNotAllowed);
     };
     if check_operations::in_file(file, network_rows::operation_location(file, o)) {
         return refusal::refused(Refusal::MoveNotAllowed);
     }
     let t = network_rows::reply_type(file, o);
-    let v = move_fitting::passes(bytes, file, t, Refusal::NoMessage);
-    let Verdict::Done = v else {
-        return Outcome {
-            bytes: 0,
-            verdict: v,
-        };
-    };
+    if let Err(why) = move_fitting::passes(bytes, file, t, Refusal::NoMessage) {
+        return refusal::refused(why);
+    }
     move_waiting::take_reply(file, state, Sender::Outsider, slot, r, path, bytes)
 }

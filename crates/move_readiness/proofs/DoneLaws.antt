@@ -11,9 +11,9 @@ use Rattle.basics.specs.Choice.{pick}
 use Rattle.basics.specs.TestLaws.{one_less}
 use Rattle.network_syntax.specs.Syntax.{Behaviour}
 use Rattle.network.specs.declared.BehaviourKind.{BehaviourKind}
-use Rattle.network.specs.Layout.{behaviour_count, behaviour_at}
+use Rattle.network.specs.Layout.{behaviour_at}
 use Rattle.network.specs.Rows.{field_a, field_b, field_c, field_d, kind_at}
-use Rattle.network.specs.Decode.{branches_from, behaviour_from, behaviour_to, behaviour_of}
+use Rattle.network.specs.Decode.{branches_from, behaviour_from, behaviour_to}
 use Rattle.network_rows.specs.Readers.{behaviour_row_as, behaviour_row_of}
 use Rattle.state.specs.Session.{Progress, undone, done, waits, received, taken, Progresses}
 use Rattle.move_rules.specs.Readiness.{unless_taken, then_or_else, is_done, branch_done}
@@ -164,14 +164,7 @@ module _ (s : List ℕ) (p : Progresses) (left r : ℕ) (h : left ≡ 0 → ⊥)
       i ∙ sym (by-deciders f ∙ ap (λ (z : Bool). z && is_done p (behaviour_to s (left - 1) b)) (sym g ∙ t))
 
   pub done-not : {a b : ℕ} {x : Bool} → d ≡ Deciders.Both a b → x ≡ is_done p (behaviour_to s (left - 1) a) → x ≡ false
-      → false ≡ is_done p (behaviour_to s left r)
-  done-not {a} {b} f g t = sym (by-deciders f ∙ ap (λ (z : Bool). z && is_done p (behaviour_to s (left - 1) b)) (sym g ∙ t))
+      → x ≡ is_done p (behaviour_to s left r)
+  done-not {a} {b} f g t = t ∙ sym (by-deciders f ∙ ap (λ (z : Bool). z && is_done p (behaviour_to s (left - 1) b)) (sym g ∙ t))
 
 pub ruleset done-row-laws = (done_none, done-settled, done-one, done-both, done-not)
-
-pub done-whole : (s : List ℕ) (p : Progresses) (n r : ℕ) {x : Bool} → n ≡ behaviour_count s → x ≡ is_done p (behaviour_to s n r)
-    → x ≡ is_done p (behaviour_of s r)
-unfolding behaviour_of
-done-whole s p n r e f = f ∙ ap (λ (l : ℕ). is_done p (behaviour_to s l r)) e
-
-pub ruleset is-done-laws = (done-whole)

@@ -1,5 +1,5 @@
 -- Laws of reached rows: `reach` of a row by the rows through which it is passed, and one law for each way out of the functions.
-use Prim.Native.Nat.{ℕ, zero, suc, ◌+◌, ◌-◌, ◌<◌, ◌≤◌}
+use Prim.Native.Nat.{ℕ, zero, suc, ◌+◌, ◌-◌, ◌<◌, ◌≤◌, ◌*◌}
 use mathlib.Core.Path.{◌≡◌, refl, sym, ◌∙◌, ap, subst}
 use mathlib.Core.List.{List}
 use mathlib.Core.Bool.{Bool, true, false}
@@ -10,7 +10,7 @@ use Rattle.basics.specs.Choice.{pick}
 use Rattle.basics.specs.TestLaws.{one_less}
 use Rattle.network_syntax.specs.Syntax.{Behaviour}
 use Rattle.network.specs.Form.{WellFormed}
-use Rattle.network.specs.Layout.{behaviour_count, behaviour_at}
+use Rattle.network.specs.Layout.{behaviour_at}
 use Rattle.network.specs.Rows.{field_a, field_b}
 use Rattle.network.specs.Decode.{branches_from, behaviour_of}
 use Rattle.network.proofs.RowLaws.{next-at}
@@ -26,8 +26,7 @@ use Rattle.network_row_parts.specs.KindLaws.{row_is}
 use Rattle.move_readiness.specs.declared.Ways.{Ways}
 use Rattle.move_readiness.specs.declared.Reached.{Reached}
 use Rattle.move_readiness.specs.Parts.{branch_row_at, in_order, branch_ways, ways_in, ways_of}
-use Rattle.move_readiness.specs.Reaching.{reached_as, in_branches, Offers, ReachesReceived, ReachesServed, ReachesInputs, ReachesRow, ReachTells}
-use Rattle.move_readiness.proofs.MarkLaws.{received-gives, unreceived-gives}
+use Rattle.move_readiness.specs.Reaching.{reached_as, in_branches, Offers, ReachesReceived, ReachesServed, ReachesInputs, ReachesRow}
 use Rattle.move_readiness.proofs.DoneLaws.{clipped, clipped-inside, first-of-one, first-of-many, next-of-many}
 
 -- ---- inputs of a choice
@@ -38,9 +37,6 @@ offer-branch : (s : List ℕ) (c k i j n : ℕ) → offer c k i (branches_from s
 unfolding offer branches_from
 offer-branch s c k i j zero = rw (row-of s (field_a s (behaviour_at s j))) refl
 offer-branch s c k i j (suc n) = rw (row-of s (field_a s (behaviour_at s j))) refl
-
-pub offer-none : (s : List ℕ) (c k i at n : ℕ) → n ≡ 0 → Offers s c k i at n Reached.Unreached
-offer-none s c k i at n e = record { tells = λ j h. rw e refl }
 
 module _ (s : List ℕ) (c k i at n : ℕ) (h : n ≡ 0 → ⊥) {b : BranchRow} (e : BranchAt s at b) where
   branch-input : (j : ℕ) → at ≡ behaviour_at s j → field_a s (behaviour_at s j) ≡ b.input
@@ -58,16 +54,58 @@ module _ (s : List ℕ) (c k i at n : ℕ) (h : n ≡ 0 → ⊥) {b : BranchRow}
   pub offer-here : i ≡ b.input → Offers s c k i at n (Reached.Offered c k b.input)
   offer-here f = record { tells = λ j g. sym (offer-more j g ∙ rw (eq-eqb i b.input f) refl) }
 
-  pub offer-next : {x : Reached} → (i ≡ b.input → ⊥) → Offers s c (k + 1) i (at + 10) (n - 1) x → Offers s c k i at n x
-  offer-next f o = record {
-    tells = λ j g.
-        let m : k + 1 ≡ suc k = omega arith in
-        o.tells (suc j) (ap (λ (y : ℕ). y + 10) g ∙ next-at s j)
-        ∙ ap (λ (y : ℕ). in_branches (n - 1) (offer c y i (branches_from s (behaviour_of s) (suc j) (n - 1)))) m
-        ∙ sym (offer-more j g ∙ rw (ne_eqb i b.input f) refl);
-  }
+-- None of the inputs of the first k branches is i.
+pub record Unoffered (s : List ℕ) (c i at n k : ℕ) : Type 0 where
+  pub bound : k ≤ n
+  pub tells : (j : ℕ) → at ≡ behaviour_at s j → in_branches n (offer c 0 i (branches_from s (behaviour_of s) j n))
+      ≡ in_branches (n - k) (offer c k i (branches_from s (behaviour_of s) (j + k) (n - k)))
 
-pub ruleset offer-laws = (offer-none, offer-here, offer-next)
+pub unoffered-none : (s : List ℕ) (c i at n : ℕ) → Unoffered s c i at n 0
+unoffered-none s c i at n = record {
+  bound = omega arith;
+  tells = λ j g.
+      let e : j ≡ j + 0 = omega arith in
+      let d : n ≡ n - 0 = omega arith in
+      ap (λ (m : ℕ). in_branches n (offer c 0 i (branches_from s (behaviour_of s) m n))) e
+      ∙ ap (λ (m : ℕ). in_branches m (offer c 0 i (branches_from s (behaviour_of s) (j + 0) m))) d;
+}
+
+at-branch : (s : List ℕ) {at p : ℕ} (j k : ℕ) → p ≡ at + 10 * k → at ≡ behaviour_at s j → p ≡ behaviour_at s (j + k)
+unfolding behaviour_at
+at-branch s j k e g = omega (arith, e, g)
+
+module _ (s : List ℕ) (c i at n k : ℕ) (d : Unoffered s c i at n k) where
+  module _ {b : BranchRow} {p : ℕ} (l : k < n) (e : BranchAt s p b) (f : p ≡ at + 10 * k) where
+    some-left : n - k ≡ 0 → ⊥
+    some-left z = omega arith
+
+    pub unoffered-here : i ≡ b.input → Offers s c 0 i at n (Reached.Offered c k b.input)
+    unoffered-here h = record {
+      tells = λ j g. (offer-here s c k i p (n - k) some-left e h).tells (j + k) (at-branch s j k f g) ∙ sym (d.tells j g);
+    }
+
+    pub unoffered-next : (i ≡ b.input → ⊥) → Unoffered s c i at n (k + 1)
+    unoffered-next h = record {
+      bound = omega arith;
+      tells = λ j g.
+          let q : suc (j + k) ≡ j + (k + 1) = omega arith in
+          let r : n - k - 1 ≡ n - (k + 1) = omega arith in
+          let u : suc k ≡ k + 1 = omega arith in
+          let next = later s c k i p (n - k) some-left e (j + k) in
+          let o = behaviour_of s b.input in
+          d.tells j g ∙ (offer-more s c k i p (n - k) some-left e (j + k) (at-branch s j k f g)
+          ∙ (ap (λ (t : Bool). offered_if t c k o next) (ne_eqb i b.input h)
+          ∙ (ap (λ (m : ℕ). in_branches (n - k - 1) (offer c m i (branches_from s (behaviour_of s) (suc (j + k)) (n - k - 1)))) u
+          ∙ (ap (λ (m : ℕ). in_branches (n - k - 1) (offer c (k + 1) i (branches_from s (behaviour_of s) m (n - k - 1)))) q
+          ∙ ap (λ (m : ℕ). in_branches m (offer c (k + 1) i (branches_from s (behaviour_of s) (j + (k + 1)) m))) r))));
+    }
+
+  pub unoffered-all : n ≤ k → Offers s c 0 i at n Reached.Unreached
+  unoffered-all l = record {
+    tells = λ j g.
+        let z : n - k ≡ 0 = omega arith in
+        sym (d.tells j g ∙ ap (λ (m : ℕ). in_branches m (offer c k i (branches_from s (behaviour_of s) (j + k) (n - k)))) z);
+  }
 
 -- ---- a row
 
@@ -226,8 +264,11 @@ module _ (s : List ℕ) (p : Progresses) (left r : ℕ) where
 
 -- ---- the ways out
 
-pub reach-none : (s : List ℕ) (p : Progresses) (i r left : ℕ) (x : Reached) → left ≡ 0 → ReachesRow s p i r left x
-reach-none s p i r left x e = record { tells = λ w h. let a = h.exists in let b = h.enough in absurd (omega arith) }
+-- What is reached goes before anything else.
+found-first : (s : List ℕ) (x : Reached) (y : moves.Reached) → (x ≡ Reached.Unreached → ⊥) → or_else (reached_as s x) y ≡ reached_as s x
+found-first s Reached.Unreached y h = absurd (h refl)
+found-first s (Reached.Reached r) y h = refl
+found-first s (Reached.Offered c k r) y h = refl
 
 module _ (s : List ℕ) (p : Progresses) (i r left : ℕ) (h : left ≡ 0 → ⊥) where
   row-reached : WellFormed s → Sub s left r → (reach p i (behaviour_of s r) ≡ here (eqb i r) (behaviour_of s r) (passing s p i r (ways_of s p r)))
@@ -266,13 +307,11 @@ module _ (s : List ℕ) (p : Progresses) (i r left : ℕ) (h : left ≡ 0 → �
         let d = by-ways g w l in
         d.0 ∙ ap (λ (z : moves.Reached). or_else z (reach p i (behaviour_of s b))) (sym (o.tells w d.1.0) ∙ q)
 
-    pub reach-first : {a b m : ℕ} {x : Reached} → v ≡ Ways.Two a b → ReachesRow s p i a (left - 1) x → x ≡ Reached.Reached m
-        → ReachesRow s p i r left (Reached.Reached m)
-    reach-first {a} {b} {m} g o q = record { tells = λ w l. sym (first-side (reached (behaviour_of s m)) g o (ap (reached_as s) q) w l) }
-
-    pub reach-offered : {a b c k m : ℕ} {x : Reached} → v ≡ Ways.Two a b → ReachesRow s p i a (left - 1) x → x ≡ Reached.Offered c k m
-        → ReachesRow s p i r left (Reached.Offered c k m)
-    reach-offered {a} {b} {c} {k} {m} g o q = record { tells = λ w l. sym (first-side (offered c k (behaviour_of s m)) g o (ap (reached_as s) q) w l) }
+    pub reach-found : {a b : ℕ} {x : Reached} → v ≡ Ways.Two a b → ReachesRow s p i a (left - 1) x → (x ≡ Reached.Unreached → ⊥)
+        → ReachesRow s p i r left x
+    reach-found {a} {b} {x} g o q = record {
+      tells = λ w l. sym (first-side (reached_as s x) g o refl w l ∙ found-first s x (reach p i (behaviour_of s b)) q);
+    }
 
     pub reach-second : {a b : ℕ} {x y : Reached} → v ≡ Ways.Two a b → ReachesRow s p i a (left - 1) x → x ≡ Reached.Unreached
         → ReachesRow s p i b (left - 1) y → ReachesRow s p i r left y
@@ -281,18 +320,9 @@ module _ (s : List ℕ) (p : Progresses) (i r left : ℕ) (h : left ≡ 0 → �
     pub reach-inputs : {first n : ℕ} {x : Reached} → v ≡ Ways.Inputs first n → ReachesInputs s p i r first n (left - 1) x → ReachesRow s p i r left x
     reach-inputs g o = record { tells = λ w l. let d = by-ways g w l in o.tells w d.1.0 d.1.1 d.1.2 ∙ sym d.0 }
 
-pub ruleset reach-row-laws = (reach-none, reach_here, reach-nowhere, reach-one, reach-first, reach-offered, reach-second, reach-inputs)
+pub ruleset reach-row-laws = (reach_here, reach-nowhere, reach-one, reach-found, reach-second, reach-inputs)
 
 -- ---- from received inputs down
-
-module _ (s : List ℕ) (p : Progresses) (i a left : ℕ) {t : Bool} (e : t ≡ unless_received (p a) false true) where
-  pub from-received : {x : Reached} → t ≡ true → ReachesRow s p i a left x → ReachesReceived s p i a left x
-  from-received h o = record { tells = λ w l. o.tells w l ∙ sym (received-gives unreached (reach p i (behaviour_of s a)) (p a) e h) }
-
-  pub from-unreceived : t ≡ false → ReachesReceived s p i a left Reached.Unreached
-  from-unreceived h = record { tells = λ w l. sym (unreceived-gives unreached (reach p i (behaviour_of s a)) (p a) e h) }
-
-pub ruleset reach-received-laws = (from-received, from-unreceived)
 
 abbrev received-way : List ℕ → Progresses → ℕ → ℕ → moves.Reached
 received-way s p i a = unless_received (p a) unreached (reach p i (behaviour_of s a))
@@ -302,9 +332,6 @@ served-branch : (s : List ℕ) (p : Progresses) (i j n : ℕ) → served p i (br
 unfolding served branches_from
 served-branch s p i j zero = rw (row-of s (field_a s (behaviour_at s j))) (sym (or-none s p i (received-way s p i (field_a s (behaviour_at s j)))))
 served-branch s p i j (suc n) = rw (row-of s (field_a s (behaviour_at s j))) refl
-
-pub served-none : (s : List ℕ) (p : Progresses) (i at n left : ℕ) → n ≡ 0 → ReachesServed s p i at n left Reached.Unreached
-served-none s p i at n left e = record { tells = λ w j h b. rw e refl }
 
 module _ (s : List ℕ) (p : Progresses) (i at n left : ℕ) (h : n ≡ 0 → ⊥) {b : BranchRow} (e : BranchAt s at b) {x : Reached}
     (o : ReachesReceived s p i b.input left x) where
@@ -324,11 +351,8 @@ module _ (s : List ℕ) (p : Progresses) (i at n left : ℕ) (h : n ≡ 0 → �
       ∙ ap (λ (m : ℕ). or_else (received-way s p i m) (others j)) (input-is j g)
       ∙ ap (λ (z : moves.Reached). or_else z (others j)) (sym (o.tells w f) ∙ q)
 
-  pub served-first : {m : ℕ} → x ≡ Reached.Reached m → ReachesServed s p i at n left (Reached.Reached m)
-  served-first {m} q = record { tells = λ w j g k. sym (first-served (reached (behaviour_of s m)) (ap (reached_as s) q) w j g k) }
-
-  pub served-offered : {c k m : ℕ} → x ≡ Reached.Offered c k m → ReachesServed s p i at n left (Reached.Offered c k m)
-  served-offered {c} {k} {m} q = record { tells = λ w j g l. sym (first-served (offered c k (behaviour_of s m)) (ap (reached_as s) q) w j g l) }
+  pub served-found : (x ≡ Reached.Unreached → ⊥) → ReachesServed s p i at n left x
+  served-found q = record { tells = λ w j g k. sym (first-served (reached_as s x) refl w j g k ∙ found-first s x (others j) q) }
 
   pub served-next : {y : Reached} → x ≡ Reached.Unreached → ReachesServed s p i (at + 10) (n - 1) left y → ReachesServed s p i at n left y
   served-next q r = record {
@@ -338,39 +362,4 @@ module _ (s : List ℕ) (p : Progresses) (i at n left : ℕ) (h : n ≡ 0 → �
         ∙ sym (first-served unreached (ap (reached_as s) q) w j g k);
   }
 
-pub ruleset reach-served-laws = (served-none, served-first, served-offered, served-next)
-
-pub inputs-many : (s : List ℕ) (p : Progresses) (i c first n left : ℕ) (x : Reached) → 8 < n → ReachesInputs s p i c first n left x
-inputs-many s p i c first n left x l = record { tells = λ w z m b. absurd (omega arith) }
-
-module _ (s : List ℕ) (p : Progresses) (i c first n left : ℕ) {at : ℕ} (e : at ≡ behaviour_at s first) {x : Reached} (o : Offers s c 0 i at n x) where
-  abbrev bodies : moves.Reached
-  bodies = served p i (branches_from s (behaviour_of s) first n)
-
-  some-branches : (y : moves.Reached) → 1 ≤ n → in_branches n y ≡ y
-  some-branches y l = by n l
-    where
-      by : (n : ℕ) → 1 ≤ n → in_branches n y ≡ y
-      by zero l = absurd (omega arith)
-      by (suc n) l = refl
-
-  first-input : (y : moves.Reached) → reached_as s x ≡ y → 1 ≤ n → or_else (offer c 0 i (branches_from s (behaviour_of s) first n)) bodies ≡ or_else y bodies
-  first-input y q l = ap (λ (z : moves.Reached). or_else z bodies) (sym (some-branches _ l) ∙ sym (o.tells first e) ∙ q)
-
-  pub inputs-reached : {m : ℕ} → x ≡ Reached.Reached m → ReachesInputs s p i c first n left (Reached.Reached m)
-  inputs-reached {m} q = record { tells = λ w z l b. sym (first-input (reached (behaviour_of s m)) (ap (reached_as s) q) z) }
-
-  pub inputs-offered : {d k m : ℕ} → x ≡ Reached.Offered d k m → ReachesInputs s p i c first n left (Reached.Offered d k m)
-  inputs-offered {d} {k} {m} q = record { tells = λ w z l b. sym (first-input (offered d k (behaviour_of s m)) (ap (reached_as s) q) z) }
-
-  pub inputs-served : {y : Reached} → x ≡ Reached.Unreached → ReachesServed s p i at n left y → ReachesInputs s p i c first n left y
-  inputs-served q r = record {
-    tells = λ w z l b. r.tells w first e b ∙ some-branches bodies z ∙ sym (first-input unreached (ap (reached_as s) q) z);
-  }
-
-pub ruleset reach-inputs-laws = (inputs-many, inputs-reached, inputs-offered, inputs-served)
-
-pub reach-whole : (s : List ℕ) (p : Progresses) (i r : ℕ) {n : ℕ} {x : Reached} → n ≡ behaviour_count s → ReachesRow s p i r n x → ReachTells s p i r x
-reach-whole s p i r e o = record { tells = λ w l. o.tells w (record { exists = l; enough = omega (arith, e) }) }
-
-pub ruleset reach-laws = (reach-whole)
+pub ruleset reach-served-laws = (served-found, served-next)

@@ -2,24 +2,16 @@
 // from the slot of the state that starts at `slot`. Sub-behaviours are later rows: `left` counts the rows left, so the walks end on any bytes.
 #![tactic(auto)]
 
-ghost use Rattle.std.specs.Prelude.{◌≡◌, ◌+◌, ◌*◌, ◌<◌, ◌≤◌, true, false};
+ghost use Rattle.std.specs.Prelude.{◌≡◌, ◌+◌, ◌*◌, ◌<◌, ◌≤◌, true, false, Some, None};
 ghost use Rattle.network.specs.Decode.{behaviour_to, behaviour_of};
 ghost use Rattle.network_rows.specs.declared.BehaviourRow.{BehaviourRow};
 ghost use Rattle.state.specs.Bytes.{read_session};
 ghost use Rattle.move_rules.specs.Readiness.{unless_done, unless_received, unless_taken, is_done};
-ghost use Rattle.move_readiness.specs.declared.Part.{Part};
 ghost use Rattle.move_readiness.specs.Parts.{branch_row_at, branch_deciders, deciders_in, deciders_of, in_order, branch_ways, ways_in, ways_of};
 ghost use Rattle.move_readiness.specs.Reaching.{Offers, ReachesReceived, ReachesServed, ReachesInputs, ReachesRow, ReachTells};
 
 use network_rows::BehaviourRow;
 use state_progress::Progress;
-
-// The part of a row that is taken.
-#[derive(Clone, Copy)]
-pub enum Part {
-    Nothing,
-    Taken(u8),
-}
 
 // Whether a row is done, or the rows that decide it: that one, or both.
 #[derive(Clone, Copy)]
@@ -52,13 +44,7 @@ fn marked_done(state: &[u8], slot: usize, r: u16) -> bool
     requires { slot < 65536 }
     ensures { result ≡ unless_done ((read_session state.now slot).progress r) false true }
 {
-    match state_progress::row_progress(state, slot, r) {
-        Progress::Undone => false,
-        Progress::Done => true,
-        Progress::Waits => false,
-        Progress::Taken(_) => false,
-        Progress::Received(_) => false,
-    }
+    matches!(state_progress::row_progress(state, slot, r), Progress::Done)
 }
 
 // Was the row received?
@@ -66,40 +52,32 @@ fn marked_received(state: &[u8], slot: usize, r: u16) -> bool
     requires { slot < 65536 }
     ensures { result ≡ unless_received ((read_session state.now slot).progress r) false true }
 {
-    match state_progress::row_progress(state, slot, r) {
-        Progress::Undone => false,
-        Progress::Done => false,
-        Progress::Waits => false,
-        Progress::Taken(_) => false,
-        Progress::Received(_) => true,
-    }
+    matches!(
+        state_progress::row_progress(state, slot, r),
+        Progress::Received(_)
+    )
 }
 
-fn taken_part(state: &[u8], slot: usize, r: u16) -> Part
+fn taken_part(state: &[u8], slot: usize, r: u16) -> Option<u8>
     requires { slot < 65536 }
-    ensures { result ≡ unless_taken ((read_session state.now slot).progress r) Part.Nothing Part.Taken }
+    ensures { result ≡ unless_taken ((read_session state.now slot).progress r) None Some }
 {
     match state_progress::row_progress(state, slot, r) {
-        Progress::Undone => Part::Nothing,
-        Progress::Done => Part::Nothing,
-        Progress::Waits => Part::Nothing,
-        Progress::Taken(k) => Part::Taken(k),
-        Progress::Received(_) => Part::Nothing,
+        Progress::Taken(k) => Some(k),
+        _ => None,
     }
 }
 
 // The place of the branch k of the n from row `first` on; past the last one, the last.
+#[tactic(auto, unfolding(crate::specs::Parts::branch_row_at, network::specs::Layout::behaviour_at))]
 fn branch_at(file: &[u8], first: u16, n: u16, k: u8) -> usize
     requires { 0 < n }
     ensures { (result ≡ branch_row_at file.now first n k) × (result < 2000000) }
 {
-    let start = network_layout::behaviour_at(file, first);
-    if wire::byte_to_u16(k) < n {
-        return start + 10 * wire::wide(k);
-    }
-    start + 10 * (wire::index(n) - 1)
+    network_layout::behaviour_at(file, first) + 10 * usize::from(u16::from(k).min(n - 1))
 }
 
+#[tactic(auto, unfolding(crate::specs::Parts::branch_deciders))]
 fn branch_deciders(file: &[u8], first: u16, n: u16, k: u8) -> Deciders
     ensures { result ≡ branch_deciders file.now first n k }
 {
@@ -110,49 +88,47 @@ fn branch_deciders(file: &[u8], first: u16, n: u16, k: u8) -> Deciders
     Deciders::Both(b.input, b.follow)
 }
 
+#[tactic(auto, unfolding(crate::specs::Parts::deciders_in))]
 fn choice_deciders(file: &[u8], state: &[u8], slot: usize, r: u16, first: u16, n: u16) -> Deciders
     requires { slot < 65536 }
     ensures { result ≡ deciders_in file.now ((read_session state.now slot).progress r) (BehaviourRow.Choice first n) }
 {
     match taken_part(state, slot, r) {
-        Part::Nothing => Deciders::Settled(false),
-        Part::Taken(k) => branch_deciders(file, first, n, k),
+        None => Deciders::Settled(false),
+        Some(k) => branch_deciders(file, first, n, k),
     }
 }
 
+#[tactic(auto, unfolding(crate::specs::Parts::deciders_in))]
 fn if_deciders(file: &[u8], state: &[u8], slot: usize, r: u16, e: u16, a: u16, b: u16) -> Deciders
     requires { slot < 65536 }
     ensures { result ≡ deciders_in file.now ((read_session state.now slot).progress r) (BehaviourRow.If e a b) }
 {
     match taken_part(state, slot, r) {
-        Part::Nothing => Deciders::Settled(false),
-        Part::Taken(k) => {
-            if k == 0 {
-                return Deciders::One(a);
-            }
-            Deciders::One(b)
-        }
+        None => Deciders::Settled(false),
+        Some(0) => Deciders::One(a),
+        Some(_) => Deciders::One(b),
     }
 }
 
+#[tactic(auto, unfolding(crate::specs::Parts::deciders_of, crate::specs::Parts::deciders_in))]
 fn deciders_of(file: &[u8], state: &[u8], slot: usize, r: u16) -> Deciders
     requires { slot < 65536 }
     ensures { result ≡ deciders_of file.now (read_session state.now slot).progress r }
 {
     match network_rows::behaviour_row(file, r) {
-        BehaviourRow::Nil => Deciders::Settled(true),
-        BehaviourRow::OneWay(_, _) => Deciders::Settled(marked_done(state, slot, r)),
-        BehaviourRow::RequestResponse(_, _, _, _) => Deciders::Settled(marked_done(state, slot, r)),
-        BehaviourRow::Notification(_, _) => Deciders::Settled(marked_done(state, slot, r)),
-        BehaviourRow::SolicitResponse(_, _, _) => Deciders::Settled(marked_done(state, slot, r)),
+        BehaviourRow::OneWay(..)
+        | BehaviourRow::RequestResponse(..)
+        | BehaviourRow::Notification(..)
+        | BehaviourRow::SolicitResponse(..)
+        | BehaviourRow::While(..)
+        | BehaviourRow::Assign(..) => Deciders::Settled(marked_done(state, slot, r)),
         BehaviourRow::If(e, a, b) => if_deciders(file, state, slot, r, e, a, b),
-        BehaviourRow::While(_, _) => Deciders::Settled(marked_done(state, slot, r)),
-        BehaviourRow::Sequence(a, b) => Deciders::Both(a, b),
-        BehaviourRow::Parallel(a, b) => Deciders::Both(a, b),
-        BehaviourRow::Assign(_, _) => Deciders::Settled(marked_done(state, slot, r)),
+        BehaviourRow::Sequence(a, b) | BehaviourRow::Parallel(a, b) => Deciders::Both(a, b),
         BehaviourRow::Choice(first, n) => choice_deciders(file, state, slot, r, first, n),
-        BehaviourRow::Branch(_, _) => Deciders::Settled(true),
-        BehaviourRow::Unknown => Deciders::Settled(true),
+        BehaviourRow::Nil | BehaviourRow::Branch(..) | BehaviourRow::Unknown => {
+            Deciders::Settled(true)
+        }
     }
 }
 
@@ -168,15 +144,13 @@ fn done_row(file: &[u8], state: &[u8], slot: usize, r: u16, left: u16) -> bool
         Deciders::Settled(x) => x,
         Deciders::One(a) => done_row(file, state, slot, a, left - 1),
         Deciders::Both(a, b) => {
-            if done_row(file, state, slot, a, left - 1) {
-                return done_row(file, state, slot, b, left - 1);
-            }
-            false
+            done_row(file, state, slot, a, left - 1) && done_row(file, state, slot, b, left - 1)
         }
     }
 }
 
 // Is B row r done? In a file in which each row is used once every row below r is looked at once at most.
+#[tactic(auto, unfolding(network::specs::Decode::behaviour_of))]
 pub fn is_done(file: &[u8], state: &[u8], slot: usize, r: u16) -> bool
     requires { slot < 65536 }
     ensures { result ≡ is_done (read_session state.now slot).progress (behaviour_of file.now r) }
@@ -185,6 +159,7 @@ pub fn is_done(file: &[u8], state: &[u8], slot: usize, r: u16) -> bool
 }
 
 // Through the first, and the second if the first is done.
+#[tactic(auto, unfolding(crate::specs::Parts::in_order))]
 fn in_order(file: &[u8], state: &[u8], slot: usize, a: u16, b: u16) -> Ways
     requires { slot < 65536 }
     ensures { result ≡ in_order file.now (read_session state.now slot).progress a b }
@@ -195,6 +170,7 @@ fn in_order(file: &[u8], state: &[u8], slot: usize, a: u16, b: u16) -> Ways
     Ways::One(a)
 }
 
+#[tactic(auto, unfolding(crate::specs::Parts::branch_ways))]
 fn branch_ways(file: &[u8], state: &[u8], slot: usize, first: u16, n: u16, k: u8) -> Ways
     requires { slot < 65536 }
     ensures { result ≡ branch_ways file.now (read_session state.now slot).progress first n k }
@@ -206,41 +182,41 @@ fn branch_ways(file: &[u8], state: &[u8], slot: usize, first: u16, n: u16, k: u8
     in_order(file, state, slot, b.input, b.follow)
 }
 
+#[tactic(auto, unfolding(crate::specs::Parts::ways_in))]
 fn choice_ways(file: &[u8], state: &[u8], slot: usize, r: u16, first: u16, n: u16) -> Ways
     requires { slot < 65536 }
     ensures { result ≡ ways_in file.now (read_session state.now slot).progress r (BehaviourRow.Choice first n) }
 {
     match taken_part(state, slot, r) {
-        Part::Nothing => Ways::Inputs(first, n),
-        Part::Taken(k) => branch_ways(file, state, slot, first, n, k),
+        None => Ways::Inputs(first, n),
+        Some(k) => branch_ways(file, state, slot, first, n, k),
     }
 }
 
+#[tactic(auto, unfolding(crate::specs::Parts::ways_in))]
 fn if_ways(file: &[u8], state: &[u8], slot: usize, r: u16, e: u16, a: u16, b: u16) -> Ways
     requires { slot < 65536 }
     ensures { result ≡ ways_in file.now (read_session state.now slot).progress r (BehaviourRow.If e a b) }
 {
     match taken_part(state, slot, r) {
-        Part::Nothing => Ways::Nowhere,
-        Part::Taken(k) => {
-            if k == 0 {
-                return Ways::One(a);
-            }
-            Ways::One(b)
-        }
+        None => Ways::Nowhere,
+        Some(0) => Ways::One(a),
+        Some(_) => Ways::One(b),
     }
 }
 
+#[tactic(auto, unfolding(crate::specs::Parts::ways_in))]
 fn while_ways(file: &[u8], state: &[u8], slot: usize, r: u16, e: u16, b: u16) -> Ways
     requires { slot < 65536 }
     ensures { result ≡ ways_in file.now (read_session state.now slot).progress r (BehaviourRow.While e b) }
 {
     match taken_part(state, slot, r) {
-        Part::Nothing => Ways::Nowhere,
-        Part::Taken(_) => Ways::One(b),
+        None => Ways::Nowhere,
+        Some(_) => Ways::One(b),
     }
 }
 
+#[tactic(auto, unfolding(crate::specs::Parts::ways_in))]
 fn response_ways(
     file: &[u8],
     state: &[u8],
@@ -260,43 +236,36 @@ fn response_ways(
     Ways::Nowhere
 }
 
+#[tactic(auto, unfolding(crate::specs::Parts::ways_of, crate::specs::Parts::ways_in))]
 fn ways_of(file: &[u8], state: &[u8], slot: usize, r: u16) -> Ways
     requires { slot < 65536 }
     ensures { result ≡ ways_of file.now (read_session state.now slot).progress r }
 {
     match network_rows::behaviour_row(file, r) {
-        BehaviourRow::Nil => Ways::Nowhere,
-        BehaviourRow::OneWay(_, _) => Ways::Nowhere,
         BehaviourRow::RequestResponse(o, p, c, d) => response_ways(
             file, state, slot, r, o, p, c, d,
         ),
-        BehaviourRow::Notification(_, _) => Ways::Nowhere,
-        BehaviourRow::SolicitResponse(_, _, _) => Ways::Nowhere,
         BehaviourRow::If(e, a, b) => if_ways(file, state, slot, r, e, a, b),
         BehaviourRow::While(e, b) => while_ways(file, state, slot, r, e, b),
         BehaviourRow::Sequence(a, b) => in_order(file, state, slot, a, b),
         BehaviourRow::Parallel(a, b) => Ways::Two(a, b),
-        BehaviourRow::Assign(_, _) => Ways::Nowhere,
         BehaviourRow::Choice(first, n) => choice_ways(file, state, slot, r, first, n),
-        BehaviourRow::Branch(_, _) => Ways::Nowhere,
-        BehaviourRow::Unknown => Ways::Nowhere,
+        _ => Ways::Nowhere,
     }
 }
 
-// "each input of a ready choice": the input i among the n branches, whose rows stand from `at` on, of the choice c; k stand before.
-fn offer(file: &[u8], c: u16, k: u8, i: u16, at: usize, n: u8) -> Reached
-    requires { (k + n < 256) × (at + 10 * n < 2000000) }
-    ensures { Offers file.now c k i at n result }
+// "each input of a ready choice": the input i among the n branches, whose rows stand from `at` on, of the choice c.
+fn offer(file: &[u8], c: u16, i: u16, at: usize, n: u8) -> Reached
+    requires { at + 10 * n < 2000000 }
+    ensures { Offers file.now c 0 i at n result }
 {
-    if n == 0 {
-        return Reached::Unreached;
+    for k in 0..n {
+        let a = network_rows::branch_at(file, at + 10 * usize::from(k)).input;
+        if i == a {
+            return Reached::Offered(c, k, a);
+        }
     }
-    let b = network_rows::branch_at(file, at);
-    let a = b.input;
-    if i == a {
-        return Reached::Offered(c, k, a);
-    }
-    offer(file, c, k + 1, i, at + 10, n - 1)
+    Reached::Unreached
 }
 
 // The row i from input a down, if a is received.
@@ -328,11 +297,10 @@ fn reach_served(
     if n == 0 {
         return Reached::Unreached;
     }
-    let b = network_rows::branch_at(file, at);
-    match reach_received(file, state, slot, i, b.input, left) {
+    let a = network_rows::branch_at(file, at).input;
+    match reach_received(file, state, slot, i, a, left) {
         Reached::Unreached => reach_served(file, state, slot, i, at + 10, n - 1, left),
-        Reached::Reached(x) => Reached::Reached(x),
-        Reached::Offered(c, k, x) => Reached::Offered(c, k, x),
+        found => found,
     }
 }
 
@@ -355,10 +323,9 @@ fn reach_inputs(
         return Reached::Unreached;
     }
     let at = network_layout::behaviour_at(file, first);
-    match offer(file, r, 0, i, at, n as u8) {
+    match offer(file, r, i, at, n as u8) {
         Reached::Unreached => reach_served(file, state, slot, i, at, n as u8, left),
-        Reached::Reached(x) => Reached::Reached(x),
-        Reached::Offered(c, k, x) => Reached::Offered(c, k, x),
+        found => found,
     }
 }
 
@@ -379,8 +346,7 @@ fn reach_row(file: &[u8], state: &[u8], slot: usize, i: u16, r: u16, left: u16) 
         Ways::One(a) => reach_row(file, state, slot, i, a, left - 1),
         Ways::Two(a, b) => match reach_row(file, state, slot, i, a, left - 1) {
             Reached::Unreached => reach_row(file, state, slot, i, b, left - 1),
-            Reached::Reached(x) => Reached::Reached(x),
-            Reached::Offered(c, k, x) => Reached::Offered(c, k, x),
+            found => found,
         },
         Ways::Inputs(first, n) => reach_inputs(file, state, slot, i, r, first, n, left - 1),
     }

@@ -24,13 +24,13 @@ use Rattle.network_rows.specs.RowSyntax.{input_with}
 use Rattle.network_row_parts.specs.Behaviours.{InputKeptBy}
 use Rattle.network_row_parts.specs.KindLaws.{row-input-is}
 use Rattle.state.specs.Places.{slot_start, entry_start}
-use Rattle.state.specs.Session.{Progress, advance, Queued, Session, with_tree, with_queue, with_progress, live, State, set_slot}
+use Rattle.state.specs.Session.{Progress, Session, live, State, set_slot}
 use Rattle.state.specs.Bytes.{read_entry, read_session, slot_bytes}
 use Rattle.state.specs.Shape.{is_undone, WellMade}
 use Rattle.move_frame.specs.UndoneLaws.{if-undone}
 use Rattle.move_rules.specs.Readiness.{reach}
 use Rattle.move_rules.specs.Moves.{Result, refused, moved, not_allowed, require, if_undone, receive_message}
-use Rattle.state.specs.Queue.{QueueSplit, nothing, message, oldest}
+use Rattle.state.specs.Queue.{QueueSplit, message, oldest}
 use Rattle.scalar.specs.Value.{void_value}
 use Rattle.move_rules.specs.Moves.{receive_by, receive_at, receive_reached, receive_move}
 use Rattle.state.specs.Session.{received_by}
@@ -40,14 +40,13 @@ use Rattle.state_queues.specs.Queue.{without}
 use Rattle.move_readiness.specs.declared.Reached.{Reached}
 use Rattle.move_readiness.specs.Reaching.{reached_as, ReachTells}
 use Rattle.move_readiness.specs.ReachedLaws.{reaches-row, offered-row}
-use Rattle.move_frame.specs.declared.Running.{Running}
 use Rattle.move_frame.specs.Made.{StateOf, Made, InSession, Runs, RunsAt}
 use Rattle.move_frame.specs.MadeLaws.{made-refused, made-slot, in-session}
-use Rattle.move_receive.specs.declared.Settling.{Settling}
-use Rattle.move_receive.specs.declared.Taking.{Taking}
 use Rattle.move_receive.specs.Receiving.{settled_by, SettlesRow, stored_bytes, TakenAs, Takes, LeavesAs}
 use Rattle.move_receive.specs.Receiving.{input_receives, ReceivesInput, ReceivesAt}
 use Rattle.move_receive.proofs.Storing.{received_in, Small, stored-made, stored-live}
+use Rattle.std.specs.Prelude as std
+use Rattle.std.specs.Prelude.{Option, Some, None, Ok, Err}
 
 -- ---- what is left
 
@@ -76,11 +75,11 @@ operation-row : (file : List ℕ) (o : ℕ) → (operation_of file o).row ≡ o
 unfolding operation_of
 operation-row file o = refl
 
-settles-small : (file : List ℕ) → WellFormed file → (x : Settling) → SettlesRow file x → Small x
-settles-small file w Settling.Nothing l = tt
-settles-small file w (Settling.Branch c k) l = omega (arith, l, (counts-kept file w).behaviours)
+settles-small : (file : List ℕ) → WellFormed file → (x : Option (ℕ × ℕ)) → SettlesRow file x → Small x
+settles-small file w None l = tt
+settles-small file w (Some (c, k)) l = omega (arith, l, (counts-kept file w).behaviours)
 
-module _ (file s : List ℕ) (q slot i : ℕ) (x : Settling) (o p : ℕ) (two : Bool) {u : Bool} (is_u : u ≡ is_undone ((read_session s slot).progress i)) where
+module _ (file s : List ℕ) (q slot i : ℕ) (x : Option (ℕ × ℕ)) (o p : ℕ) (two : Bool) {u : Bool} (is_u : u ≡ is_undone ((read_session s slot).progress i)) where
   undone-here : (S : Session) → read_session s slot ≡ S → (t : Bool) → u ≡ t → is_undone (S.progress i) ≡ t
   undone-here S e t h = ap (λ (T : Session). is_undone (T.progress i)) (sym e) ∙ (sym is_u ∙ h)
 
@@ -109,7 +108,7 @@ module _ (file s : List ℕ) (q slot i : ℕ) (x : Settling) (o p : ℕ) (two : 
           (receive_message G q n f.session (path_of file p) (settled_by x f.session.progress) i (oldest o f.session.queue))) (not-true a g));
     }
 
-    module _ (g : not a ≡ false) {scratch : List ℕ} {v : Taking} (took : Takes file s slot o p scratch v) where
+    module _ (g : not a ≡ false) {scratch : List ℕ} {v : std.Result (ℕ × ℕ) Refusal} (took : Takes file s slot o p scratch v) where
       taking : (G : State) (n : ℕ) (S : Session) → read_session s slot ≡ S → (y : QueueSplit) → oldest o S.queue ≡ y
           → input_receives G q n S (settled_by x S.progress) i (operation_of file o) (path_of file p) two
           ≡ receive_message G q n S (path_of file p) (settled_by x S.progress) i y
@@ -119,30 +118,19 @@ module _ (file s : List ℕ) (q slot i : ℕ) (x : Settling) (o p : ℕ) (two : 
           (not-false a g)
           ∙ ap (receive_message G q n S (path_of file p) (settled_by x S.progress) i) z)
 
-      took-as : {t : Taking} → v ≡ t → WellFormed file → p < path_count file → {G : State} {n b : ℕ} (f : InSession file s G q n slot b)
+      took-as : {t : std.Result (ℕ × ℕ) Refusal} → v ≡ t → WellFormed file → p < path_count file → {G : State} {n b : ℕ} (f : InSession file s G q n slot b)
           → TakenAs file s slot o p scratch f.session t
       took-as {t} e w l f = subst (TakenAs file s slot o p scratch f.session) e (took.tells w l f.session f.living f.reads)
 
-      pub input-nothing : {r : Outcome} → v ≡ Taking.Nothing → r ≡ refused_by MoveNotAllowed → ReceivesInput file q slot i x o p two s s r
-      input-nothing z e = record {
-        tells = λ w G st n b f l j. leaves-refused MoveNotAllowed e (taking G n f.session f.reads nothing (took-as z w l f));
-      }
-
-      pub input-large : {r : Outcome} → v ≡ Taking.TooLarge → r ≡ refused_by Stuck → ReceivesInput file q slot i x o p two s s r
-      input-large z e = record {
+      pub input-refused : {why : Refusal} {r : Outcome} → v ≡ Err why → r ≡ refused_by why → ReceivesInput file q slot i x o p two s s r
+      input-refused {why} z e = record {
         tells = λ w G st n b f l j.
-            let y = took-as z w l f in
-            leaves-refused Stuck e
-            (taking G n f.session f.reads (message y.0 y.1) y.2
-            ∙ ap (λ (t : Bool). require t Stuck (moved (set_slot G q n (live (after G f.session y.0 y.1))) [])) y.3);
+            leaves-refused why e
+            (taking G n f.session f.reads (oldest o f.session.queue) refl
+            ∙ took-as z w l f G q n i (settled_by x f.session.progress));
       }
-        where
-          after : State → Session → Queued → List Queued → Session
-          after G S m l =
-              with_queue (with_progress (with_tree S (replace_at void_value (path_of file p) m.message S.tree))
-              (advance (settled_by x S.progress) i (received_by m.reply_to))) l
 
-      pub input-taken : {k m : ℕ} {y : Progress} {s' : List ℕ} {r : Outcome} → v ≡ Taking.Message k m → i < 256
+      pub input-taken : {k m : ℕ} {y : Progress} {s' : List ℕ} {r : Outcome} → v ≡ Ok (k, m) → i < 256
           → y ≡ received_by (read_entry s (entry_start slot k)).reply_to → s' ≡ stored_bytes s slot scratch m k x i y → r ≡ done_with 0
           → ReceivesInput file q slot i x o p two s s' r
       input-taken {k} {m} {y} {s'} {r} z low a' b' e = record {
@@ -163,7 +151,7 @@ module _ (file s : List ℕ) (q slot i : ℕ) (x : Settling) (o p : ℕ) (two : 
 
 -- ---- a row
 
-module _ (file s : List ℕ) (q slot i : ℕ) (x : Settling) where
+module _ (file s : List ℕ) (q slot i : ℕ) (x : Option (ℕ × ℕ)) where
   pub row-past : {r : Outcome} → 255 < i → r ≡ refused_by MoveNotAllowed → ReceivesAt file q slot i x s s r
   row-past h e = record { tells = λ w G st n b f l j. absurd (omega (arith, h, l, (counts-kept file w).behaviours)) }
 
@@ -201,13 +189,13 @@ pub ruleset row_laws = (row-past, row_other, row-one-way, row-request)
 
 -- ---- the move
 
-module _ (file s : List ℕ) (q n r : ℕ) {x : Running} (runs : RunsAt file s q n x) where
-  pub receive-nothing : {o : Outcome} → x ≡ Running.Nothing → o ≡ refused_by MoveNotAllowed → Made file (λ N G. receive_move N G q n r) s s o
+module _ (file s : List ℕ) (q n r : ℕ) {x : Option (ℕ × ℕ)} (runs : RunsAt file s q n x) where
+  pub receive-nothing : {o : Outcome} → x ≡ None → o ≡ refused_by MoveNotAllowed → Made file (λ N G. receive_move N G q n r) s s o
   receive-nothing e f =
       made-refused file (λ N G. receive_move N G q n r) f
       (λ w G st. subst (Runs file s G q n) e (runs.tells w G st) (λ B S. receive_reached G q n S (reach S.progress r B)))
 
-  module _ (at b : ℕ) (e : x ≡ Running.Session at b) {y : Reached} (reaches : ReachTells file (read_session s at).progress r b y) where
+  module _ (at b : ℕ) (e : x ≡ Some (at, b)) {y : Reached} (reaches : ReachTells file (read_session s at).progress r b y) where
     inside : WellFormed file → (G : State) → StateOf file s G → InSession file s G q n at b
     inside w G st = subst (Runs file s G q n) e (runs.tells w G st)
 
@@ -223,7 +211,7 @@ module _ (file s : List ℕ) (q n r : ℕ) {x : Running} (runs : RunsAt file s q
     pub receive-unreached : {o : Outcome} → y ≡ Reached.Unreached → o ≡ refused_by MoveNotAllowed → Made file (λ N G. receive_move N G q n r) s s o
     receive-unreached i f = made-refused file (λ N G. receive_move N G q n r) f (λ w G st. receiving w G st Reached.Unreached i)
 
-    pub receive-reached : (j : ℕ) {s' : List ℕ} {o : Outcome} → y ≡ Reached.Reached j → ReceivesAt file q at j Settling.Nothing s s' o
+    pub receive-reached : (j : ℕ) {s' : List ℕ} {o : Outcome} → y ≡ Reached.Reached j → ReceivesAt file q at j None s s' o
         → Made file (λ N G. receive_move N G q n r) s s' o
     receive-reached j i h = record {
       tells = λ w G st out.
@@ -232,7 +220,7 @@ module _ (file s : List ℕ) (q n r : ℕ) {x : Running} (runs : RunsAt file s q
           ∙ ap (finish s out) (sym (receiving w G st (Reached.Reached j) i));
     }
 
-    pub receive-offered : (c k j : ℕ) {s' : List ℕ} {o : Outcome} → y ≡ Reached.Offered c k j → ReceivesAt file q at j (Settling.Branch c k) s s' o
+    pub receive-offered : (c k j : ℕ) {s' : List ℕ} {o : Outcome} → y ≡ Reached.Offered c k j → ReceivesAt file q at j (Some (c, k)) s s' o
         → Made file (λ N G. receive_move N G q n r) s s' o
     receive-offered c k j i h = record {
       tells = λ w G st out.

@@ -27,8 +27,8 @@ use Rattle.state_slots.specs.SlotLaws.{row-set, tree_set, living-set, set-again,
 use Rattle.state_slots.specs.Living.{Living}
 use Rattle.state_slots.specs.Slots.{tree_stored}
 use Rattle.state_trees.specs.Changing.{KeptTree}
-use Rattle.move_receive.specs.declared.Settling.{Settling}
 use Rattle.move_receive.specs.Receiving.{settled_by, settled_bytes, stored_bytes}
+use Rattle.std.specs.Prelude.{Option, Some, None}
 
 -- ---- the input's progress once received
 
@@ -39,7 +39,7 @@ pub ruleset after-laws = (after-message)
 
 -- ---- the branch
 
-module _ (s : List ℕ) (slot : ℕ) {x : Settling} {c k : ℕ} (e : x ≡ Settling.Branch c k) where
+module _ (s : List ℕ) (slot : ℕ) {x : Option (ℕ × ℕ)} {c k : ℕ} (e : x ≡ Some (c, k)) where
   pub settle-branch : {s' : List ℕ} → c < 256 → s' ≡ row_stored s slot c (meaning (Taken k)) → s' ≡ settled_bytes s slot x
   settle-branch l f =
       f ∙ (sym (ap (λ (t : Bool). pick t (row_stored s slot c (taken k)) s) (lt-ltb c 256 l)) ∙ sym (ap (settled_bytes s slot) e))
@@ -50,20 +50,20 @@ module _ (s : List ℕ) (slot : ℕ) {x : Settling} {c k : ℕ} (e : x ≡ Settl
 
 -- ---- all stores
 
-pub stores : (s : List ℕ) (slot : ℕ) (tree : List ℕ) (n k : ℕ) (x : Settling) (i : ℕ) (y : Progress) {a b c d : List ℕ} → a ≡ tree_stored s slot tree n
+pub stores : (s : List ℕ) (slot : ℕ) (tree : List ℕ) (n k : ℕ) (x : Option (ℕ × ℕ)) (i : ℕ) (y : Progress) {a b c d : List ℕ} → a ≡ tree_stored s slot tree n
     → b ≡ removed a slot k → c ≡ settled_bytes b slot x → d ≡ row_stored c slot i y → d ≡ stored_bytes s slot tree n k x i y
 stores s slot tree n k x i y e f g h =
     h ∙ ap (λ (t : List ℕ). row_stored t slot i y)
     (g ∙ ap (λ (t : List ℕ). settled_bytes t slot x) (f ∙ ap (λ (t : List ℕ). removed t slot k) e))
 
 -- The session after a receive.
-abbrev pub received_in : Session → Forest Value → ℕ → Settling → ℕ → Progress → Session
+abbrev pub received_in : Session → Forest Value → ℕ → Option (ℕ × ℕ) → ℕ → Progress → Session
 received_in S F k x i y = with_progress (with_queue (with_tree S F) (without k S.queue)) (advance (settled_by x S.progress) i y)
 
 -- The choice of a settled branch has a place among the rows.
-abbrev pub Small : Settling → Type 0
-Small Settling.Nothing = Unit {0}
-Small (Settling.Branch c k) = c < 256
+abbrev pub Small : Option (ℕ × ℕ) → Type 0
+Small None = Unit {0}
+Small (Some (c, k)) = c < 256
 
 -- One change more.
 step-on : {s t u : List ℕ} {at : ℕ} {S : Session} → Living s at S → (S₁ S₂ : Session) → WellMade S₁ → WellMade S₂ → t ≡ with_part s at (slot_bytes (live S₁))
@@ -72,21 +72,21 @@ step-on {s} {t} {u} {at} h S₁ S₂ v w e f =
     let l : Living t at S₁ = subst (λ (z : List ℕ). Living z at S₁) (sym e) (living-set h S₁ v) in
     f l ∙ (ap (λ (z : List ℕ). with_part z at (slot_bytes (live S₂))) e ∙ set-again h S₁ (live S₂) v w)
 
-settled-made : {S : Session} → WellMade S → (x : Settling) → Small x → WellMade (with_progress S (settled_by x S.progress))
-settled-made w Settling.Nothing l = w
-settled-made {S} w (Settling.Branch c k) l =
+settled-made : {S : Session} → WellMade S → (x : Option (ℕ × ℕ)) → Small x → WellMade (with_progress S (settled_by x S.progress))
+settled-made w None l = w
+settled-made {S} w (Some (c, k)) l =
     made_row w c (taken k) l
 
-settled-set : {s : List ℕ} {at : ℕ} {S : Session} → Living s at S → (x : Settling) → Small x
+settled-set : {s : List ℕ} {at : ℕ} {S : Session} → Living s at S → (x : Option (ℕ × ℕ)) → Small x
     → settled_bytes s at x ≡ with_part s at (slot_bytes (live (with_progress S (settled_by x S.progress))))
-settled-set {s} {at} {S} h Settling.Nothing l = sym (row_same h)
+settled-set {s} {at} {S} h None l = sym (row_same h)
   where
     row_same : Living s at S → with_part s at (slot_bytes (live S)) ≡ s
     row_same h = ap (with_part s at) (sym h.bytes) ∙ part-back s at slot_size h.inside
-settled-set {s} {at} {S} h (Settling.Branch c k) l =
+settled-set {s} {at} {S} h (Some (c, k)) l =
     ap (λ (t : Bool). pick t (row_stored s at c (taken k)) s) (lt-ltb c 256 l) ∙ row-set h c (taken k) l
 
-module _ {s : List ℕ} {at : ℕ} {S : Session} (h : Living s at S) (o : List ℕ) (n k : ℕ) (x : Settling) (i : ℕ) (y : Progress) (F : Forest Value)
+module _ {s : List ℕ} {at : ℕ} {S : Session} (h : Living s at S) (o : List ℕ) (n k : ℕ) (x : Option (ℕ × ℕ)) (i : ℕ) (y : Progress) (F : Forest Value)
     (kept : KeptTree o n F) (few : k < length S.queue) (small : Small x) (l : i < 256) where
   abbrev S₁ : Session
   S₁ = with_tree S F

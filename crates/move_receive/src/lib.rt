@@ -11,53 +11,36 @@ ghost use Rattle.move_frame.specs.Made.{Made};
 ghost use Rattle.state_progress.specs.Meaning.{meaning};
 ghost use Rattle.move_receive.specs.Receiving.{settled_bytes, stored_bytes, Takes, ReceivesInput, ReceivesAt};
 
-use move_frame::Running;
 use move_readiness::Reached;
 use network_rows::InputRow;
 use refusal::{Outcome, Refusal};
 use state_progress::Progress;
-use state_queues::OldestEntry;
-use state_trees::Change;
 
-// What an input settles: nothing, or a branch of a choice, by the choice's row and the branch's number.
-#[derive(Clone, Copy)]
-pub enum Settling {
-    Nothing,
-    Branch(u16, u8),
-}
-
-// The message that is taken, by its entry in the queue and the length of the session's changed tree; or that there is none, or that the
-// tree would pass its limits.
-#[derive(Clone, Copy)]
-pub enum Taking {
-    Nothing,
-    TooLarge,
-    Message(usize, u16),
-}
-
-// The oldest message of O row o, and the session's tree with it at the path of P row p, in the scratch buffer.
-fn take(scratch: &mut [u8], file: &[u8], state: &[u8], slot: usize, o: u16, p: u16) -> Taking
+// The entry of the oldest message of O row o, and the length of the session's tree with it at the path of P row p, in the scratch buffer;
+// 15 without a message, 18 past a tree's limits.
+fn take(
+    scratch: &mut [u8],
+    file: &[u8],
+    state: &[u8],
+    slot: usize,
+    o: u16,
+    p: u16,
+) -> Result<(usize, u16), Refusal>
     requires { (slot + slot_size ≤ length state.now) × (2304 ≤ length scratch.old) }
     ensures { Takes file.now state.now slot o p scratch.new result }
 {
-    let OldestEntry::Entry(k) = state_queues::oldest(state, slot, o) else {
-        return Taking::Nothing;
-    };
+    let k = state_queues::oldest(state, slot, o).ok_or(Refusal::MoveNotAllowed)?;
     let m = state_queues::entry_message(state, slot, k);
-    let start = m.start;
-    let len = m.len;
-    if 336 < len {
-        return Taking::TooLarge;
+    if 336 < m.len {
+        return Err(Refusal::Stuck);
     }
-    let end = start + len;
+    let message = &state[m.start..m.start + m.len];
     let ids = network_rows::path_row(file, p);
-    let Change::Kept(n) = state_trees::replace(scratch, state, slot, ids, &state[start..end]) else {
-        return Taking::TooLarge;
-    };
+    let n = state_trees::replace(scratch, state, slot, ids, message).ok_or(Refusal::Stuck)?;
     if 1024 < n {
-        return Taking::TooLarge;
+        return Err(Refusal::Stuck);
     }
-    Taking::Message(k, n)
+    Ok((k, n))
 }
 
 // The input's progress once it has the message of the entry k.
@@ -69,16 +52,13 @@ fn progress_after(state: &[u8], slot: usize, k: usize) -> Progress
 }
 
 // "in a choice it settles the branch"
-fn settle(state: &mut [u8], slot: usize, x: Settling)
+fn settle(state: &mut [u8], slot: usize, x: Option<(u16, u8)>)
     requires { slot + slot_size ≤ length state.old }
     ensures { state.new ≡ settled_bytes state.old slot x }
 {
-    match x {
-        Settling::Nothing => {}
-        Settling::Branch(c, k) => {
-            if c < 256 {
-                state_progress::put_row(state, slot, c, Progress::Taken(k));
-            }
+    if let Some((c, k)) = x {
+        if c < 256 {
+            state_progress::put_row(state, slot, c, Progress::Taken(k));
         }
     }
 }
@@ -90,7 +70,7 @@ fn store(
     tree: &[u8],
     n: u16,
     k: usize,
-    x: Settling,
+    x: Option<(u16, u8)>,
     i: u16,
     y: Progress,
 )
@@ -110,7 +90,7 @@ fn receive_input(
     q: u16,
     slot: usize,
     i: u16,
-    x: Settling,
+    x: Option<(u16, u8)>,
     o: u16,
     p: u16,
     twoway: bool,
@@ -126,9 +106,8 @@ fn receive_input(
     }
     let mut scratch = [0u8; 2304];
     match take(&mut scratch, file, state, slot, o, p) {
-        Taking::Nothing => refusal::refused(Refusal::MoveNotAllowed),
-        Taking::TooLarge => refusal::refused(Refusal::Stuck),
-        Taking::Message(k, n) => {
+        Err(why) => refusal::refused(why),
+        Ok((k, n)) => {
             let y = progress_after(state, slot, k);
             store(state, slot, &scratch, n, k, x, i, y);
             refusal::done(0)
@@ -137,7 +116,14 @@ fn receive_input(
 }
 
 // The row i, if it is an input.
-fn receive_at(file: &[u8], state: &mut [u8], q: u16, slot: usize, i: u16, x: Settling) -> Outcome
+fn receive_at(
+    file: &[u8],
+    state: &mut [u8],
+    q: u16,
+    slot: usize,
+    i: u16,
+    x: Option<(u16, u8)>,
+) -> Outcome
     requires { (slot + slot_size ≤ length state.old) × (slot < 65536) }
     ensures { ReceivesAt file.now q slot i x state.old state.new result }
 {
@@ -158,12 +144,12 @@ pub fn receive_move(file: &[u8], state: &mut [u8], q: u16, n: u16, r: u16) -> Ou
     requires { length state.old ≡ 65536 }
     ensures { Made file.now (λ N G. receive_move N G q n r) state.old state.new result }
 {
-    let Running::Session(slot, b) = move_frame::session_at(file, state, q, n) else {
+    let Some((slot, b)) = move_frame::session_at(file, state, q, n) else {
         return refusal::refused(Refusal::MoveNotAllowed);
     };
     match move_readiness::reach(file, state, slot, r, b) {
         Reached::Unreached => refusal::refused(Refusal::MoveNotAllowed),
-        Reached::Reached(i) => receive_at(file, state, q, slot, i, Settling::Nothing),
-        Reached::Offered(c, k, i) => receive_at(file, state, q, slot, i, Settling::Branch(c, k)),
+        Reached::Reached(i) => receive_at(file, state, q, slot, i, None),
+        Reached::Offered(c, k, i) => receive_at(file, state, q, slot, i, Some((c, k))),
     }
 }

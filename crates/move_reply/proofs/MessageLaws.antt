@@ -19,7 +19,6 @@ use Rattle.tree.specs.Ids.{is_path}
 use Rattle.tree.specs.Ids as ids
 use Rattle.tree.specs.Standing.{Spot, Followed}
 use Rattle.tree.specs.StandingLaws.{encodes-root, root-good}
-use Rattle.tree.specs.declared.Found.{Found}
 use Rattle.tree_edit.specs.Wrote.{Wrote}
 use Rattle.tree_edit.specs.WroteLaws.{wrote-more, wrote-all-of, wrote_of}
 use Rattle.tree_edit.specs.Change.{alone, subtree_of}
@@ -35,12 +34,12 @@ use Rattle.state.proofs.SizeLaws.{session-tree-size}
 use Rattle.state_slots.specs.Slots.{tree_in}
 use Rattle.state_slots.specs.SlotLaws.{living-tree}
 use Rattle.state_slots.specs.Living.{Living}
-use Rattle.move_reply.specs.declared.Reply.{Reply}
 use Rattle.move_reply.specs.Replying.{ReadsReply}
+use Rattle.std.specs.Prelude.{Option, Some, None}
 
 -- ---- `read_reply`
 
-no_length : {n : ℕ} {A : Type 0} → Reply.Missing ≡ Reply.Message n → A
+no_length : {n : ℕ} {A : Type 0} → None ≡ Some n → A
 no_length e = absurd (let z : ◌≡◌ {A = ℕ} 0 1 = cc in omega arith)
 
 module _ (file s : List ℕ) (slot c : ℕ) {t is : List ℕ} (e : t ≡ tree_in s slot) (d : is ≡ path_ids file c) where
@@ -48,33 +47,33 @@ module _ (file s : List ℕ) (slot c : ℕ) {t is : List ℕ} (e : t ≡ tree_in
   encodes h = record { bytes = e ∙ living-tree h; good = h.made.bounded }
 
   missing : {o : List ℕ} → (network.WellFormed file → c < path_count file → (S : Session) → Living s slot S → read (path_of file c) S.tree ≡ absent)
-      → ReadsReply file s slot c o Reply.Missing
+      → ReadsReply file s slot c o None
   missing f = record { tells = f; inside = λ n e. no_length e }
 
-  pub read-long : {o : List ℕ} → 1024 < length t → ReadsReply file s slot c o Reply.Missing
+  pub read-long : {o : List ℕ} → 1024 < length t → ReadsReply file s slot c o None
   read-long l = missing (λ w p S h. absurd (omega (arith, l, ap length (e ∙ living-tree h), session-tree-size S.tree h.made.bounded)))
 
-  pub read-no-path : {o : List ℕ} {b : Bool} → b ≡ is_path is → not b ≡ true → ReadsReply file s slot c o Reply.Missing
+  pub read-no-path : {o : List ℕ} {b : Bool} → b ≡ is_path is → not b ≡ true → ReadsReply file s slot c o None
   read-no-path k n = missing (λ w p S h. unequal (k ∙ (ap is_path d ∙ ids-path file w c p)) n)
 
-  pub read-no-tree : {o : List ℕ} {b : Bool} → b ≡ is_tree 6 48 t → not b ≡ true → ReadsReply file s slot c o Reply.Missing
+  pub read-no-tree : {o : List ℕ} {b : Bool} → b ≡ is_tree 6 48 t → not b ≡ true → ReadsReply file s slot c o None
   read-no-tree k n =
       missing (λ w p S h. unequal (k ∙ ap (λ (l : Lookup Value). is_present l) (decode-complete session_levels session_nodes t (tree empty S.tree) (encodes h))) n)
 
-  module _ {f : Found} (l : Followed t is f) where
-    spot : {g : Found} → f ≡ g → network.WellFormed file → c < path_count file → (S : Session) → Living s slot S
+  module _ {f : Option ℕ} (l : Followed t is f) where
+    spot : {g : Option ℕ} → f ≡ g → network.WellFormed file → c < path_count file → (S : Session) → Living s slot S
         → Spot t (ids.last_id (ids.path_from_ids is)) g (read (path_of file c) S.tree)
     spot {g} k w p S h =
         subst (λ (x : Path). Spot t (ids.last_id (ids.path_from_ids is)) g (read x S.tree)) (ap ids.path_from_ids d ∙ path-is file c)
-        (subst (λ (y : Found). Spot t (ids.last_id (ids.path_from_ids is)) y (read (ids.path_from_ids is) S.tree)) k
+        (subst (λ (y : Option ℕ). Spot t (ids.last_id (ids.path_from_ids is)) y (read (ids.path_from_ids is) S.tree)) k
         (l.tells 0 (tree empty S.tree) (encodes-root session_levels session_nodes t (tree empty S.tree) (omega arith) (omega arith) (encodes h))
         (ap is_path d ∙ ids-path file w c p)))
 
-    pub read-nothing : {o : List ℕ} → f ≡ Found.Nothing → ReadsReply file s slot c o Reply.Missing
+    pub read-nothing : {o : List ℕ} → f ≡ None → ReadsReply file s slot c o None
     read-nothing k = missing (λ w p S h. spot k w p S h)
 
-    pub read-message : {o o' : List ℕ} {at n : ℕ} → f ≡ Found.At at → Wrote o o' 0 n n (subtree_of (ids.path_from_ids is) (decode 6 48 t))
-        → ReadsReply file s slot c o' (Reply.Message n)
+    pub read-message : {o o' : List ℕ} {at n : ℕ} → f ≡ Some at → Wrote o o' 0 n n (subtree_of (ids.path_from_ids is) (decode 6 48 t))
+        → ReadsReply file s slot c o' (Some n)
     read-message {o} {o'} {at} {n} k v = record {
       tells = λ w p S h.
           let z = spot k w p S h in

@@ -29,8 +29,8 @@ use Rattle.state_rows.specs.PartLaws.{row-stands}
 use Rattle.move_rules.specs.Readiness.{is_done}
 use Rattle.move_rules.specs.Moves.{Result, not_allowed, require, on_received, reply_to, reply_by, reply_at}
 use Rattle.move_waiting.specs.Waiting.{HasRow}
-use Rattle.move_reply.specs.declared.Replying.{Replying}
 use Rattle.move_reply.specs.Replying.{ReplyingAt}
+use Rattle.std.specs.Prelude.{Option, Some, None}
 
 -- ---- what a row answers
 
@@ -51,7 +51,7 @@ row-answers file N G q n S w b r l h =
 
 -- ---- `replying_at`
 
-nowhere : {o c : ℕ} {A : Type 0} → Replying.NotAllowed ≡ Replying.Row o c → A
+nowhere : {p : ℕ × ℕ} {A : Type 0} → None ≡ Some p → A
 nowhere e = absurd (let z : ◌≡◌ {A = ℕ} 0 1 = cc in omega arith)
 
 -- Whatever the destination, 15.
@@ -71,7 +71,7 @@ module _ (file s : List ℕ) (slot b q r : ℕ) {t : Bool} (h : HasRow file b r 
   abbrev S : Session
   S = read_session s slot
 
-  pub no-row : not t ≡ true → ReplyingAt file s slot b q r Replying.NotAllowed
+  pub no-row : not t ≡ true → ReplyingAt file s slot b q r None
   no-row y = record {
     tells = λ w l N G n. ap (λ (x : Optional Behaviour). reply_at N G q n S x) (row-absent r (behaviour_of file b) (sym (h.tells w l) ∙ not-true t y));
     exists = λ w l. tt;
@@ -82,14 +82,14 @@ module _ (file s : List ℕ) (slot b q r : ℕ) {t : Bool} (h : HasRow file b r 
     runs : WellFormed file → b < behaviour_count file → has_row r (behaviour_of file b) ≡ true
     runs w l = sym (h.tells w l) ∙ not-false t y
 
-    not-allowed : ((N : Network) (G : State) (n : ℕ) → answers file N G q n S r row ≡ not_allowed) → ReplyingAt file s slot b q r Replying.NotAllowed
+    not-allowed : ((N : Network) (G : State) (n : ℕ) → answers file N G q n S r row ≡ not_allowed) → ReplyingAt file s slot b q r None
     not-allowed g = record {
       tells = λ w l N G n. row-answers file N G q n S w b r l (runs w l) ∙ (ap (answers file N G q n S r) (sym e) ∙ g N G n);
       exists = λ w l. tt;
       small = λ o c e. nowhere e;
     }
 
-    pub no-request : OneOf (0 ∷ 1 ∷ []) (tag_of rows.the_type row) → ReplyingAt file s slot b q r Replying.NotAllowed
+    pub no-request : OneOf (0 ∷ 1 ∷ []) (tag_of rows.the_type row) → ReplyingAt file s slot b q r None
     no-request k = not-allowed (λ N G n. other N G n row k)
       where
         other : (N : Network) (G : State) (n : ℕ) (x : InputRow) → OneOf (0 ∷ 1 ∷ []) (tag_of rows.the_type x) → answers file N G q n S r x ≡ not_allowed
@@ -104,20 +104,20 @@ module _ (file s : List ℕ) (slot b q r : ℕ) {t : Bool} (h : HasRow file b r 
           ap (answers file N G q n S r) g
           ∙ ap (λ (z : Bool). on_received (S.progress r) (next file N G q n S r o c z (permits q input true (operation_of file o)))) (sym m)
 
-      pub not_done : not u ≡ true → ReplyingAt file s slot b q r Replying.NotAllowed
+      pub not_done : not u ≡ true → ReplyingAt file s slot b q r None
       not_done k =
           not-allowed (λ N G n. requests N G n
           ∙ (ap (λ (z : Bool). on_received (S.progress r) (next file N G q n S r o c z (permits q input true (operation_of file o)))) (not-true u k)
           ∙ refuses (S.progress r)))
 
       module _ (k : not u ≡ false) {v : Bool} (z : v ≡ permits q (direction_of true) true (operation_of file o)) where
-        pub not-permitted : not v ≡ true → ReplyingAt file s slot b q r Replying.NotAllowed
+        pub not-permitted : not v ≡ true → ReplyingAt file s slot b q r None
         not-permitted j =
             not-allowed (λ N G n. requests N G n
             ∙ (ap (λ (y : Bool). on_received (S.progress r) (next file N G q n S r o c u y)) (sym z ∙ not-true v j)
             ∙ either-refuses file N G q n S r o c u))
 
-        pub row-replies : not v ≡ false → ReplyingAt file s slot b q r (Replying.Row o c)
+        pub row-replies : not v ≡ false → ReplyingAt file s slot b q r (Some (o, c))
         row-replies j = record {
           tells = λ w l N G n.
               row-answers file N G q n S w b r l (runs w l) ∙ (ap (answers file N G q n S r) (sym e) ∙ (requests N G n

@@ -10,68 +10,50 @@ ghost use Rattle.move_rules.specs.Moves.{reply_move};
 ghost use Rattle.move_frame.specs.Made.{MadeOut};
 ghost use Rattle.move_reply.specs.Replying.{ReplyingAt, ReadsReply, RepliesOutside, RepliesInside};
 
-use move_frame::Running;
-use move_waiting::{Sender, Waiting};
+use move_waiting::Sender;
 use network_rows::InputRow;
-use refusal::{Outcome, Refusal, Verdict};
+use refusal::{Outcome, Refusal};
 use state_destinations::Destination;
 use state_progress::Progress;
-use tree::Found;
-
-// The O row and the P row of the reply path of a row whose body is done; or 15.
-#[derive(Clone, Copy)]
-pub enum Replying {
-    NotAllowed,
-    Row(u16, u16),
-}
-
-// The length of a tree that was written, or that there is none.
-#[derive(Clone, Copy)]
-pub enum Reply {
-    Message(usize),
-    Missing,
-}
 
 // Is row r of the session of service q in the slot, which runs B row b, a request-response whose body is done?
-fn replying_at(file: &[u8], state: &[u8], slot: usize, b: u16, q: u16, r: u16) -> Replying
+fn replying_at(file: &[u8], state: &[u8], slot: usize, b: u16, q: u16, r: u16) -> Option<(u16, u16)>
     requires { slot < 65536 }
     ensures { ReplyingAt file.now state.now slot b q r result }
 {
     if !move_waiting::has_row(file, b, r) {
-        return Replying::NotAllowed;
+        return None;
     }
     let InputRow::RequestResponse(o, _, c, d) = network_rows::input_of(file, r) else {
-        return Replying::NotAllowed;
+        return None;
     };
     if !move_readiness::is_done(file, state, slot, d) {
-        return Replying::NotAllowed;
+        return None;
     }
     if !check_operations::permits(file, q, true, true, o) {
-        return Replying::NotAllowed;
+        return None;
     }
-    Replying::Row(o, c)
+    Some((o, c))
 }
 
 // Writes what stands at the path of P row c in the session's tree to the start of out, as a tree alone.
-fn read_reply(out: &mut [u8], file: &[u8], state: &[u8], slot: usize, c: u16) -> Reply
+fn read_reply(out: &mut [u8], file: &[u8], state: &[u8], slot: usize, c: u16) -> Option<usize>
     requires { (slot + slot_size ≤ length state.now) × (tree_room ≤ length out.old) }
     ensures { ReadsReply file.now state.now slot c out.new result }
 {
     let s = state_slots::tree_of(state, slot);
     let ids = network_rows::path_row(file, c);
     if 1024 < s.len() {
-        return Reply::Missing;
+        return None;
     }
     if !tree::path_ok(ids) {
-        return Reply::Missing;
+        return None;
     }
     if !tree::is_tree(s, 6, 48) {
-        return Reply::Missing;
+        return None;
     }
-    let Found::At(_) = tree::follow(s, ids) else {
-        return Reply::Missing;
-    };
-    Reply::Message(tree_edit::subtree(out, s, ids))
+    tree::follow(s, ids)?;
+    Some(tree_edit::subtree(out, s, ids))
 }
 
 // Writes the reply number and the bytes of m to the start of out, and gives the place past them.
@@ -101,27 +83,18 @@ fn reply_outside(
         return refusal::refused(Refusal::BufferSize);
     }
     let mut m = [0u8; 1024];
-    let Reply::Message(n) = read_reply(&mut m, file, state, slot, c) else {
+    let Some(n) = read_reply(&mut m, file, state, slot, c) else {
         return refusal::refused(Refusal::Stuck);
     };
-    let v = move_fitting::passes(
-        &m[..n],
-        file,
-        network_rows::reply_type(file, o),
-        Refusal::MessageMisfit,
-    );
-    let Verdict::Done = v else {
-        return Outcome {
-            bytes: 0,
-            verdict: v,
-        };
-    };
+    let t = network_rows::reply_type(file, o);
+    if let Err(why) = move_fitting::passes(&m[..n], file, t, Refusal::MessageMisfit) {
+        return refusal::refused(why);
+    }
     if 508 < n {
         return refusal::refused(Refusal::MessageMisfit);
     }
     state_progress::put_row(state, slot, r, Progress::Done);
-    let e = put_answer(out, number, &m[..n]);
-    refusal::done(e)
+    refusal::done(put_answer(out, number, &m[..n]))
 }
 
 // Row r of the session in the slot replies to row r2 of session n2 of service q2 with what stands at the path of P row c.
@@ -138,28 +111,20 @@ fn reply_inside(
     requires { (length state.old ≡ 65536) × (slot + slot_size ≤ 65536) × (r < 256) }
     ensures { RepliesInside file.now state.old slot r c q2 n2 r2 state.new result }
 {
-    let Running::Session(to, b2) = move_frame::session_at(file, state, q2, n2) else {
+    let Some((to, b2)) = move_frame::session_at(file, state, q2, n2) else {
         return refusal::refused(Refusal::MoveNotAllowed);
     };
-    let Waiting::Row(o2, p) = move_waiting::waiting_at(file, state, to, b2, q2, r2) else {
+    let Some((o2, p)) = move_waiting::waiting_at(file, state, to, b2, q2, r2) else {
         return refusal::refused(Refusal::MoveNotAllowed);
     };
     let mut m = [0u8; 1024];
-    let Reply::Message(n) = read_reply(&mut m, file, state, slot, c) else {
+    let Some(n) = read_reply(&mut m, file, state, slot, c) else {
         return refusal::refused(Refusal::Stuck);
     };
-    let v = move_fitting::passes(
-        &m[..n],
-        file,
-        network_rows::reply_type(file, o2),
-        Refusal::MessageMisfit,
-    );
-    let Verdict::Done = v else {
-        return Outcome {
-            bytes: 0,
-            verdict: v,
-        };
-    };
+    let t = network_rows::reply_type(file, o2);
+    if let Err(why) = move_fitting::passes(&m[..n], file, t, Refusal::MessageMisfit) {
+        return refusal::refused(why);
+    }
     move_waiting::take_reply(file, state, Sender::Row(slot, r), to, r2, p, &m[..n])
 }
 
@@ -169,10 +134,10 @@ pub fn reply_move(file: &[u8], state: &mut [u8], out: &mut [u8], q: u16, n: u16,
     ensures { MadeOut file.now (λ N G. reply_move N G q n r) state.old state.new
         out.old out.new result }
 {
-    let Running::Session(slot, b) = move_frame::session_at(file, state, q, n) else {
+    let Some((slot, b)) = move_frame::session_at(file, state, q, n) else {
         return refusal::refused(Refusal::MoveNotAllowed);
     };
-    let Replying::Row(o, c) = replying_at(file, state, slot, b, q, r) else {
+    let Some((o, c)) = replying_at(file, state, slot, b, q, r) else {
         return refusal::refused(Refusal::MoveNotAllowed);
     };
     let Progress::Received(d) = state_progress::row_progress(state, slot, r) else {
@@ -186,8 +151,8 @@ pub fn reply_move(file: &[u8], state: &mut [u8], out: &mut [u8], q: u16, n: u16,
             slot,
             r,
             c,
-            wire::byte_to_u16(q2),
-            wire::byte_to_u16(n2),
+            u16::from(q2),
+            u16::from(n2),
             r2,
         ),
     }

@@ -5,8 +5,6 @@ use Rattle.std.specs.Prelude.{Bool, true, false, ◌&&◌, List, [], ◌∷◌, 
 use Rattle.basics.specs.Choice.{pick}
 use Rattle.refusal.specs.declared.Refusal.{Refusal}
 use Rattle.refusal.specs.declared.Refusal.TheVariants.{BufferSize, NoState}
-use Rattle.refusal.specs.declared.Verdict.{Verdict}
-use Rattle.refusal.specs.declared.Verdict.TheVariants.{Done, Refused}
 use Rattle.refusal.specs.declared.Outcome.{Outcome}
 use Rattle.refusal.specs.Refusal.{done_with, refused_by}
 use Rattle.network.specs.Form.{form_of}
@@ -18,6 +16,8 @@ use Rattle.state.specs.Session.{State}
 use Rattle.state.specs.Bytes.{state_bytes}
 use Rattle.state.specs.Shape.{decode_state}
 use Rattle.move_rules.specs.Moves.{Result, refused, moved, Move, move}
+use Rattle.std.specs.Prelude as std
+use Rattle.std.specs.Prelude.{Ok, Err}
 
 -- What a move on bytes leaves: its outcome, and both buffers.
 pub record Step : Type 0 where
@@ -36,9 +36,9 @@ finish state out (moved G bytes) =
     record { outcome = done_with (length bytes); state = state_bytes G; out = bytes ++ drop (length bytes) out }
 
 -- Refusals 2 to 5 come first.
-abbrev pub on_form : Verdict → List ℕ → List ℕ → Step → Step
-on_form Done state out r = r
-on_form (Refused why) state out r = refuse why state out
+abbrev pub on_form : std.Result (Unit {0}) Refusal → List ℕ → List ℕ → Step → Step
+on_form (Ok tt) state out r = r
+on_form (Err why) state out r = refuse why state out
 
 abbrev pub on_state : Optional State → List ℕ → List ℕ → (State → Step) → Step
 on_state none state out f = refuse NoState state out

@@ -21,8 +21,6 @@ use Rattle.tree_edit.specs.Wrote.{Wrote}
 use Rattle.tree_edit.specs.WroteLaws.{wrote-all, wrote-all-of}
 use Rattle.refusal.specs.declared.Refusal.{Refusal}
 use Rattle.refusal.specs.declared.Refusal.TheVariants.{MoveNotAllowed, Stuck, MessageMisfit, OutOfRange}
-use Rattle.refusal.specs.declared.Verdict.{Verdict}
-use Rattle.refusal.specs.declared.Verdict.TheVariants.{Done, Refused}
 use Rattle.refusal.specs.declared.Outcome.{Outcome}
 use Rattle.refusal.specs.Refusal.{done_with, refused_by}
 use Rattle.network_syntax.specs.Syntax.{MessageType, Network, Operation, Optional}
@@ -48,36 +46,35 @@ use Rattle.state_slots.specs.Slots.{tree_in}
 use Rattle.state_slots.specs.SlotLaws.{living-tree}
 use Rattle.state_slots.specs.Living.{Living}
 use Rattle.move_evaluation.specs.declared.Evaluated.{Evaluated}
-use Rattle.move_evaluation.specs.declared.Written.{Written}
-use Rattle.move_evaluation.specs.contracts.Written as written
+use Rattle.move_evaluation.specs.declared.Fault.{Fault}
+use Rattle.move_evaluation.specs.Condition.{refusal_of}
 use Rattle.move_evaluation.specs.Evaluated.{Evaluates}
 use Rattle.move_evaluation.specs.Writing.{bytes_written, WrittenAs, Writes}
 use Rattle.move_readiness.specs.declared.Reached as rows
 use Rattle.move_readiness.specs.contracts.Reached as reached
 use Rattle.move_readiness.specs.Reaching.{reached_as, ReachTells}
 use Rattle.move_readiness.specs.ReachedLaws.{reached-row}
-use Rattle.check_operations.specs.declared.Met.{Met}
 use Rattle.check_operations.specs.Meeting.{operation_met}
 use Rattle.check_operations.specs.MeetingLaws.{met-exists}
-use Rattle.move_frame.specs.declared.Running.{Running}
 use Rattle.move_frame.specs.Made.{StateOf, MadeOut, Runs, RunsAt}
 use Rattle.move_frame.specs.MadeLaws.{in-session, running, refused-step, made-out-refused}
 use Rattle.move_fitting.specs.Fitting.{Comes, fitting_tree, Passed, Passes}
 use Rattle.move_fitting.specs.FittingLaws.{value-comes}
 use Rattle.move_delivery.specs.declared.Arrival.{Arrival}
-use Rattle.move_delivery.specs.declared.Admission.{Admission}
 use Rattle.move_delivery.specs.Delivery.{MessageOffered, Known, AdmittedAs, Admits, Stores}
 use Rattle.move_delivery.specs.DeliveryLaws.{target-known}
 use Rattle.move_frame.specs.HoldingLaws.{gone-holding}
-use Rattle.move_send.specs.declared.Sending.{Sending}
 use Rattle.move_send.specs.Sending.{after_sending, reply_back, sending_as, SendRowsExist, SendingAt, WritesMessage, written_verdict, SendsOutside}
 use Rattle.move_send.specs.Sending.{SendsInside, SendsBy}
 use Rattle.state_progress.specs.Stored.{row_stored}
 use Rattle.state_progress.specs.StateLaws.{row-stored-length}
+use Rattle.std.specs.Prelude.{Option, Some, None}
+use Rattle.std.specs.Prelude as std
+use Rattle.std.specs.Prelude.{Ok, Err}
 
 -- ---- `write_message`
 
-pub message-written : (file s : List ℕ) (slot e : ℕ) {t : List ℕ} {x : Evaluated} {o o' : List ℕ} {y : Written} → t ≡ tree_in s slot → Evaluates file t e x
+pub message-written : (file s : List ℕ) (slot e : ℕ) {t : List ℕ} {x : Evaluated} {o o' : List ℕ} {y : std.Result ℕ Fault} → t ≡ tree_in s slot → Evaluates file t e x
     → Writes t x o o' y → length o' ≡ length o → WritesMessage file s slot e o' y
 message-written file s slot e {t} {x} {o} {o'} {y} q v h k = record {
   tells = λ w l S i.
@@ -86,41 +83,17 @@ message-written file s slot e {t} {x} {o} {o'} {y} q v h k = record {
   inside = omega (arith, h.inside, k);
 }
 
-pub message-inside : {file s : List ℕ} {slot e : ℕ} {o : List ℕ} {x : Written} {n : ℕ} → WritesMessage file s slot e o x → x ≡ Written.Tree n → n ≤ length o
+pub message-inside : {file s : List ℕ} {slot e : ℕ} {o : List ℕ} {x : std.Result ℕ Fault} {n : ℕ} → WritesMessage file s slot e o x → x ≡ Ok n → n ≤ length o
 message-inside h e = rw e at h.inside
 
 -- ---- what is offered
 
-pub length-tree : {w : Written} {n : ℕ} → w ≡ Written.Tree n → n ≡ bytes_written w
-length-tree e = ap bytes_written (sym e)
-
-pub length-missing : {w : Written} → w ≡ Written.Missing → 0 ≡ bytes_written w
-length-missing e = ap bytes_written (sym e)
-
-pub length-wrong : {w : Written} → w ≡ Written.Wrong → 0 ≡ bytes_written w
-length-wrong e = ap bytes_written (sym e)
-
-pub length-outside : {w : Written} → w ≡ Written.Outside → 0 ≡ bytes_written w
-length-outside e = ap bytes_written (sym e)
-
-pub verdict-tree : {w : Written} {n : ℕ} → w ≡ Written.Tree n → Done ≡ written_verdict w
-verdict-tree e = ap written_verdict (sym e)
-
-pub verdict-missing : {w : Written} → w ≡ Written.Missing → Refused Stuck ≡ written_verdict w
-verdict-missing e = ap written_verdict (sym e)
-
-pub verdict-wrong : {w : Written} → w ≡ Written.Wrong → Refused Stuck ≡ written_verdict w
-verdict-wrong e = ap written_verdict (sym e)
-
-pub verdict-outside : {w : Written} → w ≡ Written.Outside → Refused OutOfRange ≡ written_verdict w
-verdict-outside e = ap written_verdict (sym e)
-
-written-offers : (buf : List ℕ) (w : Written) (t : MessageType) (y : Evaluation (Tree Value)) → WrittenAs buf w y
+written-offers : (buf : List ℕ) (w : std.Result ℕ Fault) (t : MessageType) (y : Evaluation (Tree Value)) → WrittenAs buf w y
     → MessageOffered (written_verdict w) (take (bytes_written w) buf) MessageMisfit t (fitting_tree y t)
-written-offers buf (Written.Tree n) t y h = value-comes h.0 t y h.2 h.1
-written-offers buf Written.Missing t y h = λ k. ap (λ (z : Evaluation (Tree Value)). fitting_tree z t k) h
-written-offers buf Written.Wrong t y h = λ k. ap (λ (z : Evaluation (Tree Value)). fitting_tree z t k) h
-written-offers buf Written.Outside t y h = λ k. ap (λ (z : Evaluation (Tree Value)). fitting_tree z t k) h.1
+written-offers buf (Ok n) t y h = value-comes h.0 t y h.2 h.1
+written-offers buf (Err Fault.Missing) t y h = λ k. ap (λ (z : Evaluation (Tree Value)). fitting_tree z t k) h
+written-offers buf (Err Fault.Wrong) t y h = λ k. ap (λ (z : Evaluation (Tree Value)). fitting_tree z t k) h
+written-offers buf (Err Fault.Outside) t y h = λ k. ap (λ (z : Evaluation (Tree Value)). fitting_tree z t k) h.1
 
 request-is : (file : List ℕ) (o : ℕ) {r : ℕ} → r ≡ request_type file o → type_of file r ≡ (operation_of file o).request
 unfolding operation_of
@@ -163,59 +136,57 @@ module _ (file s : List ℕ) (slot i o e to : ℕ) (after : Progress) (out : Lis
         (ne_eqb to 0 f));
   }
 
-  module _ (zero : to ≡ 0) {buf : List ℕ} {x : Written} (k : WritesMessage file s slot e buf x) where
+  module _ (zero : to ≡ 0) {buf : List ℕ} {x : std.Result ℕ Fault} (k : WritesMessage file s slot e buf x) where
     evaluated : (G : State) (q n : ℕ) (S : Session) (y : Evaluation (Tree Value)) → evaluate S.tree (expression_of file e) ≡ y
         → send_outside (network_of file) G q n S to i (operation_of file o) (expression_of file e) after ≡ on_tree y (sends G q n S)
     evaluated G q n S y f =
         ap (λ (x : Bool). require x MoveNotAllowed (on_tree (evaluate S.tree (expression_of file e)) (sends G q n S))) (eq-eqb to 0 zero)
         ∙ ap (λ (l : Evaluation (Tree Value)). on_tree l (sends G q n S)) f
 
-    pub outside-unwritten : {v : Verdict} {a : Outcome} → OneOf (1 ∷ 2 ∷ 3 ∷ []) (tag_of written.the_type x) → v ≡ written_verdict x
-        → a ≡ record { bytes = 0; verdict = v } → SendsOutside file s slot i o e to after s out out a
-    outside-unwritten f d g = record {
+    pub outside-unwritten : {d : Fault} {a : Outcome} → x ≡ Err d → a ≡ refused_by (refusal_of d) → SendsOutside file s slot i o e to after s out out a
+    outside-unwritten {d} f g = record {
       tells = λ w lo le G st q n b h j.
           let y = evaluate h.session.tree (expression_of file e) in
-          let u = none x f G q n h.session y (k.tells w le h.session h.living) in
-          refused-step (g ∙ ap (λ (z : Verdict). record { bytes = 0; verdict = z }) (d ∙ u.1)) (evaluated G q n h.session y refl ∙ u.2);
+          let z = subst (λ (x : std.Result ℕ Fault). WrittenAs buf x y) f (k.tells w le h.session h.living) in
+          refused-step g (evaluated G q n h.session y refl ∙ none d G q n h.session y z);
     }
       where
-        none : (x : Written) → OneOf (1 ∷ 2 ∷ 3 ∷ []) (tag_of written.the_type x) → (G : State) (q n : ℕ) (S : Session) (y : Evaluation (Tree Value))
-            → WrittenAs buf x y → (why : Refusal) × (written_verdict x ≡ Refused why) × (on_tree y (sends G q n S) ≡ refused why)
-        none (Written.Tree n) f G q j S y h = absurd (miss (1 ∷ 2 ∷ 3 ∷ []) 0 tt f)
-        none Written.Missing f G q j S y h = (Stuck, refl, ap (λ (z : Evaluation (Tree Value)). on_tree z (sends G q j S)) h)
-        none Written.Wrong f G q j S y h = (Stuck, refl, ap (λ (z : Evaluation (Tree Value)). on_tree z (sends G q j S)) h)
-        none Written.Outside f G q j S y h = (OutOfRange, refl, ap (λ (z : Evaluation (Tree Value)). on_tree z (sends G q j S)) h.1)
+        none : (d : Fault) (G : State) (q n : ℕ) (S : Session) (y : Evaluation (Tree Value)) → WrittenAs buf (Err d) y
+            → on_tree y (sends G q n S) ≡ refused (refusal_of d)
+        none Fault.Missing G q j S y h = ap (λ (z : Evaluation (Tree Value)). on_tree z (sends G q j S)) h
+        none Fault.Wrong G q j S y h = ap (λ (z : Evaluation (Tree Value)). on_tree z (sends G q j S)) h
+        none Fault.Outside G q j S y h = ap (λ (z : Evaluation (Tree Value)). on_tree z (sends G q j S)) h.1
 
-    module _ {n : ℕ} (f : x ≡ Written.Tree n) (m : List ℕ) (t : m ≡ take n buf) {y : ℕ} (r : y ≡ request_type file o)
-        {v : Verdict} (p : Passes m file y MessageMisfit v) where
+    module _ {n : ℕ} (f : x ≡ Ok n) (m : List ℕ) (t : m ≡ take n buf) {y : ℕ} (r : y ≡ request_type file o)
+        {v : std.Result (Unit {0}) Refusal} (p : Passes m file y MessageMisfit v) where
       abbrev gone : State → ℕ → ℕ → Session → Tree Value → Result
       gone G q j S m = moved (gone_on G q j S i after) (message_bytes m)
 
-      passed : (u : Verdict) → v ≡ u → WellFormed file → o < operation_count file → e < expression_count file → (S : Session) → Living s slot S
+      passed : (u : std.Result (Unit {0}) Refusal) → v ≡ u → WellFormed file → o < operation_count file → e < expression_count file → (S : Session) → Living s slot S
           → Passed u m (fitting_tree (evaluate S.tree (expression_of file e)) (operation_of file o).request)
       passed u g w lo le S h =
           let y = evaluate S.tree (expression_of file e) in
-          let z = subst (λ (d : Written). WrittenAs buf d y) f (k.tells w le S h) in
+          let z = subst (λ (d : std.Result ℕ Fault). WrittenAs buf d y) f (k.tells w le S h) in
           let enc : Encodes session_levels session_nodes m z.0 = subst (λ (d : List ℕ). Encodes session_levels session_nodes d z.0) (sym t) z.2 in
-          subst (λ (d : Verdict). Passed d m (fitting_tree y (operation_of file o).request)) g
+          subst (λ (d : std.Result (Unit {0}) Refusal). Passed d m (fitting_tree y (operation_of file o).request)) g
           (p.tells w (subst (λ (d : ℕ). d < type_count file) (sym r) (operation-kept file w o lo).request.exists) (fitting_tree y (operation_of file o).request)
           (subst (λ (d : MessageType). Comes m MessageMisfit d (fitting_tree y (operation_of file o).request)) (sym (request-is file o r))
           (value-comes z.0 (operation_of file o).request y enc z.1)))
 
-      pub outside-not : {why : Refusal} {a : Outcome} → v ≡ Refused why → a ≡ record { bytes = 0; verdict = v }
+      pub outside-not : {why : Refusal} {a : Outcome} → v ≡ Err why → a ≡ refused_by why
           → SendsOutside file s slot i o e to after s out out a
       outside-not {why} g c = record {
         tells = λ w lo le G st q j b h l.
-            refused-step (c ∙ ap (λ (u : Verdict). record { bytes = 0; verdict = u }) g)
+            refused-step c
             (evaluated G q j h.session (evaluate h.session.tree (expression_of file e)) refl
-            ∙ passed (Refused why) g w lo le h.session h.living (gone G q j h.session));
+            ∙ passed (Err why) g w lo le h.session h.living (gone G q j h.session));
       }
 
-      module _ (g : v ≡ Done) where
+      module _ (g : v ≡ (Ok tt)) where
         pub outside-long : {a : Outcome} → n ≡ length m → 512 < n → SendsOutside file s slot i o e to after s out out a
         outside-long u c = record {
           tells = λ w lo le G st q j b h l.
-              let d = passed Done g w lo le h.session h.living in
+              let d = passed (Ok tt) g w lo le h.session h.living in
               absurd (omega (arith, c, u, ap length d.1.bytes, message-size d.0 d.1.good));
         }
 
@@ -224,7 +195,7 @@ module _ (file s : List ℕ) (slot i o e to : ℕ) (after : Progress) (out : Lis
             → SendsOutside file s slot i o e to after s₁ out out' a
         outside-done {s₁} {out'} {v} {a} ln l c wr₀ d = record {
           tells = λ w lo le G st q j b h len.
-              let k2 = passed Done g w lo le h.session h.living in
+              let k2 = passed (Ok tt) g w lo le h.session h.living in
               let wr : Wrote out out' 0 v v m = wrote-all-of (take_all n m (omega (arith, ln))) wr₀ in
               let bytes = message_bytes k2.0 in
               let eb : m ≡ bytes = k2.1.bytes in
@@ -251,7 +222,7 @@ pub put-length : (s : List ℕ) (slot i : ℕ) (after : Progress) {s₁ : List �
 put-length s slot i after l k j e =
     ap length e ∙ (row-stored-length s slot i after (omega (arith, l, k)) j ∙ l)
 
-module _ (file s : List ℕ) (slot i k e to : ℕ) (after : Progress) (back : Optional Destination) {buf m o : List ℕ} {w : Written} {n : ℕ} {own : Verdict} {x : Admission}
+module _ (file s : List ℕ) (slot i k e to : ℕ) (after : Progress) (back : Optional Destination) {buf m o : List ℕ} {w : std.Result ℕ Fault} {n : ℕ} {own : std.Result (Unit {0}) Refusal} {x : std.Result Arrival Refusal}
     (wm : WritesMessage file s slot e buf w) (ln : n ≡ bytes_written w) (ow : own ≡ written_verdict w) (lm : m ≡ take n buf)
     (ad : Admits file s k to m own MessageMisfit o x) where
   abbrev value : Session → Evaluation (Tree Value)
@@ -260,23 +231,23 @@ module _ (file s : List ℕ) (slot i k e to : ℕ) (after : Progress) (back : Op
   offered : WellFormed file → e < expression_count file → (S : Session) → Living s slot S
       → MessageOffered own m MessageMisfit (operation_of file k).request (fitting_tree (value S) (operation_of file k).request)
   offered wf le S h =
-      subst (λ (v : Verdict). MessageOffered v m MessageMisfit (operation_of file k).request (fitting_tree (value S) (operation_of file k).request)) (sym ow)
+      subst (λ (v : std.Result (Unit {0}) Refusal). MessageOffered v m MessageMisfit (operation_of file k).request (fitting_tree (value S) (operation_of file k).request)) (sym ow)
       (subst (λ (l : List ℕ). MessageOffered (written_verdict w) l MessageMisfit (operation_of file k).request (fitting_tree (value S) (operation_of file k).request))
       (sym (lm ∙ ap (λ (j : ℕ). take j buf) ln)) (written-offers buf w (operation_of file k).request (value S) (wm.tells wf le S h)))
 
-  admitted : {y : Admission} → x ≡ y → WellFormed file → k < operation_count file → e < expression_count file → (G : State) → StateOf file s G → (S : Session)
+  admitted : {y : std.Result Arrival Refusal} → x ≡ y → WellFormed file → k < operation_count file → e < expression_count file → (G : State) → StateOf file s G → (S : Session)
       → Living s slot S → AdmittedAs file G k to m o (fitting_tree (value S) (operation_of file k).request) y
   admitted f wf lo le G st S h =
       subst (AdmittedAs file G k to m o (fitting_tree (value S) (operation_of file k).request)) f
       (ad.tells wf lo G st (fitting_tree (value S) (operation_of file k).request) (offered wf le S h))
 
-  pub inside-not : {why : Refusal} {a : Outcome} → x ≡ Admission.Refused why → a ≡ refused_by why → SendsInside file s slot i k e to after back s a
+  pub inside-not : {why : Refusal} {a : Outcome} → x ≡ Err why → a ≡ refused_by why → SendsInside file s slot i k e to after back s a
   inside-not f g = record {
     tells = λ wf lo le G st q j b h out.
         refused-step g (admitted f wf lo le G st h.session h.living (gone_on G q j h.session i after) back);
   }
 
-  pub inside-sent : {y : Arrival} {s₁ s' : List ℕ} {a : Outcome} → x ≡ Admission.Admitted y → i < 256 → s₁ ≡ row_stored s slot i after
+  pub inside-sent : {y : Arrival} {s₁ s' : List ℕ} {a : Outcome} → x ≡ Ok y → i < 256 → s₁ ≡ row_stored s slot i after
       → Stores k back m o y s₁ s' → a ≡ done_with 0 → SendsInside file s slot i k e to after back s' a
   inside-sent {y} {s₁} {s'} f l eb d g = record {
     tells = λ wf lo le G st q j b h out.
@@ -315,45 +286,45 @@ module _ (file s : List ℕ) (slot i o e to : ℕ) (after : Progress) (back : Op
     tells = λ w lo le G st q n b h l. g.tells w lo le G st q n b h l ∙ ap (finish s out) (sym (by_place G q n h.session false (not-true x f)));
   }
 
-  module _ (f : not x ≡ false) (y : Met) (met : operation_met file y ≡ met_input (network_of file) (operation_of file o)) where
+  module _ (f : not x ≡ false) (y : Option ℕ) (met : operation_met file y ≡ met_input (network_of file) (operation_of file o)) where
     by-met : (G : State) (q n : ℕ) (S : Session) → send_by (network_of file) G q n S to i (operation_of file o) (expression_of file e) after back
         ≡ on_operation (operation_met file y) (send_inside (network_of file) G q n S to i (expression_of file e) after back)
     by-met G q n S =
         by_place G q n S true (not-false x f)
         ∙ ap (λ (z : Optional Operation). on_operation z (send_inside (network_of file) G q n S to i (expression_of file e) after back)) (sym met)
 
-    pub by-nothing : {a : Outcome} → y ≡ Met.Nothing → a ≡ refused_by MoveNotAllowed → SendsBy file s slot i o e to after back s out out a
+    pub by-nothing : {a : Outcome} → y ≡ None → a ≡ refused_by MoveNotAllowed → SendsBy file s slot i o e to after back s out out a
     unfolding operation_met
     by-nothing g c = record {
       tells = λ w lo le G st q n b h l.
           refused-step c (by-met G q n h.session
-          ∙ ap (λ (z : Met). on_operation (operation_met file z) (send_inside (network_of file) G q n h.session to i (expression_of file e) after back)) g);
+          ∙ ap (λ (z : Option ℕ). on_operation (operation_met file z) (send_inside (network_of file) G q n h.session to i (expression_of file e) after back)) g);
     }
 
-    pub by-inside : {k : ℕ} {s' : List ℕ} {a : Outcome} → y ≡ Met.Input k → SendsInside file s slot i k e to after back s' a
+    pub by-inside : {k : ℕ} {s' : List ℕ} {a : Outcome} → y ≡ Some k → SendsInside file s slot i k e to after back s' a
         → SendsBy file s slot i o e to after back s' out out a
     unfolding operation_met
     by-inside {k} g c = record {
       tells = λ w lo le G st q n b h l.
           c.tells w (met-exists file o k (ap (operation_met file) (sym g) ∙ met)) le G st q n b h out
           ∙ ap (finish s out) (sym (by-met G q n h.session
-          ∙ ap (λ (z : Met). on_operation (operation_met file z) (send_inside (network_of file) G q n h.session to i (expression_of file e) after back)) g));
+          ∙ ap (λ (z : Option ℕ). on_operation (operation_met file z) (send_inside (network_of file) G q n h.session to i (expression_of file e) after back)) g));
     }
 
 -- ---- `send_move`
 
-pub sending-small : {file s : List ℕ} {slot q i o e : ℕ} {two : Bool} {y : Sending} → SendingAt file s slot q i y → y ≡ Sending.Row o e two → i < 256
+pub sending-small : {file s : List ℕ} {slot q i o e : ℕ} {two : Bool} {y : Option (ℕ × ℕ × Bool)} → SendingAt file s slot q i y → y ≡ Some (o, e, two) → i < 256
 sending-small {o = o} {e = e} {two = two} h f = h.small o e two f
 
 module _ (file s out : List ℕ) (q n r to : ℕ) where
   abbrev makes : Network → State → Result
   makes N G = send_move N G q n r to
 
-  module _ {x : Running} (h : RunsAt file s q n x) where
-    pub move-nothing : {a : Outcome} → x ≡ Running.Nothing → a ≡ refused_by MoveNotAllowed → MadeOut file makes s s out out a
+  module _ {x : Option (ℕ × ℕ)} (h : RunsAt file s q n x) where
+    pub move-nothing : {a : Outcome} → x ≡ None → a ≡ refused_by MoveNotAllowed → MadeOut file makes s s out out a
     move-nothing e f = made-out-refused file makes f (λ w G st. subst (Runs file s G q n) e (h.tells w G st) _)
 
-    module _ {slot b : ℕ} (e : x ≡ Running.Session slot b) {y : rows.Reached} (k : ReachTells file (read_session s slot).progress r b y) where
+    module _ {slot b : ℕ} (e : x ≡ Some (slot, b)) {y : rows.Reached} (k : ReachTells file (read_session s slot).progress r b y) where
       reaching : (w : WellFormed file) (G : State) (st : StateOf file s G) → reached_as file y
           ≡ reach (running h e w G st).session.progress r (behaviour_of file b)
       reaching w G st =
@@ -376,7 +347,7 @@ module _ (file s out : List ℕ) (q n r to : ℕ) where
           other G S (rows.Reached.Reached i) k = absurd (miss (0 ∷ 2 ∷ []) 1 tt k)
           other G S (rows.Reached.Offered c j i) k = refl
 
-      module _ {i : ℕ} (g : y ≡ rows.Reached.Reached i) {z : Sending} (m : SendingAt file s slot q i z) where
+      module _ {i : ℕ} (g : y ≡ rows.Reached.Reached i) {z : Option (ℕ × ℕ × Bool)} (m : SendingAt file s slot q i z) where
         here : WellFormed file → (G : State) → StateOf file s G → i < behaviour_count file
         here w G st =
             reached-row file w (running h e w G st).session.progress b r i (running h e w G st).row (ap (reached_as file) (sym g) ∙ reaching w G st)
@@ -389,19 +360,19 @@ module _ (file s out : List ℕ) (q n r to : ℕ) where
             ∙ subst (λ (S : Session). send_at (network_of file) G q n S to (behaviour_of file i) ≡ sending_as file (network_of file) G q n S to i z) j.reads
             (m.tells w (here w G st) (network_of file) G n to))
 
-        pub move-not-sending : {a : Outcome} → z ≡ Sending.Nothing → a ≡ refused_by MoveNotAllowed → MadeOut file makes s s out out a
+        pub move-not-sending : {a : Outcome} → z ≡ None → a ≡ refused_by MoveNotAllowed → MadeOut file makes s s out out a
         move-not-sending c f =
             made-out-refused file makes f (λ w G st. move_row w G st
-            ∙ ap (λ (t : Sending). sending_as file (network_of file) G q n (running h e w G st).session to i t) c)
+            ∙ ap (λ (t : Option (ℕ × ℕ × Bool)). sending_as file (network_of file) G q n (running h e w G st).session to i t) c)
 
-        pub move-sends : {o c : ℕ} {two : Bool} {after : Progress} {back : Optional Destination} {s' out' : List ℕ} {a : Outcome} → z ≡ Sending.Row o c two
+        pub move-sends : {o c : ℕ} {two : Bool} {after : Progress} {back : Optional Destination} {s' out' : List ℕ} {a : Outcome} → z ≡ Some (o, c, two)
             → after ≡ after_sending two → back ≡ reply_back two (q % 256) (n % 256) i → SendsBy file s slot i o c to after back s' out out' a
             → MadeOut file makes s s' out out' a
         move-sends {o} {c} {two} {after} {back} f ea eb d = record {
           tells = λ w G st l.
               let j = running h e w G st in
               let N = network_of file in
-              let rows_in : SendRowsExist file (Sending.Row o c two) = subst (SendRowsExist file) f (m.exists w (here w G st)) in
+              let rows_in : SendRowsExist file (Some (o, c, two)) = subst (SendRowsExist file) f (m.exists w (here w G st)) in
               let eq : q % 256 ≡ q = omega (arith, j.service) in
               let en : n % 256 ≡ n = omega (arith, j.number) in
               let send : Progress → Optional Destination → Result = λ x y. send_by N G q n j.session to i (operation_of file o) (expression_of file c) x y in
@@ -409,11 +380,9 @@ module _ (file s out : List ℕ) (q n r to : ℕ) where
               eb ∙ (ap (λ (t : ℕ). reply_back two t (n % 256) i) eq ∙ ap (λ (t : ℕ). reply_back two q t i) en) in
               d.tells w rows_in.0 rows_in.1 G st q n b j l
               ∙ (ap (λ (t : Progress). finish s out (send t back)) ea ∙ (ap (λ (t : Optional Destination). finish s out (send (after_sending two) t)) eback
-              ∙ ap (finish s out) (sym (move_row w G st ∙ ap (λ (t : Sending). sending_as file N G q n j.session to i t) f))));
+              ∙ ap (finish s out) (sym (move_row w G st ∙ ap (λ (t : Option (ℕ × ℕ × Bool)). sending_as file N G q n j.session to i t) f))));
         }
 
 pub ruleset message-laws = (message-inside, prefix-length)
 
 pub ruleset outside-laws = (outside-short, outside-target, outside-unwritten, outside-not, outside-long, outside-done)
-
-pub ruleset offer-laws = (length-tree, length-missing, length-wrong, length-outside, verdict-tree, verdict-missing, verdict-wrong, verdict-outside)

@@ -11,52 +11,40 @@ ghost use Rattle.move_evaluation.specs.Writing.{bytes_written};
 ghost use Rattle.move_send.specs.Sending.{after_sending, reply_back, written_verdict, OutputAt, SendingAt, WritesMessage, SendsOutside, SendsInside, SendsBy};
 ghost use Rattle.state.specs.Places.{slot_size, tree_room};
 
-use check_operations::Met;
-use move_delivery::Admission;
-use move_evaluation::Written;
-use move_frame::Running;
+use move_evaluation::Fault;
 use move_readiness::Reached;
 use network_rows::OutputRow;
-use refusal::{Outcome, Refusal, Verdict};
-use state_destinations::{Destination, ReplyTo};
+use refusal::{Outcome, Refusal};
+use state_destinations::Destination;
 use state_progress::Progress;
 
-// What a row sends: its operation (O row), its message (E row) and whether it is two-way; or that it sends nothing.
-#[derive(Clone, Copy)]
-pub enum Sending {
-    Nothing,
-    Row(u16, u16, bool),
-}
-
 // B row i, if it is an output.
-fn output_at(file: &[u8], i: u16) -> Sending
+fn output_at(file: &[u8], i: u16) -> Option<(u16, u16, bool)>
     ensures { OutputAt file.now i result }
 {
     match network_rows::output_of(file, i) {
-        OutputRow::Notification(o, e) => Sending::Row(o, e, false),
-        OutputRow::SolicitResponse(o, e, _) => Sending::Row(o, e, true),
-        OutputRow::Nothing => Sending::Nothing,
+        OutputRow::Notification(o, e) => Some((o, e, false)),
+        OutputRow::SolicitResponse(o, e, _) => Some((o, e, true)),
+        OutputRow::Nothing => None,
     }
 }
 
 // What the reached row i of the session of service q in the slot may send.
-fn sending_at(file: &[u8], state: &[u8], slot: usize, q: u16, i: u16) -> Sending
+fn sending_at(file: &[u8], state: &[u8], slot: usize, q: u16, i: u16) -> Option<(u16, u16, bool)>
     requires { slot < 65536 }
     ensures { SendingAt file.now state.now slot q i result }
 {
     if 255 < i {
-        return Sending::Nothing;
+        return None;
     }
-    let Sending::Row(o, e, twoway) = output_at(file, i) else {
-        return Sending::Nothing;
-    };
+    let (o, e, twoway) = output_at(file, i)?;
     let Progress::Undone = state_progress::row_progress(state, slot, i) else {
-        return Sending::Nothing;
+        return None;
     };
     if !check_operations::permits(file, q, false, twoway, o) {
-        return Sending::Nothing;
+        return None;
     }
-    Sending::Row(o, e, twoway)
+    Some((o, e, twoway))
 }
 
 // The sender's progress once sent: done, or waiting for its reply.
@@ -70,17 +58,23 @@ fn after_sending(twoway: bool) -> Progress
 }
 
 // Where the reply goes: to the row i of session n of service q.
-fn reply_back(twoway: bool, q: u16, n: u16, i: u16) -> ReplyTo
+fn reply_back(twoway: bool, q: u16, n: u16, i: u16) -> Option<Destination>
     ensures { reply_of result ≡ reply_back twoway (q % 256) (n % 256) i }
 {
     if twoway {
-        return ReplyTo::To(Destination::WaitingRow((q % 256) as u8, (n % 256) as u8, i));
+        return Some(Destination::WaitingRow((q % 256) as u8, (n % 256) as u8, i));
     }
-    ReplyTo::Nobody
+    None
 }
 
 // Writes the value of E row e in the session's tree to the start of out, as a tree alone.
-fn write_message(out: &mut [u8], file: &[u8], state: &[u8], slot: usize, e: u16) -> Written
+fn write_message(
+    out: &mut [u8],
+    file: &[u8],
+    state: &[u8],
+    slot: usize,
+    e: u16,
+) -> Result<usize, Fault>
     requires { (slot + slot_size ≤ length state.now) × (tree_room ≤ length out.old) }
     ensures { WritesMessage file.now state.now slot e out.new result }
 {
@@ -111,21 +105,14 @@ fn send_outside(
         return refusal::refused(Refusal::MoveNotAllowed);
     }
     let mut m = [0u8; 1024];
-    let w = write_message(&mut m, file, state, slot, e);
-    let Written::Tree(n) = w else {
-        return Outcome {
-            bytes: 0,
-            verdict: message_verdict(w),
-        };
+    let n = match write_message(&mut m, file, state, slot, e) {
+        Ok(n) => n,
+        Err(fault) => return refusal::refused(move_evaluation::refusal_of(fault)),
     };
     let t = network_rows::request_type(file, o);
-    let v = move_fitting::passes(&m[..n], file, t, Refusal::MessageMisfit);
-    let Verdict::Done = v else {
-        return Outcome {
-            bytes: 0,
-            verdict: v,
-        };
-    };
+    if let Err(why) = move_fitting::passes(&m[..n], file, t, Refusal::MessageMisfit) {
+        return refusal::refused(why);
+    }
     if 512 < n {
         return refusal::refused(Refusal::MessageMisfit);
     }
@@ -134,25 +121,21 @@ fn send_outside(
 }
 
 // The length of the message, 0 where there is none; and what it answers itself, 18 or 22 where there is none.
-fn message_length(w: Written) -> usize
+fn message_length(w: Result<usize, Fault>) -> usize
     ensures { result ≡ bytes_written w }
 {
     match w {
-        Written::Tree(n) => n,
-        Written::Missing => 0,
-        Written::Wrong => 0,
-        Written::Outside => 0,
+        Ok(n) => n,
+        Err(_) => 0,
     }
 }
 
-fn message_verdict(w: Written) -> Verdict
+fn message_verdict(w: Result<usize, Fault>) -> Result<(), Refusal>
     ensures { result ≡ written_verdict w }
 {
     match w {
-        Written::Tree(_) => Verdict::Done,
-        Written::Missing => Verdict::Refused(Refusal::Stuck),
-        Written::Wrong => Verdict::Refused(Refusal::Stuck),
-        Written::Outside => Verdict::Refused(Refusal::OutOfRange),
+        Ok(_) => Ok(()),
+        Err(fault) => Err(move_evaluation::refusal_of(fault)),
     }
 }
 
@@ -166,7 +149,7 @@ fn send_inside(
     e: u16,
     to: u16,
     after: Progress,
-    back: ReplyTo,
+    back: Option<Destination>,
 ) -> Outcome
     requires { (length state.old ≡ 65536) × (slot + slot_size ≤ 65536) × (i < 256) }
     ensures { SendsInside file.now state.old slot i k e to (meaning after) (reply_of back) state.new result }
@@ -186,8 +169,8 @@ fn send_inside(
         own,
         Refusal::MessageMisfit,
     ) {
-        Admission::Refused(why) => refusal::refused(why),
-        Admission::Admitted(y) => {
+        Err(why) => refusal::refused(why),
+        Ok(y) => {
             state_progress::put_row(state, slot, i, after);
             move_delivery::store(state, k, back, &m[..n], y, &tree);
             refusal::done(0)
@@ -206,7 +189,7 @@ fn send_by(
     e: u16,
     to: u16,
     after: Progress,
-    back: ReplyTo,
+    back: Option<Destination>,
 ) -> Outcome
     requires { (length state.old ≡ 65536) × (slot + slot_size ≤ 65536) × (i < 256) }
     ensures { SendsBy file.now state.old slot i o e to (meaning after) (reply_of back) state.new
@@ -215,7 +198,7 @@ fn send_by(
     if !check_operations::in_file(file, network_rows::operation_location(file, o)) {
         return send_outside(file, state, out, slot, i, o, e, to, after);
     }
-    let Met::Input(k) = check_operations::met_input(file, o) else {
+    let Some(k) = check_operations::met_input(file, o) else {
         return refusal::refused(Refusal::MoveNotAllowed);
     };
     send_inside(file, state, slot, i, k, e, to, after, back)
@@ -235,13 +218,13 @@ pub fn send_move(
     ensures { MadeOut file.now (λ N G. send_move N G q n r to) state.old state.new
         out.old out.new result }
 {
-    let Running::Session(slot, b) = move_frame::session_at(file, state, q, n) else {
+    let Some((slot, b)) = move_frame::session_at(file, state, q, n) else {
         return refusal::refused(Refusal::MoveNotAllowed);
     };
     let Reached::Reached(i) = move_readiness::reach(file, state, slot, r, b) else {
         return refusal::refused(Refusal::MoveNotAllowed);
     };
-    let Sending::Row(o, e, twoway) = sending_at(file, state, slot, q, i) else {
+    let Some((o, e, twoway)) = sending_at(file, state, slot, q, i) else {
         return refusal::refused(Refusal::MoveNotAllowed);
     };
     let after = after_sending(twoway);

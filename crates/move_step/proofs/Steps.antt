@@ -1,15 +1,15 @@
 -- Each move of the stepper, by its code's promise; then the stepper's ways out.
-use mathlib.Core.Path.{◌≡◌, refl, sym, subst, ◌∙◌}
+use mathlib.Core.Path.{◌≡◌, refl, sym, ap, subst, ◌∙◌}
 use mathlib.Core.Bool.{Bool, true, false, not}
 use mathlib.Core.List.{List}
 use Prim.Native.Nat.{ℕ}
 use native.Mathlib.Omega.{arith}
 use Rattle.refusal.specs.declared.Outcome.{Outcome}
 use Rattle.basics.specs.Choice.{pick}
+use Rattle.refusal.specs.declared.Refusal.{Refusal}
+use Rattle.refusal.specs.Refusal.{refused_by}
 use Rattle.network_syntax.specs.Syntax.{none, some}
 use Rattle.network.specs.Form.{form_of, WellFormed}
-use Rattle.refusal.specs.declared.Verdict.{Verdict}
-use Rattle.refusal.specs.declared.Verdict.TheVariants.{Done}
 use Rattle.network.specs.Layout.{behaviour_count}
 use Rattle.network.specs.Decode.{network_of}
 use Rattle.state.specs.Bytes.{read_state}
@@ -19,6 +19,10 @@ use Rattle.move_rules.specs.Moves.{move, local_move, receive_move, send_move, re
 use Rattle.move_frame.specs.Made.{Made, MadeOut}
 use Rattle.move_step.specs.declared.Move as coded
 use Rattle.move_step.specs.Moves.{move_of}
+use Rattle.std.specs.Prelude.{Result, Ok, Err}
+
+pub as-refused : {o : Outcome} {v : Result (Unit {0}) Refusal} {why : Refusal} → v ≡ Err why → o ≡ refused_by why → o ≡ record { bytes = 0; verdict = v }
+as-refused e h = h ∙ ap (λ (u : Result (Unit {0}) Refusal). record { bytes = 0; verdict = u }) (sym e)
 
 module _ (file : List ℕ) (m : coded.Move) (outside : List ℕ) {s s' : List ℕ} {o : Outcome} where
   pub is-local : {out : List ℕ} (q n r : ℕ) → m ≡ coded.Move.Local q n r → Made file (λ N G. local_move N G q n r) s s' o
@@ -60,7 +64,7 @@ pub ruleset move-laws = (is-local, is-receive, is-send, is-reply, is-outside, is
 
 -- ---- 2 to 5, and 14
 
-pub well-formed : (file : List ℕ) {v : Verdict} → v ≡ form_of file → v ≡ Done → WellFormed file
+pub well-formed : (file : List ℕ) {v : Result (Unit {0}) Refusal} → v ≡ form_of file → v ≡ (Ok tt) → WellFormed file
 well-formed file f g = sym f ∙ g
 
 pub no-state : (file s : List ℕ) (x : Bool) → WellFormed file → Tells file s x → not x ≡ true → decode_state (network_of file) (behaviour_count file) s ≡ none

@@ -8,7 +8,7 @@ ghost use Rattle.move_rules.specs.Moves.{move};
 ghost use Rattle.move_frame.specs.Made.{MadeOut};
 ghost use Rattle.move_step.specs.Moves.{move_of};
 
-use refusal::{Outcome, Refusal, Verdict};
+use refusal::{Outcome, Refusal};
 
 // "A move names service, session and behaviour row"; a send also its target session, an outer message its operation's id, its target session
 // and its reply number.
@@ -53,13 +53,9 @@ pub fn step(file: &[u8], state: &mut [u8], out: &mut [u8], m: Move, outside: &[u
     if out.len() < 512 {
         return refusal::refused(Refusal::BufferSize);
     }
-    let v = network_form::form_of(file);
-    let Verdict::Done = v else {
-        return Outcome {
-            bytes: 0,
-            verdict: v,
-        };
-    };
+    if let Err(why) = network_form::form_of(file) {
+        return refusal::refused(why);
+    }
     tree::octets(state);
     if !state_shape::stands(file, state) {
         return refusal::refused(Refusal::NoState);

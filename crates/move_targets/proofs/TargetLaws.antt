@@ -1,5 +1,5 @@
 -- Laws of sessions as targets: one for each way out of the functions.
-use Prim.Native.Nat.{ℕ, zero, suc, ◌+◌, ◌-◌, ◌<◌, ◌≤◌}
+use Prim.Native.Nat.{ℕ, zero, suc, ◌+◌, ◌-◌, ◌<◌, ◌≤◌, ◌*◌}
 use mathlib.Core.Path.{◌≡◌, refl, sym, ◌∙◌, ap, subst}
 use mathlib.Core.List.{List, [], ◌∷◌}
 use mathlib.Core.Bool.{Bool, true, false, not}
@@ -36,19 +36,18 @@ use Rattle.state.specs.Bytes.{read_entry, read_queue, read_session, read_slot, r
 use Rattle.state.specs.Shape.{client_of, starter_of, behaviour_in}
 use Rattle.move_rules.specs.Targets as definition
 use Rattle.move_targets.specs.SessionLaws.{service_in, service-none, service-some, nothing-runs, runs-where, slot_read}
-use Rattle.move_targets.specs.declared.Runs.{Runs}
-use Rattle.move_targets.specs.declared.Start.{Start}
 use Rattle.move_targets.specs.declared.Target.{Target}
 use Rattle.move_targets.specs.Answers.{behaviour_run, RowExists, runs_row, RunsIn, start_with, start_as, StartRowsExist, names_input, passes_input, NamesInput, PermitsInput, Run}
 use Rattle.move_targets.specs.Answers.{StartsAmong, StartsFrom, target_as, StarterExists, live_target, FreeTarget, SlotTarget, Targets}
+use Rattle.std.specs.Prelude.{Option, Some, None}
 
 -- ---- what a session runs
 
-pub runs_none : (v : ℕ) → v ≡ 65535 → Runs.Nothing ≡ runs_row v
-runs_none v e = sym (ap (λ (t : Bool). pick t Runs.Nothing (Runs.Row v)) (eq-eqb v no_row e))
+pub runs_none : (v : ℕ) → v ≡ 65535 → None ≡ runs_row v
+runs_none v e = sym (ap (λ (t : Bool). pick t None (Some v)) (eq-eqb v no_row e))
 
-pub runs-some : (v : ℕ) → (v ≡ 65535 → ⊥) → Runs.Row v ≡ runs_row v
-runs-some v e = sym (ap (λ (t : Bool). pick t Runs.Nothing (Runs.Row v)) (ne_eqb v no_row e))
+pub runs-some : (v : ℕ) → (v ≡ 65535 → ⊥) → Some v ≡ runs_row v
+runs-some v e = sym (ap (λ (t : Bool). pick t None (Some v)) (ne_eqb v no_row e))
 
 pub ruleset row_laws = (runs_none, runs-some)
 
@@ -56,11 +55,11 @@ run_of : (file : List ℕ) (v : ℕ) → behaviour_run file (runs_row v) ≡ opt
 unfolding behaviour_run
 run_of file v = go (eqb v no_row)
   where
-    go : (t : Bool) → behaviour_run file (pick t Runs.Nothing (Runs.Row v)) ≡ pick t none (some (behaviour_of file v))
+    go : (t : Bool) → behaviour_run file (pick t None (Some v)) ≡ pick t none (some (behaviour_of file v))
     go true = refl
     go false = refl
 
-pub in-no-service : (file : List ℕ) (q n : ℕ) {m : ℕ} → m ≡ service_count file → m ≤ q → RunsIn file q n Runs.Nothing
+pub in-no-service : (file : List ℕ) (q n : ℕ) {m : ℕ} → m ≡ service_count file → m ≤ q → RunsIn file q n None
 unfolding behaviour_run
 in-no-service file q n c l = record {
   tells = sym (ap (λ (v : Optional Service). pick (eqb n 0) (client_of v) (pick (leb n 3) (starter_of v) none)) (service-none file q (omega (arith, c, l)))
@@ -71,7 +70,7 @@ in-no-service file q n c l = record {
 top-exists : (file : List ℕ) (v : ℕ) → (eqb v no_row ≡ false → v < behaviour_count file) → RowExists file (runs_row v)
 top-exists file v h = go (eqb v no_row) refl
   where
-    go : (t : Bool) → eqb v no_row ≡ t → RowExists file (pick t Runs.Nothing (Runs.Row v))
+    go : (t : Bool) → eqb v no_row ≡ t → RowExists file (pick t None (Some v))
     go true e = tt
     go false e = h e
 
@@ -79,7 +78,7 @@ module _ (file : List ℕ) (q n : ℕ) {m : ℕ} (c : m ≡ service_count file) 
   there : q < service_count file
   there = omega (arith, c, l)
 
-  pub in-client : {v : ℕ} {x : Runs} → n ≡ 0 → v ≡ client_row file q → x ≡ runs_row v → RunsIn file q n x
+  pub in-client : {v : ℕ} {x : Option ℕ} → n ≡ 0 → v ≡ client_row file q → x ≡ runs_row v → RunsIn file q n x
   unfolding service_of
   in-client {v} {x} z e f = record {
     tells = ap (behaviour_run file) f ∙ (run_of file v ∙ (ap (optional_behaviour file) e ∙ sym (ap (λ (t : Bool). pick t (client_of (service_in file q))
@@ -92,14 +91,14 @@ module _ (file : List ℕ) (q n : ℕ) {m : ℕ} (c : m ≡ service_count file) 
   not-client : (n ≡ 0 → ⊥) → behaviour_in (network_of file) q n ≡ pick (leb n 3) (starter_of (service_in file q)) none
   not-client z = ap (λ (t : Bool). pick t (client_of (service_in file q)) (pick (leb n 3) (starter_of (service_in file q)) none)) (ne_eqb n 0 z)
 
-  pub in-no-session : (n ≡ 0 → ⊥) → 3 < n → RunsIn file q n Runs.Nothing
+  pub in-no-session : (n ≡ 0 → ⊥) → 3 < n → RunsIn file q n None
   unfolding behaviour_run
   in-no-session z h = record {
     tells = sym (not-client z ∙ ap (λ (t : Bool). pick t (starter_of (service_in file q)) none) (lt-leb n 3 h));
     exists = λ w. tt;
   }
 
-  pub in-starter : {v : ℕ} {x : Runs} → (n ≡ 0 → ⊥) → n ≤ 3 → v ≡ starter_row file q → x ≡ runs_row v → RunsIn file q n x
+  pub in-starter : {v : ℕ} {x : Option ℕ} → (n ≡ 0 → ⊥) → n ≤ 3 → v ≡ starter_row file q → x ≡ runs_row v → RunsIn file q n x
   unfolding service_of
   in-starter {v} {x} z h e f = record {
     tells = ap (behaviour_run file) f ∙ (run_of file v ∙ (ap (optional_behaviour file) e
@@ -173,7 +172,7 @@ branches-more file w c k j n z =
     ap (λ (m : ℕ). definition.start_from w c k (branches_from file (behaviour_of file) j m)) (one_less n z) ∙ (branches-suc file w c k j (n - 1)
     ∙ ap (λ (i : ℕ). definition.start_by w c k (input_at file j) (definition.start_from w c i (branches_from file (behaviour_of file) (suc j) (n - 1)))) (sym (add-one k)))
 
-pub among_none : (file : List ℕ) (w c at k n : ℕ) → n ≡ 0 → StartsAmong file w c at k n Start.Nothing
+pub among_none : (file : List ℕ) (w c at k n : ℕ) → n ≡ 0 → StartsAmong file w c at k n None
 unfolding start_as
 among_none file w c at k n z = record { tells = λ j h. branches-none file w c k j n z; exists = λ j h l. tt }
 
@@ -187,7 +186,7 @@ module _ (file : List ℕ) (w c at k n : ℕ) {b : BranchRow} {t : Bool} (z : n 
   abbrev later : ℕ → definition.Target
   later j = definition.start_from w c (k + 1) (branches_from file (behaviour_of file) (suc j) (n - 1))
 
-  pub among-here : t ≡ true → StartsAmong file w c at k n (Start.Branch c k b.input)
+  pub among-here : t ≡ true → StartsAmong file w c at k n (Some (c, k, b.input))
   unfolding start_as
   among-here f = record {
     tells = λ j h.
@@ -196,15 +195,63 @@ module _ (file : List ℕ) (w c at k n : ℕ) {b : BranchRow} {t : Bool} (z : n 
     exists = λ j h l. (l, subst (λ (y : ℕ). y < behaviour_count file) (sym (field_is j h)) (first-input file at n j z h));
   }
 
-  pub among_later : {x : Start} → t ≡ false → StartsAmong file w c (at + 10) (k + 1) (n - 1) x → StartsAmong file w c at k n x
-  among_later f g = record {
-    tells = λ j h.
-        g.tells (suc j) (run-next file at n j z h)
-        ∙ sym (branches-more file w c k j n z ∙ starts-later w c k (later j) (input_at file j) (sym (named-is j h) ∙ f));
-    exists = λ j h l. g.exists (suc j) (run-next file at n j z h) l;
-  }
+-- The input of none of the first k branches names O row w.
+pub record Unstarted (file : List ℕ) (w c at n k : ℕ) : Type 0 where
+  pub bound : k ≤ n
+  pub tells : (j : ℕ) → Run file at n j → definition.start_from w c 0 (branches_from file (behaviour_of file) j n)
+      ≡ definition.start_from w c k (branches_from file (behaviour_of file) (j + k) (n - k))
 
-pub ruleset among-laws = (among_none, among-here, among_later)
+pub unstarted-none : (file : List ℕ) (w c at n : ℕ) → Unstarted file w c at n 0
+unstarted-none file w c at n = record {
+  bound = omega arith;
+  tells = λ j h.
+      let e : j ≡ j + 0 = omega arith in
+      let d : n ≡ n - 0 = omega arith in
+      ap (λ (m : ℕ). definition.start_from w c 0 (branches_from file (behaviour_of file) m n)) e
+      ∙ ap (λ (m : ℕ). definition.start_from w c 0 (branches_from file (behaviour_of file) (j + 0) m)) d;
+}
+
+-- The branches from branch k on.
+run-from : {file : List ℕ} {at n j : ℕ} (k : ℕ) → k ≤ n → Run file at n j → Run file (at + 10 * k) (n - k) (j + k)
+unfolding behaviour_at
+run-from k l h = record {
+  there = omega (arith, h.there);
+  inputs = λ m u v. h.inputs m (omega arith) (omega arith);
+}
+
+module _ (file : List ℕ) (w c at n k : ℕ) (d : Unstarted file w c at n k) where
+  module _ {b : BranchRow} {t : Bool} {p : ℕ} (l : k < n) (e : BranchAt file p b) (g : p ≡ at + 10 * k) (i : NamesInput file w b.input t) where
+    some-left : n - k ≡ 0 → ⊥
+    some-left z = omega arith
+
+    here-at : BranchAt file (at + 10 * k) b
+    here-at = subst (λ (y : ℕ). BranchAt file y b) g e
+
+    pub unstarted-here : t ≡ true → StartsAmong file w c at 0 n (Some (c, k, b.input))
+    unstarted-here f =
+        let a = among-here file w c (at + 10 * k) k (n - k) some-left here-at i f in
+        record {
+          tells = λ j h. a.tells (j + k) (run-from k d.bound h) ∙ sym (d.tells j h);
+          exists = λ j h m. a.exists (j + k) (run-from k d.bound h) m;
+        }
+
+    pub unstarted-next : t ≡ false → Unstarted file w c at n (k + 1)
+    unstarted-next f = record {
+      bound = omega arith;
+      tells = λ j h.
+          let q : suc (j + k) ≡ j + (k + 1) = omega arith in
+          let r : n - k - 1 ≡ n - (k + 1) = omega arith in
+          let z = named-is file w c (at + 10 * k) k (n - k) some-left here-at i (j + k) (run-from k d.bound h) in
+          d.tells j h ∙ (branches-more file w c k (j + k) (n - k) some-left
+          ∙ (starts-later w c k (later file w c (at + 10 * k) k (n - k) some-left here-at i (j + k)) (input_at file (j + k)) (sym z ∙ f)
+          ∙ (ap (λ (m : ℕ). definition.start_from w c (k + 1) (branches_from file (behaviour_of file) m (n - k - 1))) q
+          ∙ ap (λ (m : ℕ). definition.start_from w c (k + 1) (branches_from file (behaviour_of file) (j + (k + 1)) m)) r)));
+    }
+
+  pub unstarted-all : n ≤ k → StartsAmong file w c at 0 n None
+  unstarted-all l =
+      let a = among_none file w c (at + 10 * k) k (n - k) (omega arith) in
+      record { tells = λ j h. a.tells (j + k) (run-from k d.bound h) ∙ sym (d.tells j h); exists = λ j h m. tt }
 
 no-choice : (file : List ℕ) (sub : ℕ → Behaviour) (r at : ℕ) (k : BehaviourKind) → is_choice_kind k ≡ false
     → none ≡ choice_of (behaviour_from file sub r at k)
@@ -230,7 +277,7 @@ choice-from file sub r at = refl
 
 module _ (file : List ℕ) (w r : ℕ) {row first n : ℕ} {k : BehaviourKind} {t : Bool} (a : row ≡ behaviour_at file r) (b : first ≡ u16_at file (row + 2))
     (c : n ≡ u16_at file (row + 4)) (d : k ≡ kind_at file r) (e : t ≡ is_choice_kind k) where
-  pub from-other : not t ≡ true → StartsFrom file w r Start.Nothing
+  pub from-other : not t ≡ true → StartsFrom file w r None
   unfolding start_as
   from-other f = record {
     tells = λ v l.
@@ -253,7 +300,7 @@ module _ (file : List ℕ) (w r : ℕ) {row first n : ℕ} {k : BehaviourKind} {
     kept v l = subst (RowKept file r (behaviour_at file r)) kind-is (behaviour-kept file v r l)
 
     -- A choice has 1 to 8 branches.
-    pub from-many : {x : Start} → 8 < n → StartsFrom file w r x
+    pub from-many : {x : Option (ℕ × ℕ × ℕ)} → 8 < n → StartsFrom file w r x
     from-many m = record {
       tells = λ v l. absurd (omega (arith, m, count-is, (kept v l).1));
       exists = λ v l. absurd (omega (arith, m, count-is, (kept v l).1));
@@ -272,7 +319,7 @@ module _ (file : List ℕ) (w r : ℕ) {row first n : ℕ} {k : BehaviourKind} {
         ∙ (ap (definition.start_of w) (choice-from file (behaviour_of file) r (behaviour_at file r)) ∙ sym (ap (λ (y : ℕ). definition.start_from w r 0 (branches_from file (behaviour_of file) y n)) first-is
         ∙ ap (λ (y : ℕ). definition.start_from w r 0 (branches_from file (behaviour_of file) (field_a file (behaviour_at file r)) y)) count-is))
 
-    pub from-choice : {at : ℕ} {x : Start} → n ≤ 8 → at ≡ behaviour_at file first → StartsAmong file w r at 0 n x → StartsFrom file w r x
+    pub from-choice : {at : ℕ} {x : Option (ℕ × ℕ × ℕ)} → n ≤ 8 → at ≡ behaviour_at file first → StartsAmong file w r at 0 n x → StartsFrom file w r x
     from-choice m g h = record {
       tells = λ v l. h.tells first (run-of-choice v l g) ∙ sym (starts_is v l);
       exists = λ v l. h.exists first (run-of-choice v l g) l;
@@ -300,26 +347,52 @@ pub ruleset permits-laws = (permits-one-way, permits-request, permits-none)
 
 -- ---- the queue
 
-pub queue-none : (s : List ℕ) (at n : ℕ) → n ≡ 0 → (0 ≡ length (read_queue s n at)) × (0 ≤ n)
-unfolding read_queue
-queue-none s at n z = (sym (ap (λ (m : ℕ). length (read_queue s m at)) z), omega arith)
+-- The first k entries are used.
+pub record Used (s : List ℕ) (at n k : ℕ) : Type 0 where
+  pub bound : k ≤ n
+  pub same : length (read_queue s n at) ≡ k + length (read_queue s (n - k) (at + entry_size * k))
 
-queue-step : (s : List ℕ) (at n : ℕ) → (n ≡ 0 → ⊥) → read_queue s n at ≡ pick (eqb (byte_at s at) 0) [] (read_entry s at ∷ read_queue s (n - 1) (at + entry_size))
-unfolding read_queue
-queue-step s at n z = ap (λ (m : ℕ). read_queue s m at) (one_less n z)
+pub used-none : (s : List ℕ) (at n : ℕ) → Used s at n 0
+used-none s at n =
+    let e : at ≡ at + entry_size * 0 = omega arith in
+    let d : n ≡ n - 0 = omega arith in
+    let f = ap (λ (k : ℕ). length (read_queue s k at)) d ∙ ap (λ (k : ℕ). length (read_queue s (n - 0) k)) e in
+    record { bound = omega arith; same = omega (arith, f) }
 
-pub queue-unused : (s : List ℕ) (at n : ℕ) {b : ℕ} → (n ≡ 0 → ⊥) → b ≡ byte_at s at → b ≡ 0 → (0 ≡ length (read_queue s n at)) × (0 ≤ n)
-queue-unused s at n z e f =
-    let p = ap (λ (t : Bool). pick t [] (read_entry s at ∷ read_queue s (n - 1) (at + entry_size))) (eq-eqb (byte_at s at) 0 (sym e ∙ f)) in
-    (sym (ap length (queue-step s at n z ∙ p)), omega arith)
+module _ (s : List ℕ) (at n k : ℕ) (c : Used s at n k) where
+  abbrev place : ℕ
+  place = at + entry_size * k
 
-pub queue-used : (s : List ℕ) (at n : ℕ) {b x : ℕ} → (n ≡ 0 → ⊥) → b ≡ byte_at s at → (b ≡ 0 → ⊥) → (x ≡ length (read_queue s (n - 1) (at + entry_size))) × (x ≤ n - 1)
-    → (1 + x ≡ length (read_queue s n at)) × (1 + x ≤ n)
-queue-used s at n {b} {x} z e f h = (
-  (let i : 1 + x ≡ suc x = omega arith in i) ∙ (ap suc h.0 ∙ sym (ap length (queue-step s at n z
-      ∙ ap (λ (t : Bool). pick t [] (read_entry s at ∷ read_queue s (n - 1) (at + entry_size))) (ne_eqb (byte_at s at) 0 (λ i. f (e ∙ i)))))),
-  omega (arith, h.1, one_less n z),
-)
+  used-step : k < n → read_queue s (n - k) place
+      ≡ pick (eqb (byte_at s place) 0) [] (read_entry s place ∷ read_queue s (n - (k + 1)) (at + entry_size * (k + 1)))
+  unfolding read_queue
+  used-step h =
+      let d : n - k ≡ suc (n - (k + 1)) = omega arith in
+      let e : place + entry_size ≡ at + entry_size * (k + 1) = omega arith in
+      ap (λ (m : ℕ). read_queue s m place) d
+      ∙ ap (λ (m : ℕ). pick (eqb (byte_at s place) 0) [] (read_entry s place ∷ read_queue s (n - (k + 1)) m)) e
+
+  module _ {b p : ℕ} (h : k < n) (g : b ≡ byte_at s p) (e : p ≡ place) where
+    f : b ≡ byte_at s place
+    f = g ∙ ap (byte_at s) e
+
+    pub used-next : (b ≡ 0 → ⊥) → Used s at n (k + 1)
+    used-next z =
+        let rest = read_queue s (n - (k + 1)) (at + entry_size * (k + 1)) in
+        let l : read_queue s (n - k) place ≡ read_entry s place ∷ rest = used-step h ∙ rw (ne_eqb (byte_at s place) 0 (λ i. z (f ∙ i))) refl in
+        record { bound = omega arith; same = omega (arith, c.same, ap length l) }
+
+    pub used-free : b ≡ 0 → (k ≡ length (read_queue s n at)) × (k ≤ n)
+    used-free z =
+        let l : read_queue s (n - k) place ≡ [] = used-step h ∙ rw (eq-eqb (byte_at s place) 0 (sym f ∙ z)) refl in
+        (omega (arith, c.same, ap length l), omega arith)
+
+  pub used-all : n ≤ k → (n ≡ length (read_queue s n at)) × (n ≤ n)
+  unfolding read_queue
+  used-all h =
+      let d : n - k ≡ 0 = omega arith in
+      let l = ap (λ (m : ℕ). length (read_queue s m place)) d in
+      (omega (arith, c.same, l, c.bound), omega arith)
 
 pub live-room : (s : List ℕ) (at : ℕ) {n : ℕ} → (n ≡ length (read_queue s 4 (at + queue_place))) × (n ≤ 4) → n < 4 → Target.Queued ≡ live_target s at
 live-room s at h l = sym (ap (λ (t : Bool). pick t Target.Queued Target.QueueFull) (lt-ltb (length (read_queue s 4 (at + queue_place))) 4 (omega (arith, h.0, l))))
@@ -338,8 +411,8 @@ free-client file w n r z = record {
   exists = λ v l. tt;
 }
 
-module _ (file : List ℕ) (w n r : ℕ) {s : Start} (z : n ≡ 0 → ⊥) (h : StartsFrom file w r s) where
-  pub free-starts : {c k a : ℕ} → s ≡ Start.Branch c k a → FreeTarget file w n r (Target.Starts c k a)
+module _ (file : List ℕ) (w n r : ℕ) {s : Option (ℕ × ℕ × ℕ)} (z : n ≡ 0 → ⊥) (h : StartsFrom file w r s) where
+  pub free-starts : {c k a : ℕ} → s ≡ Some (c, k, a) → FreeTarget file w n r (Target.Starts c k a)
   unfolding target_as start_as
   free-starts {c} {k} {a} e = record {
     tells = λ v l.
@@ -348,7 +421,7 @@ module _ (file : List ℕ) (w n r : ℕ) {s : Start} (z : n ≡ 0 → ⊥) (h : 
     exists = λ v l. subst (StartRowsExist file) e (h.exists v l);
   }
 
-  pub free-none : s ≡ Start.Nothing → FreeTarget file w n r Target.NoTarget
+  pub free-none : s ≡ None → FreeTarget file w n r Target.NoTarget
   unfolding target_as start_as
   free-none e = record {
     tells = λ v l.
@@ -397,11 +470,11 @@ pub ruleset slot_laws = (slot-free, slot-live)
 
 -- ---- the target
 
-module _ (file state : List ℕ) (i n : ℕ) {v u : ℕ} {x : Runs} (a : v ≡ operation_service file i) (b : (u ≡ v) × (u < 256)) (h : RunsIn file u n x) where
+module _ (file state : List ℕ) (i n : ℕ) {v u : ℕ} {x : Option ℕ} (a : v ≡ operation_service file i) (b : u ≡ v) (h : RunsIn file u n x) where
   service-is : u ≡ operation_service file i
-  service-is = b.0 ∙ a
+  service-is = b ∙ a
 
-  pub target-slot : {r : ℕ} {y : Target} → x ≡ Runs.Row r → SlotTarget file state i u n r y → Targets file state i n y
+  pub target-slot : {r : ℕ} {y : Target} → x ≡ Some r → SlotTarget file state i u n r y → Targets file state i n y
   unfolding operation_of behaviour_run
   target-slot {r} {y} e k = record {
     tells = λ w.
@@ -414,7 +487,7 @@ module _ (file state : List ℕ) (i n : ℕ) {v u : ℕ} {x : Runs} (a : v ≡ o
     exists = λ w. k.exists w (subst (RowExists file) e (h.exists w));
   }
 
-  pub target_none : x ≡ Runs.Nothing → Targets file state i n Target.NoTarget
+  pub target_none : x ≡ None → Targets file state i n Target.NoTarget
   unfolding operation_of behaviour_run target_as
   target_none e = record {
     tells = λ w.

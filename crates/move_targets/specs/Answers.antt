@@ -13,25 +13,24 @@ use Rattle.state.specs.Bytes.{read_queue, read_state}
 use Rattle.state.specs.Shape.{behaviour_in}
 use Rattle.move_rules.specs.Targets as definition
 use Rattle.move_rules.specs.Moves.{permits_input}
-use Rattle.move_targets.specs.declared.Runs.{Runs}
-use Rattle.move_targets.specs.declared.Start.{Start}
 use Rattle.move_targets.specs.declared.Target.{Target}
+use Rattle.std.specs.Prelude.{Option, Some, None}
 
 -- What a session runs, by its B row.
-unfoldable pub behaviour_run : List ℕ → Runs → Optional Behaviour
-behaviour_run file (Runs.Row r) = some (behaviour_of file r)
-behaviour_run file Runs.Nothing = none
+unfoldable pub behaviour_run : List ℕ → Option ℕ → Optional Behaviour
+behaviour_run file (Some r) = some (behaviour_of file r)
+behaviour_run file None = none
 
-abbrev pub RowExists : List ℕ → Runs → Type 0
-RowExists file (Runs.Row r) = r < behaviour_count file
-RowExists file Runs.Nothing = Unit {0}
+abbrev pub RowExists : List ℕ → Option ℕ → Type 0
+RowExists file (Some r) = r < behaviour_count file
+RowExists file None = Unit {0}
 
 -- S: "starter row (a choice), client row, 65535 for none".
-abbrev pub runs_row : ℕ → Runs
-runs_row v = pick (eqb v no_row) Runs.Nothing (Runs.Row v)
+abbrev pub runs_row : ℕ → Option ℕ
+runs_row v = pick (eqb v no_row) None (Some v)
 
 -- What session n of service q runs: "clients live in session 0", the starter in "a free 1 to 3". `tells` holds for any file.
-pub record RunsIn (file : List ℕ) (q n : ℕ) (x : Runs) : Type 0 where
+pub record RunsIn (file : List ℕ) (q n : ℕ) (x : Option ℕ) : Type 0 where
   pub tells : behaviour_run file x ≡ behaviour_in (network_of file) q n
   pub exists : WellFormed file → RowExists file x
 
@@ -41,13 +40,13 @@ start_with c k none = definition.no_target
 start_with c k (some i) = definition.starts c k i
 
 -- How a session starts, by the choice, its branch and the input's B row.
-unfoldable pub start_as : List ℕ → Start → definition.Target
-start_as file (Start.Branch c k a) = start_with c k (input_of (behaviour_of file a))
-start_as file Start.Nothing = definition.no_target
+unfoldable pub start_as : List ℕ → Option (ℕ × ℕ × ℕ) → definition.Target
+start_as file (Some (c, k, a)) = start_with c k (input_of (behaviour_of file a))
+start_as file None = definition.no_target
 
-abbrev pub StartRowsExist : List ℕ → Start → Type 0
-StartRowsExist file (Start.Branch c k a) = (c < behaviour_count file) × (a < behaviour_count file)
-StartRowsExist file Start.Nothing = Unit {0}
+abbrev pub StartRowsExist : List ℕ → Option (ℕ × ℕ × ℕ) → Type 0
+StartRowsExist file (Some (c, k, a)) = (c < behaviour_count file) × (a < behaviour_count file)
+StartRowsExist file None = Unit {0}
 
 -- An input that names O row w; one that 6 ("another service, direction or kind") passes in service q.
 abbrev pub names_input : ℕ → Optional Input → Bool
@@ -71,12 +70,12 @@ pub record Run (file : List ℕ) (at n j : ℕ) : Type 0 where
   pub inputs : (m : ℕ) → j ≤ m → m < j + n → field_a file (behaviour_at file m) < behaviour_count file
 
 -- The first of those branches, numbered from k on, whose input names O row w.
-pub record StartsAmong (file : List ℕ) (w c at k n : ℕ) (x : Start) : Type 0 where
+pub record StartsAmong (file : List ℕ) (w c at k n : ℕ) (x : Option (ℕ × ℕ × ℕ)) : Type 0 where
   pub tells : (j : ℕ) → Run file at n j → start_as file x ≡ definition.start_from w c k (branches_from file (behaviour_of file) j n)
   pub exists : (j : ℕ) → Run file at n j → c < behaviour_count file → StartRowsExist file x
 
 -- The "first starter branch of that operation", of the starter of B row r.
-pub record StartsFrom (file : List ℕ) (w r : ℕ) (x : Start) : Type 0 where
+pub record StartsFrom (file : List ℕ) (w r : ℕ) (x : Option (ℕ × ℕ × ℕ)) : Type 0 where
   pub tells : WellFormed file → r < behaviour_count file → start_as file x ≡ definition.start_of w (choice_of (behaviour_of file r))
   pub exists : WellFormed file → r < behaviour_count file → StartRowsExist file x
 

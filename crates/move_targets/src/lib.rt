@@ -3,31 +3,14 @@
 #![tactic(auto)]
 
 ghost use Rattle.std.specs.Prelude.{◌≡◌, ◌+◌, ◌*◌, ◌≤◌, ◌<◌, length};
-ghost use Rattle.network.specs.Decode.{operation_of, rows_from, network_of};
-ghost use Rattle.network_syntax.specs.Meets.{first_of};
+ghost use Rattle.network.specs.Decode.{operation_of, network_of};
 ghost use Rattle.state.specs.Places.{entry_size};
 ghost use Rattle.state.specs.Bytes.{read_queue};
 ghost use Rattle.move_rules.specs.Moves.{is_input_named, input_named};
 ghost use Rattle.check_operations.specs.Meeting.{operation_met};
 ghost use Rattle.move_targets.specs.Answers.{runs_row, RunsIn, NamesInput, StartsAmong, StartsFrom, PermitsInput, FreeTarget, live_target, SlotTarget, Targets};
 
-use check_operations::Met;
-use network_layout::both;
 use network_rows::InputRow;
-
-// The B row that a session runs, or none.
-#[derive(Clone, Copy)]
-pub enum Runs {
-    Row(u16),
-    Nothing,
-}
-
-// How a session starts: the starter's row, the branch's number and its input's row, or not at all.
-#[derive(Clone, Copy)]
-pub enum Start {
-    Branch(u16, u8, u16),
-    Nothing,
-}
 
 // How a message gets to a session: 15; 16; queued; or it starts the session, as above.
 #[derive(Clone, Copy)]
@@ -39,60 +22,49 @@ pub enum Target {
 }
 
 // Is O row i an input of service q with that id?
+#[tactic(auto, unfolding(network::specs::Decode::operation_of))]
 fn named(file: &[u8], q: u16, id: u16, i: u16) -> bool
     ensures { result ≡ is_input_named q id (operation_of file.now i) }
 {
-    let service = wire::byte_to_u16(network_rows::operation_service(file, i)) == q;
-    let input = network_rows::operation_direction(file, i) == 0;
-    both(
-        service,
-        both(input, network_rows::operation_id(file, i) == id),
-    )
-}
-
-// The first of the n operations from row i on that is one.
-fn named_from(file: &[u8], q: u16, id: u16, i: u16, n: u16) -> Met
-    requires { i + n ≤ 65535 }
-    ensures { operation_met file.now result ≡ first_of (is_input_named q id) (rows_from (operation_of file.now) i n) }
-{
-    if n == 0 {
-        return Met::Nothing;
-    }
-    if named(file, q, id, i) {
-        return Met::Input(i);
-    }
-    named_from(file, q, id, i + 1, n - 1)
+    u16::from(network_rows::operation_service(file, i)) == q
+        && network_rows::operation_direction(file, i) == 0
+        && network_rows::operation_id(file, i) == id
 }
 
 // The input that an outsider names: "outer message (service, operation id, ..)".
-pub fn named_input(file: &[u8], q: u16, id: u16) -> Met
+pub fn named_input(file: &[u8], q: u16, id: u16) -> Option<u16>
     ensures { operation_met file.now result ≡ input_named (network_of file.now) q id }
 {
-    named_from(file, q, id, 0, network_layout::operation_count(file))
+    for i in 0..network_layout::operation_count(file) {
+        if named(file, q, id, i) {
+            return Some(i);
+        }
+    }
+    None
 }
 
 // S: "65535 for none".
-fn runs_row(v: u16) -> Runs
+fn runs_row(v: u16) -> Option<u16>
     ensures { result ≡ runs_row v }
 {
     if v == 65535 {
-        return Runs::Nothing;
+        return None;
     }
-    Runs::Row(v)
+    Some(v)
 }
 
 // What session n of service q runs: the client in session 0, the starter in sessions 1 to 3.
-pub fn behaviour_in(file: &[u8], q: u16, n: u16) -> Runs
+pub fn behaviour_in(file: &[u8], q: u16, n: u16) -> Option<u16>
     ensures { RunsIn file.now q n result }
 {
     if network_layout::service_count(file) <= q {
-        return Runs::Nothing;
+        return None;
     }
     if n == 0 {
         return runs_row(network_rows::client_row(file, q));
     }
     if 3 < n {
-        return Runs::Nothing;
+        return None;
     }
     runs_row(network_rows::starter_row(file, q))
 }
@@ -102,43 +74,40 @@ fn names_input(file: &[u8], w: u16, a: u16) -> bool
     ensures { NamesInput file.now w a result }
 {
     match network_rows::input_of(file, a) {
-        InputRow::OneWay(o, _) => o == w,
-        InputRow::RequestResponse(o, _, _, _) => o == w,
+        InputRow::OneWay(o, _) | InputRow::RequestResponse(o, _, _, _) => o == w,
         InputRow::Nothing => false,
     }
 }
 
-// Of the choice c, the first of the n branches from branch k on whose input names O row w; the row of branch k stands at `at`.
-fn start_among(file: &[u8], w: u16, c: u16, at: usize, k: u8, n: u8) -> Start
-    requires { (at + 10 * n < 2000000) × (k + n ≤ 255) }
-    ensures { StartsAmong file.now w c at k n result }
+// Of the choice c, the first of the n branches whose input names O row w; the row of the first branch stands at `at`.
+fn start_among(file: &[u8], w: u16, c: u16, at: usize, n: u8) -> Option<(u16, u8, u16)>
+    requires { at + 10 * n < 2000000 }
+    ensures { StartsAmong file.now w c at 0 n result }
 {
-    if n == 0 {
-        return Start::Nothing;
+    for k in 0..n {
+        let a = network_rows::branch_at(file, at + 10 * usize::from(k)).input;
+        if names_input(file, w, a) {
+            return Some((c, k, a));
+        }
     }
-    let b = network_rows::branch_at(file, at);
-    let a = b.input;
-    if names_input(file, w, a) {
-        return Start::Branch(c, k, a);
-    }
-    start_among(file, w, c, at + 10, k + 1, n - 1)
+    None
 }
 
 // The first branch of the starter of B row r whose input names O row w.
-pub fn start_from(file: &[u8], w: u16, r: u16) -> Start
+pub fn start_from(file: &[u8], w: u16, r: u16) -> Option<(u16, u8, u16)>
     ensures { StartsFrom file.now w r result }
 {
     let row = network_layout::behaviour_at(file, r);
     let first = wire::u16_at(file, row + 2);
     let n = wire::u16_at(file, row + 4);
     if !network_rows::is_choice(network_rows::kind_at(file, r)) {
-        return Start::Nothing;
+        return None;
     }
     if 8 < n {
-        return Start::Nothing;
+        return None;
     }
     let at = network_layout::behaviour_at(file, first);
-    start_among(file, w, r, at, 0, n as u8)
+    start_among(file, w, r, at, n as u8)
 }
 
 // Does 6 pass the input of B row a in service q?
@@ -157,13 +126,12 @@ fn queue_length(state: &[u8], at: usize, n: u16) -> u16
     requires { at + entry_size * n < 2000000000 }
     ensures { (result ≡ length (read_queue state.now n at)) × (result ≤ n) }
 {
-    if n == 0 {
-        return 0;
+    for k in 0..n {
+        if wire::byte_at(state, at + state::ENTRY * usize::from(k)) == 0 {
+            return k;
+        }
     }
-    if wire::byte_at(state, at) == 0 {
-        return 0;
-    }
-    1 + queue_length(state, at + state::ENTRY, n - 1)
+    n
 }
 
 // A live session, whose slot starts at `at`, queues "up to four messages".
@@ -185,8 +153,8 @@ fn free_target(file: &[u8], w: u16, n: u16, r: u16) -> Target
         return Target::NoTarget;
     }
     match start_from(file, w, r) {
-        Start::Branch(c, k, a) => Target::Starts(c, k, a),
-        Start::Nothing => Target::NoTarget,
+        Some((c, k, a)) => Target::Starts(c, k, a),
+        None => Target::NoTarget,
     }
 }
 
@@ -205,9 +173,9 @@ fn slot_target(file: &[u8], state: &[u8], w: u16, q: u16, n: u16, r: u16) -> Tar
 pub fn target_of(file: &[u8], state: &[u8], i: u16, n: u16) -> Target
     ensures { Targets file.now state.now i n result }
 {
-    let q = wire::byte_to_u16(network_rows::operation_service(file, i));
+    let q = u16::from(network_rows::operation_service(file, i));
     match behaviour_in(file, q, n) {
-        Runs::Row(r) => slot_target(file, state, i, q, n, r),
-        Runs::Nothing => Target::NoTarget,
+        Some(r) => slot_target(file, state, i, q, n, r),
+        None => Target::NoTarget,
     }
 }

@@ -1,8 +1,8 @@
 -- A reply taken, at each of the ways out of the code.
 use mathlib.Core.Path.{◌≡◌, refl, sym, ap, subst, ◌∙◌}
-use mathlib.Core.Bool.{Bool, true, false}
+use mathlib.Core.Bool.{Bool, true}
 use mathlib.Core.List.{List, []}
-use Prim.Native.Nat.{ℕ, ◌≤◌, ◌<◌}
+use Prim.Native.Nat.{ℕ, ◌<◌}
 use lib.ListN.{length}
 use native.Mathlib.Omega.{arith}
 use Rattle.tree_forest.specs.Forest.{Forest, Tree}
@@ -11,13 +11,12 @@ use Rattle.scalar.specs.Value.{Value}
 use Rattle.tree.specs.Encode.{Message}
 use Rattle.refusal.specs.declared.Refusal.TheVariants.{Stuck}
 use Rattle.refusal.specs.declared.Outcome.{Outcome}
-use Rattle.refusal.specs.Refusal.{done_with, refused_by}
+use Rattle.refusal.specs.Refusal.{done_with}
 use Rattle.wire.specs.Wire.{with_part}
 use Rattle.network.specs.Form.{WellFormed}
 use Rattle.network.specs.Layout.{path_count}
 use Rattle.network.specs.Decode.{path_of}
 use Rattle.check_typing.specs.Environment.{within}
-use Rattle.state.specs.Places.{tree_room}
 use Rattle.state.specs.Session.{done, Session, with_tree, Slot, live, State, set_slot}
 use Rattle.state.specs.Bytes.{slot_bytes, state_bytes}
 use Rattle.state.specs.Shape.{WellMade}
@@ -28,16 +27,14 @@ use Rattle.move_rules.specs.Step.{finish}
 use Rattle.state_slots.specs.SlotLaws.{row-set, tree_set, living-set, set-again}
 use Rattle.state_slots.specs.Living.{Living}
 use Rattle.state_slots.specs.Slots.{tree_stored}
-use Rattle.state_trees.specs.declared.Change.{Change}
-use Rattle.state_trees.specs.Changing.{ChangedTo, kept_bytes, ReplacesAt}
+use Rattle.state_trees.specs.Changing.{ChangedTo, ReplacesAt}
 use Rattle.move_frame.specs.Made.{StateOf}
-use Rattle.move_frame.specs.MadeLaws.{refused-step}
 use Rattle.move_frame.specs.Holding.{Holding}
 use Rattle.move_frame.specs.HoldingLaws.{stands-holding, holding-bytes, holding-living, gone-holding, gone-live}
-use Rattle.state_progress.specs.StateLaws.{row-stored-length}
 use Rattle.move_waiting.specs.declared.Sender.{Sender}
 use Rattle.move_waiting.specs.Waiting.{replied, PutsReply, SenderInside, settled, Settled, TakesReply}
 use Rattle.state_progress.specs.Stored.{row_stored}
+use Rattle.std.specs.Prelude.{Option, Some}
 
 -- ---- `put_reply`
 
@@ -57,27 +54,6 @@ reply-put s t slot r n {s₁} {s₂} l a b = record {
 
 pub ruleset put-laws = (reply-put)
 
--- ---- `settle`
-
-pub settle-none : (s : List ℕ) {x : Sender} → x ≡ Sender.Outsider → s ≡ settled s x
-settle-none s e = ap (settled s) (sym e)
-
-pub settle-row : (s : List ℕ) {s' : List ℕ} {x : Sender} {slot r : ℕ} → x ≡ Sender.Row slot r → s' ≡ row_stored s slot r done → s' ≡ settled s x
-settle-row s e f = f ∙ ap (settled s) (sym e)
-
-pub settle-room : (size : ℕ) {x y : Sender} → SenderInside size x → x ≡ y → SenderInside size y
-settle-room size h e = subst (SenderInside size) e h
-
-pub settled-length : (s : List ℕ) (x : Sender) → SenderInside (length s) x → length (settled s x) ≡ length s
-settled-length s Sender.Outsider h = refl
-settled-length s (Sender.Row slot r) h = row-stored-length s slot r done h.0 h.1
-
-pub ruleset settle-laws = (settle-none, settle-row)
-
--- There is room for the tree.
-pub kept-room : {file s m o : List ℕ} {p slot n : ℕ} {x : Change} → ReplacesAt file p s slot m o x → x ≡ Change.Kept n → n ≤ tree_room
-kept-room h e = subst (λ (y : Change). kept_bytes y ≤ tree_room) e h.small
-
 -- The state that those bytes hold; the waiting session is live in it, with the same tree.
 settled-holds : (file s : List ℕ) (G gone : State) (x : Sender) → SenderInside (length s) x → StateOf file s G → Settled file s G x gone → Holding (settled s x) gone
 settled-holds file s G gone Sender.Outsider u st e = subst (Holding s) (sym e) (stands-holding st)
@@ -92,15 +68,15 @@ settled-live file s G gone (Sender.Row slot r) (q2, n2, b, (h, e)) q n S l =
 
 -- ---- `take_reply`
 
-module _ (file s : List ℕ) (x : Sender) (slot r p : ℕ) (m : List ℕ) {o : List ℕ} {y : Change} (c : ReplacesAt file p s slot m o y) where
+module _ (file s : List ℕ) (x : Sender) (slot r p : ℕ) (m : List ℕ) {o : List ℕ} {y : Option ℕ} (c : ReplacesAt file p s slot m o y) where
   abbrev changed_tree : Session → Tree Value → Forest Value
   changed_tree S t = replace_at void_value (path_of file p) t S.tree
 
-  changed : {z : Change} → y ≡ z → WellFormed file → p < path_count file → (S T : Session) → Living s slot S → T.tree ≡ S.tree → (t : Tree Value)
+  changed : {z : Option ℕ} → y ≡ z → WellFormed file → p < path_count file → (S T : Session) → Living s slot S → T.tree ≡ S.tree → (t : Tree Value)
       → Message m t → ChangedTo o z (changed_tree T t)
   changed {z} e w l S T h u t g =
       subst (λ (F : Forest Value). ChangedTo o z (replace_at void_value (path_of file p) t F)) (sym u)
-      (subst (λ (z : Change). ChangedTo o z (changed_tree S t)) e (c.tells w l S t h g))
+      (subst (λ (z : Option ℕ). ChangedTo o z (changed_tree S t)) e (c.tells w l S t h g))
 
   -- The definition, in a live session.
   taking : (gone : State) (q n : ℕ) (T : Session) → gone q n ≡ live T → (t : Tree Value) (f : Bool) → within (changed_tree T t) ≡ f
@@ -109,14 +85,7 @@ module _ (file s : List ℕ) (x : Sender) (slot r p : ℕ) (m : List ℕ) {o : L
       ap (λ (y : Slot). on_live y (λ S. save_within gone q n (replied S r (changed_tree S t)) [])) e
       ∙ ap (λ (y : Bool). require y Stuck (moved (set_slot gone q n (live (replied T r (changed_tree T t)))) [])) g
 
-  pub reply-large : {a : Outcome} → y ≡ Change.TooLarge → a ≡ refused_by Stuck → TakesReply file s x slot r p m s a
-  reply-large e f = record {
-    tells = λ w l G st gone d q n b h t g out.
-        let T = settled-live file s G gone x d q n h.session h.is_live in
-        refused-step f (taking gone q n T.0 T.1 t false (changed e w l h.session T.0 h.living T.2 t g));
-  }
-
-  pub reply-taken : {n : ℕ} {s₁ s₂ : List ℕ} {a : Outcome} → y ≡ Change.Kept n → SenderInside (length s) x → s₁ ≡ settled s x → PutsReply s₁ slot r o n s₂
+  pub reply-taken : {n : ℕ} {s₁ s₂ : List ℕ} {a : Outcome} → y ≡ Some n → SenderInside (length s) x → s₁ ≡ settled s x → PutsReply s₁ slot r o n s₂
       → a ≡ done_with 0 → TakesReply file s x slot r p m s₂ a
   reply-taken {n} {s₁} {s₂} {a} e i k v f = record {
     tells = λ w l G st gone d q j b h t g out.
@@ -132,5 +101,3 @@ module _ (file s : List ℕ) (x : Sender) (slot r p : ℕ) (m : List ℕ) {o : L
         ∙ (ap (λ (u : List ℕ). record { outcome = done_with 0; state = u; out = out }) bytes
         ∙ ap (finish s out) (sym (taking gone q j T.0 T.1 t true z.fits)));
   }
-
-pub ruleset reply-laws = (reply-large, reply-taken)

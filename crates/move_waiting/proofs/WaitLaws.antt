@@ -33,10 +33,9 @@ use Rattle.state.specs.Bytes.{read_session}
 use Rattle.state.proofs.RowLaws.{row-absent}
 use Rattle.state_progress.specs.declared.Progress as coded
 use Rattle.state_progress.specs.Meaning.{meaning}
-use Rattle.state_progress.specs.contracts.Progress as progress
 use Rattle.move_rules.specs.Moves.{Result, not_allowed, require, if_waiting, on_waiting_output, on_waiting_row}
-use Rattle.move_waiting.specs.declared.Waiting.{Waiting}
 use Rattle.move_waiting.specs.Waiting.{HasRow, WaitsAt}
+use Rattle.std.specs.Prelude.{Option, Some, None}
 
 -- ---- `has_row`
 
@@ -76,14 +75,14 @@ row-asks file q S f w b r l h =
 
 -- ---- `waiting_at`
 
-nowhere : {o p : ℕ} {A : Type 0} → Waiting.NotAllowed ≡ Waiting.Row o p → A
+nowhere : {o p : ℕ} {A : Type 0} → ◌≡◌ {A = Option (ℕ × ℕ)} None (Some (o, p)) → A
 nowhere e = absurd (let z : ◌≡◌ {A = ℕ} 0 1 = cc in omega arith)
 
 module _ (file s : List ℕ) (slot b q r : ℕ) {t : Bool} (h : HasRow file b r t) where
   abbrev S : Session
   S = read_session s slot
 
-  pub no-row : not t ≡ true → WaitsAt file s slot b q r Waiting.NotAllowed
+  pub no-row : not t ≡ true → WaitsAt file s slot b q r None
   no-row y = record {
     tells = λ w l f.
         sym (ap (λ (x : Optional Behaviour). on_waiting_row q S x f) (row-absent r (behaviour_of file b) (sym (h.tells w l) ∙ not-true t y)));
@@ -95,14 +94,14 @@ module _ (file s : List ℕ) (slot b q r : ℕ) {t : Bool} (h : HasRow file b r 
     runs : WellFormed file → b < behaviour_count file → has_row r (behaviour_of file b) ≡ true
     runs w l = sym (h.tells w l) ∙ not-false t y
 
-    not-allowed : ((f : Operation → Path → Result) → asks file q S r row f ≡ not_allowed) → WaitsAt file s slot b q r Waiting.NotAllowed
+    not-allowed : ((f : Operation → Path → Result) → asks file q S r row f ≡ not_allowed) → WaitsAt file s slot b q r None
     not-allowed g = record {
       tells = λ w l f. sym (row-asks file q S f w b r l (runs w l) ∙ (ap (λ (x : OutputRow). asks file q S r x f) (sym e) ∙ g f));
       exists = λ w l. tt;
       small = λ o p e. nowhere e;
     }
 
-    pub no-solicit : OneOf (0 ∷ 1 ∷ []) (tag_of rows.the_type row) → WaitsAt file s slot b q r Waiting.NotAllowed
+    pub no-solicit : OneOf (0 ∷ 1 ∷ []) (tag_of rows.the_type row) → WaitsAt file s slot b q r None
     no-solicit k = not-allowed (λ f. other row f k)
       where
         other : (x : OutputRow) (f : Operation → Path → Result) → OneOf (0 ∷ 1 ∷ []) (tag_of rows.the_type x) → asks file q S r x f ≡ not_allowed
@@ -117,13 +116,13 @@ module _ (file s : List ℕ) (slot b q r : ℕ) {t : Bool} (h : HasRow file b r 
       solicits : (f : Operation → Path → Result) → asks file q S r row f ≡ if_waiting (meaning p) (Next f)
       solicits f = ap (λ (z : OutputRow). asks file q S r z f) g ∙ ap (λ (z : Progress). if_waiting z (Next f)) (sym m)
 
-      pub no-waits : OneOf (0 ∷ 1 ∷ 3 ∷ 4 ∷ []) (tag_of progress.the_type p) → WaitsAt file s slot b q r Waiting.NotAllowed
+      pub no-waits : (p ≡ coded.Progress.Waits → ⊥) → WaitsAt file s slot b q r None
       no-waits k = not-allowed (λ f. solicits f ∙ other p (Next f) k)
         where
-          other : (p : coded.Progress) (z : Result) → OneOf (0 ∷ 1 ∷ 3 ∷ 4 ∷ []) (tag_of progress.the_type p) → if_waiting (meaning p) z ≡ not_allowed
+          other : (p : coded.Progress) (z : Result) → (p ≡ coded.Progress.Waits → ⊥) → if_waiting (meaning p) z ≡ not_allowed
           other coded.Progress.Undone z k = refl
           other coded.Progress.Done z k = refl
-          other coded.Progress.Waits z k = absurd (miss (0 ∷ 1 ∷ 3 ∷ 4 ∷ []) 2 tt k)
+          other coded.Progress.Waits z k = absurd (k refl)
           other (coded.Progress.Taken n) z k = refl
           other (coded.Progress.Received d) z k = refl
 
@@ -133,11 +132,11 @@ module _ (file s : List ℕ) (slot b q r : ℕ) {t : Bool} (h : HasRow file b r 
             solicits f ∙ (ap (λ (c : coded.Progress). if_waiting (meaning c) (Next f)) k
             ∙ ap (λ (c : Bool). require c MoveNotAllowed (f (operation_of file o) (path_of file x))) (sym z))
 
-        pub not-permitted : not v ≡ true → WaitsAt file s slot b q r Waiting.NotAllowed
+        pub not-permitted : not v ≡ true → WaitsAt file s slot b q r None
         not-permitted n =
             not-allowed (λ f. waiting f ∙ ap (λ (c : Bool). require c MoveNotAllowed (f (operation_of file o) (path_of file x))) (not-true v n))
 
-        pub row-waits : not v ≡ false → WaitsAt file s slot b q r (Waiting.Row o x)
+        pub row-waits : not v ≡ false → WaitsAt file s slot b q r (Some (o, x))
         row-waits n = record {
           tells = λ w l f.
               sym (row-asks file q S f w b r l (runs w l) ∙ (ap (λ (c : OutputRow). asks file q S r c f) (sym e)

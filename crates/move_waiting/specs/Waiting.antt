@@ -22,8 +22,8 @@ use Rattle.state_trees.specs.Changing.{KeptTree}
 use Rattle.move_frame.specs.Made.{StateOf, InSession}
 use Rattle.state_slots.specs.Living.{Living}
 use Rattle.state_progress.specs.Stored.{row_stored}
-use Rattle.move_waiting.specs.declared.Waiting.{Waiting}
 use Rattle.move_waiting.specs.declared.Sender.{Sender}
+use Rattle.std.specs.Prelude.{Option, Some, None}
 
 -- x tells whether row r is one of the behaviour of B row b.
 pub record HasRow (file : List ℕ) (b r : ℕ) (x : Bool) : Type 0 where
@@ -31,21 +31,21 @@ pub record HasRow (file : List ℕ) (b r : ℕ) (x : Bool) : Type 0 where
   pub small : x ≡ true → r < 256
 
 -- What goes on with the row's operation and path, or 15.
-abbrev pub waiting_as : List ℕ → Waiting → (Operation → Path → Result) → Result
-waiting_as file Waiting.NotAllowed f = not_allowed
-waiting_as file (Waiting.Row o x) f = f (operation_of file o) (path_of file x)
+abbrev pub waiting_as : List ℕ → Option (ℕ × ℕ) → (Operation → Path → Result) → Result
+waiting_as file None f = not_allowed
+waiting_as file (Some (o, x)) f = f (operation_of file o) (path_of file x)
 
 -- They are rows of the file, and the operation has a reply type.
-abbrev pub WaitingRowsExist : List ℕ → Waiting → Type 0
-WaitingRowsExist file Waiting.NotAllowed = Unit {0}
-WaitingRowsExist file (Waiting.Row o x) = (o < operation_count file) × (x < path_count file) × ((operation_of file o).two_way ≡ true)
+abbrev pub WaitingRowsExist : List ℕ → Option (ℕ × ℕ) → Type 0
+WaitingRowsExist file None = Unit {0}
+WaitingRowsExist file (Some (o, x)) = (o < operation_count file) × (x < path_count file) × ((operation_of file o).two_way ≡ true)
 
 -- Row r of the session of service q in the slot, which runs B row b.
-pub record WaitsAt (file s : List ℕ) (slot b q r : ℕ) (x : Waiting) : Type 0 where
+pub record WaitsAt (file s : List ℕ) (slot b q r : ℕ) (x : Option (ℕ × ℕ)) : Type 0 where
   pub tells : WellFormed file → b < behaviour_count file → (f : Operation → Path → Result)
       → waiting_as file x f ≡ on_waiting_row q (read_session s slot) (at_row r (behaviour_of file b)) f
   pub exists : WellFormed file → b < behaviour_count file → WaitingRowsExist file x
-  pub small : (o p : ℕ) → x ≡ Waiting.Row o p → r < 256
+  pub small : (o p : ℕ) → x ≡ Some (o, p) → r < 256
 
 -- The session with the tree F and its row r done.
 abbrev pub replied : Session → ℕ → Forest Value → Session

@@ -5,7 +5,6 @@ use Rattle.tree_forest.specs.Forest.{Tree}
 use Rattle.tree_forest.specs.Path.{Path}
 use Rattle.scalar.specs.Value.{Value}
 use Rattle.refusal.specs.declared.Refusal.{Refusal}
-use Rattle.refusal.specs.declared.Verdict.{Verdict}
 use Rattle.network_syntax.specs.Syntax.{MessageType, Operation}
 use Rattle.network_syntax.specs.Rows.{at_row}
 use Rattle.network.specs.Form.{WellFormed}
@@ -17,16 +16,18 @@ use Rattle.state.specs.Session.{Session, State}
 use Rattle.move_rules.specs.Moves.{Result, on_waiting_row}
 use Rattle.move_fitting.specs.Fitting.{Comes, Passed, Passes}
 use Rattle.move_frame.specs.Made.{InSession}
-use Rattle.move_waiting.specs.declared.Waiting.{Waiting}
 use Rattle.move_waiting.specs.Waiting.{waiting_as, WaitsAt}
+use Rattle.std.specs.Prelude.{Option, Some, None}
+use Rattle.std.specs.Prelude as std
+use Rattle.std.specs.Prelude.{Ok, Err}
 
-pub waits_in : {file s : List ℕ} {G : State} {q n slot b r : ℕ} {x : Waiting} (h : InSession file s G q n slot b) → WaitsAt file s slot b q r x
+pub waits_in : {file s : List ℕ} {G : State} {q n slot b r : ℕ} {x : Option (ℕ × ℕ)} (h : InSession file s G q n slot b) → WaitsAt file s slot b q r x
     → WellFormed file → (f : Operation → Path → Result) → on_waiting_row q h.session (at_row r (behaviour_of file b)) f ≡ waiting_as file x f
 waits_in {file} {s} {G} {q} {n} {slot} {b} {r} h k w f =
     ap (λ (S : Session). on_waiting_row q S (at_row r (behaviour_of file b)) f) (sym h.reads) ∙ sym (k.tells w h.row f)
 
 -- 17 and 19 at the reply type of O row o.
-pub reply-passes : {m file : List ℕ} {y : ℕ} {other : Refusal} {v : Verdict} (o : ℕ) → Passes m file y other v → y ≡ reply_type file o → WellFormed file
+pub reply-passes : {m file : List ℕ} {y : ℕ} {other : Refusal} {v : std.Result (Unit {0}) Refusal} (o : ℕ) → Passes m file y other v → y ≡ reply_type file o → WellFormed file
     → o < operation_count file → (operation_of file o).two_way ≡ true → (f : (Tree Value → Result) → Result) → Comes m other (operation_of file o).reply f
     → Passed v m f
 reply-passes {m} {file} {y} {other} o p e w l two f c =

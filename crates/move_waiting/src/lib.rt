@@ -9,14 +9,6 @@ ghost use Rattle.state.specs.Places.{slot_size, tree_room};
 use network_rows::OutputRow;
 use refusal::{Outcome, Refusal};
 use state_progress::Progress;
-use state_trees::Change;
-
-// The O row and the P row of a row that waits for its reply; or 15.
-#[derive(Clone, Copy)]
-pub enum Waiting {
-    NotAllowed,
-    Row(u16, u16),
-}
 
 // Who replies: an outsider, or row r of the session in a slot.
 #[derive(Clone, Copy)]
@@ -29,32 +21,34 @@ pub enum Sender {
 pub fn has_row(file: &[u8], b: u16, r: u16) -> bool
     ensures { HasRow file.now b r result }
 {
-    if 255 < r {
-        return false;
-    }
-    let marks = state_rows::rows_of(file, b);
-    let k = wire::index(r);
-    marks[k] != 0
+    r <= 255 && state_rows::rows_of(file, b)[usize::from(r)] != 0
 }
 
 // Does row r of the session of service q in the slot, which runs B row b, wait for its reply?
-pub fn waiting_at(file: &[u8], state: &[u8], slot: usize, b: u16, q: u16, r: u16) -> Waiting
+pub fn waiting_at(
+    file: &[u8],
+    state: &[u8],
+    slot: usize,
+    b: u16,
+    q: u16,
+    r: u16,
+) -> Option<(u16, u16)>
     requires { slot < 65536 }
     ensures { WaitsAt file.now state.now slot b q r result }
 {
     if !has_row(file, b, r) {
-        return Waiting::NotAllowed;
+        return None;
     }
     let OutputRow::SolicitResponse(o, _, x) = network_rows::output_of(file, r) else {
-        return Waiting::NotAllowed;
+        return None;
     };
     let Progress::Waits = state_progress::row_progress(state, slot, r) else {
-        return Waiting::NotAllowed;
+        return None;
     };
     if !check_operations::permits(file, q, false, true, o) {
-        return Waiting::NotAllowed;
+        return None;
     }
-    Waiting::Row(o, x)
+    Some((o, x))
 }
 
 // Stores the first n bytes of `tree` as the session's tree, and its row r as done.
@@ -71,11 +65,8 @@ fn settle(state: &mut [u8], from: Sender)
     requires { SenderInside (length state.old) from }
     ensures { state.new ≡ settled state.old from }
 {
-    match from {
-        Sender::Outsider => {}
-        Sender::Row(at, r) => {
-            state_progress::put_row(state, at, r, Progress::Done);
-        }
+    if let Sender::Row(at, r) = from {
+        state_progress::put_row(state, at, r, Progress::Done);
     }
 }
 
@@ -94,8 +85,7 @@ pub fn take_reply(
     ensures { TakesReply file.now state.old from slot r path message.now state.new result }
 {
     let mut tree = [0u8; 2304];
-    let x = state_trees::replace_at(&mut tree, file, path, state, slot, message);
-    let Change::Kept(n) = x else {
+    let Some(n) = state_trees::replace_at(&mut tree, file, path, state, slot, message) else {
         return refusal::refused(Refusal::Stuck);
     };
     settle(state, from);

@@ -1,21 +1,19 @@
 -- The behaviours of an unrefused file: row equations without a level bound, branches that begin with inputs, the
 -- shapes of their parts, and every row's operation.
-use Rattle.std.specs.Prelude.{ℕ, zero, suc, ◌+◌, ◌<◌, ◌≤◌, ◌≡◌, refl, List, Bool, true, false, not, ◌&&◌, ◌||◌, ◌⊎◌, T, eqb}
-use Rattle.std.proofs.Common.{sym, ◌∙◌, ap, subst, inl, inr, ⊎_elim, arith, eqb→eq}
-use Rattle.std.proofs.Math.Dec.{eqb_refl}
+use Rattle.std.specs.Prelude.{ℕ, zero, suc, ◌+◌, ◌<◌, ◌≤◌, ◌≡◌, refl, List, true, false, T}
+use Rattle.std.proofs.Common.{sym, ◌∙◌, ap, subst, arith}
 use Rattle.basics.specs.TestLaws.{apart}
-use Rattle.tree_forest.specs.Compare.{Compare, lt, eq, gt, compare}
 use Rattle.network_syntax.specs.Syntax.{Behaviour, choice}
 use Rattle.network.specs.declared.BehaviourKind.{BehaviourKind}
 use Rattle.network.specs.Layout.{behaviour_count, behaviour_at}
 use Rattle.network.specs.Rows.{field_a, field_b, field_c, field_d, kind_at, is_branch_kind, is_choice_kind, is_input_kind}
 use Rattle.network.specs.Form.{WellFormed}
 use Rattle.network.specs.Decode.{branches_from, behaviour_from, behaviour_to, behaviour_of, row_operation}
-use Rattle.network_syntax.specs.Rows.{has_row, row_of}
+use Rattle.network_syntax.specs.Rows.{row_of}
 use Rattle.network.specs.Shapes.{BehaviourShape, BranchesShape}
 use Rattle.network.specs.Shapes.{is_input_behaviour, is_choice_behaviour, AsInFile, BranchesInFile, OperationsBy, BranchOperationsBy}
 use Rattle.network.proofs.DecodeLaws.{path-shape, expression-shape, operation-shape}
-use Rattle.network.proofs.UseLaws.{Uses, one-user, Child, SubKept, InputKept, BranchKept, RowKept, behaviour-kept, branch_kept, choice-kind}
+use Rattle.network.proofs.UseLaws.{BranchKept, RowKept, behaviour-kept, branch_kept, choice-kind}
 
 -- The n branches from row a on, of the choice r.
 abbrev pub BranchesKept : List ℕ → ℕ → ℕ → ℕ → Type 0

@@ -1,35 +1,28 @@
 -- The paths, types, expressions and operations of a file that none of 2 to 5 refuses have the shapes of Shapes.antt.
-use Rattle.std.specs.Prelude.{ℕ, zero, suc, ◌+◌, ◌-◌, ◌<◌, ◌≤◌, max, ◌≡◌, refl, List, [], ◌∷◌, Bool, true, false, not, ◌&&◌, ◌||◌, ◌⊎◌, length, T, eqb, leb, ltb}
-use Rattle.std.proofs.Common.{sym, ◌∙◌, ap, subst, inl, inr, ⊎_elim, arith, add-one}
+use Rattle.std.specs.Prelude.{ℕ, zero, suc, ◌+◌, ◌-◌, ◌<◌, ◌≤◌, max, ◌≡◌, refl, List, [], ◌∷◌, Bool, true, false, length, eqb, leb}
+use Rattle.std.proofs.Common.{sym, ◌∙◌, ap, arith, add-one}
 use Rattle.std.proofs.Math.Nat.{max-le}
-use Rattle.tree_forest.specs.Compare.{Compare, lt, eq, gt, compare}
-use Rattle.tree_forest.specs.Forest.{Forest, end, node, Tree, tree, node_of, Above, Rising, RisingTree, measure, nodes, levels}
-use Rattle.tree_forest.specs.Path.{Path, path}
-use Rattle.scalar.specs.Basic.{last_basic, void}
-use Rattle.scalar.specs.Value.{Value, value, is_value, basic_of, bytes_of}
+use Rattle.tree_forest.specs.Forest.{Tree, tree, node_of, Above, Rising, RisingTree, measure, nodes, levels}
+use Rattle.scalar.specs.Value.{is_value}
 use Rattle.basics.specs.Choice.{pick}
 use Rattle.basics.specs.TestLaws.{and-of, clash, eq_of, le_of, lt_of, ne_of, of_eq, one_less, positive}
 use Rattle.wire.specs.Wire.{byte_at, u16_at}
-use Rattle.network_syntax.specs.Syntax.{Mark, mark, mandatory, basic, Types, MessageType, Unary, logical_not, negate, Binary, add, subtract, less, equal}
-use Rattle.network_syntax.specs.Syntax.{logical_and, Expression, constant, value_at, presence, unary, binary, Direction, input, output, Operation}
-use Rattle.network.specs.declared.Broken.{Broken}
-use Rattle.network.specs.declared.Broken.TheVariants.{At, Nowhere}
+use Rattle.network_syntax.specs.Syntax.{Mark, Types, logical_not, negate}
+use Rattle.network_syntax.specs.Syntax.{Expression, unary, input, output}
 use Rattle.network.specs.declared.ExpressionKind.{ExpressionKind}
-use Rattle.network.specs.declared.Fields.{Fields}
-use Rattle.network.specs.Least.{rule}
-use Rattle.network.specs.Layout.{path_count, type_count, expression_count, operation_count, data_size, data_part, path_at, type_at, expression_at}
+use Rattle.network.specs.Layout.{path_count, type_count, expression_count, operation_count, data_size, data_part, path_at, expression_at}
 use Rattle.network.specs.Kinds.{expression_kind, expression_fields}
-use Rattle.network.specs.Rows.{type_id, cardinality, type_basic, first_child, child_count, id_before, field_a, field_b, field_c, field_fits, fields_rule}
-use Rattle.network.specs.Rows.{constant_fits, basic_fits, expression_kind_at, expression_by, expression_row, location_fits, operation_direction}
+use Rattle.network.specs.Rows.{type_id, cardinality, first_child, child_count, id_before, field_a, field_b, field_c, field_fits, fields_rule}
+use Rattle.network.specs.Rows.{constant_fits, basic_fits, expression_kind_at, expression_row, location_fits, operation_direction}
 use Rattle.network.specs.Rows.{operation_two_way, operation_id, operation_location, request_type, reply_type}
-use Rattle.network.specs.Sizes.{rows_sum, rows_all, levels_within, nodes_to, type_levels, type_nodes, operands_within, depth_within, expression_levels}
+use Rattle.network.specs.Sizes.{rows_sum, rows_all, levels_within, nodes_to, type_levels, operands_within, depth_within, expression_levels}
 use Rattle.network.specs.Form.{WellFormed}
 use Rattle.network.specs.Decode.{until_zero, path_of, mark_of, siblings, written_out, type_of, expression_from, expression_to, expression_of, no_reply}
 use Rattle.network.specs.Decode.{operation_of, rows_from}
-use Rattle.network.specs.Shapes.{AllPositive, PathShape, NodesShape, TreeNodesShape, tree_nodes, tree_levels, root_mark, TypeShape}
+use Rattle.network.specs.Shapes.{AllPositive, PathShape, NodesShape, TreeNodesShape, tree_nodes, tree_levels, TypeShape}
 use Rattle.network.specs.Shapes.{MessageTypeShape, depth, PartsShape, ExpressionShape, LocationShape, OperationShape}
 use Rattle.network.proofs.LeastLaws.{rule-kept}
-use Rattle.network.proofs.RowLaws.{Unbroken, unbroken, PathKept, path-kept, TypeKept, type-kept, RootKept, type-size, expression-size}
+use Rattle.network.proofs.RowLaws.{unbroken, path-kept, TypeKept, type-kept, RootKept, type-size, expression-size}
 use Rattle.network.proofs.RowLaws.{OperationKept, operation-kept}
 
 -- ---- paths

@@ -1,16 +1,15 @@
 -- The order in which rules are judged does not matter: laws that let code go over the same rules in another order, or over the
 -- rows of a run alone, or over users instead of used rows.
-use Rattle.std.specs.Prelude.{ℕ, zero, suc, ◌+◌, ◌<◌, ◌≤◌, min, ◌≡◌, refl, List, Bool, true, false, not, ◌&&◌, ◌||◌, eqb, ltb}
+use Rattle.std.specs.Prelude.{ℕ, zero, suc, ◌+◌, ◌<◌, ◌≤◌, min, ◌≡◌, refl, List, Bool, true, false, not, ◌||◌, eqb, ltb}
 use Rattle.std.proofs.Common.{sym, ◌∙◌, ap, arith}
 use Rattle.std.proofs.Math.Nat.{min_comm, min-eq_left, min-eq_right}
 use Rattle.basics.specs.Choice.{pick}
 use Rattle.basics.specs.TestLaws.{lt_not, lt_of}
-use Rattle.network.specs.declared.Broken.{Broken}
-use Rattle.network.specs.declared.Broken.TheVariants.{At, Nowhere}
 use Rattle.network.specs.Least.{least, rule, least_over}
 use Rattle.network.specs.Layout.{behaviour_count, service_count, type_at, behaviour_at}
 use Rattle.network.specs.Rows.{in_run, id_before, type_id, child_rule, field_a, field_b, kind_at, is_branch_kind, branch_rule}
 use Rattle.network.specs.Uses.{used, row_use_rule, service_use_rule, uses_row, uses_rows}
+use Rattle.std.specs.Prelude.{Option, Some, None}
 
 -- ---- the lower of two places
 
@@ -21,45 +20,45 @@ lower p q = go (ltb p q) refl
     go true e = let l : p < q = lt_of p q e in sym (min-eq_left (omega arith))
     go false e = sym (min-eq_right (lt_not p q e))
 
-pub least-none : (a : Broken) → least a Nowhere ≡ a
+pub least-none : (a : Option ℕ) → least a None ≡ a
 unfolding least
-least-none Nowhere = refl
-least-none (At p) = refl
+least-none None = refl
+least-none (Some p) = refl
 
-pub least-same : (a : Broken) → least a a ≡ a
+pub least-same : (a : Option ℕ) → least a a ≡ a
 unfolding least
-least-same Nowhere = refl
-least-same (At p) = ap At (lower p p ∙ omega arith)
+least-same None = refl
+least-same (Some p) = ap Some (lower p p ∙ omega arith)
 
-pub least-comm : (a b : Broken) → least a b ≡ least b a
+pub least-comm : (a b : Option ℕ) → least a b ≡ least b a
 unfolding least
-least-comm Nowhere Nowhere = refl
-least-comm Nowhere (At q) = refl
-least-comm (At p) Nowhere = refl
-least-comm (At p) (At q) = ap At (lower p q ∙ (min_comm p q ∙ sym (lower q p)))
+least-comm None None = refl
+least-comm None (Some q) = refl
+least-comm (Some p) None = refl
+least-comm (Some p) (Some q) = ap Some (lower p q ∙ (min_comm p q ∙ sym (lower q p)))
 
-pub least-assoc : (a b c : Broken) → least (least a b) c ≡ least a (least b c)
+pub least-assoc : (a b c : Option ℕ) → least (least a b) c ≡ least a (least b c)
 unfolding least
-least-assoc Nowhere b c = refl
-least-assoc (At p) Nowhere c = refl
-least-assoc (At p) (At q) Nowhere = refl
-least-assoc (At p) (At q) (At r) = ap At (rw (lower p q, lower q r) (lower (min p q) r ∙ (omega arith ∙ sym (lower p (min q r)))))
+least-assoc None b c = refl
+least-assoc (Some p) None c = refl
+least-assoc (Some p) (Some q) None = refl
+least-assoc (Some p) (Some q) (Some r) = ap Some (rw (lower p q, lower q r) (lower (min p q) r ∙ (omega arith ∙ sym (lower p (min q r)))))
 
 -- Four parts regrouped.
-least-four : (a b c d : Broken) → least (least a b) (least c d) ≡ least (least a c) (least b d)
+least-four : (a b c d : Option ℕ) → least (least a b) (least c d) ≡ least (least a c) (least b d)
 least-four a b c d =
     least-assoc a b (least c d)
     ∙ (ap (least a) (sym (least-assoc b c d) ∙ (ap (λ x. least x d) (least-comm b c) ∙ least-assoc c b d)) ∙ sym (least-assoc a c (least b d)))
 
 -- ---- over many
 
-pub over_none : (f : ℕ → Broken) (n : ℕ) → ((j : ℕ) → j < n → f j ≡ Nowhere) → least_over n f ≡ Nowhere
+pub over_none : (f : ℕ → Option ℕ) (n : ℕ) → ((j : ℕ) → j < n → f j ≡ None) → least_over n f ≡ None
 unfolding least_over least
 over_none f zero h = refl
 over_none f (suc n) h = rw (over_none f n (λ j l. h j (omega arith)), h n (omega arith)) refl
 
 -- Nothing broken from m on: the first m are enough.
-pub over_first : (f : ℕ → Broken) (m d : ℕ) → ((j : ℕ) → m ≤ j → j < m + d → f j ≡ Nowhere) → least_over (m + d) f ≡ least_over m f
+pub over_first : (f : ℕ → Option ℕ) (m d : ℕ) → ((j : ℕ) → m ≤ j → j < m + d → f j ≡ None) → least_over (m + d) f ≡ least_over m f
 unfolding least_over
 over_first f m zero h = let z : m + 0 ≡ m = omega arith in ap (λ k. least_over k f) z
 over_first f m (suc d) h =
@@ -68,20 +67,20 @@ over_first f m (suc d) h =
     ∙ (ap (least (least_over (m + d) f)) (h (m + d) (omega arith) (omega arith))
     ∙ (least-none (least_over (m + d) f) ∙ over_first f m d (λ j x y. h j x (omega arith))))
 
-pub over-least : (f g : ℕ → Broken) (n : ℕ) → least_over n (λ j. least (f j) (g j)) ≡ least (least_over n f) (least_over n g)
+pub over-least : (f g : ℕ → Option ℕ) (n : ℕ) → least_over n (λ j. least (f j) (g j)) ≡ least (least_over n f) (least_over n g)
 unfolding least_over least
 over-least f g zero = refl
 over-least f g (suc n) = ap (λ x. least x (least (f n) (g n))) (over-least f g n) ∙ least-four (least_over n f) (least_over n g) (f n) (g n)
 
-pub over-same : (f g : ℕ → Broken) (n : ℕ) → ((j : ℕ) → j < n → f j ≡ g j) → least_over n f ≡ least_over n g
+pub over-same : (f g : ℕ → Option ℕ) (n : ℕ) → ((j : ℕ) → j < n → f j ≡ g j) → least_over n f ≡ least_over n g
 unfolding least_over
 over-same f g zero h = refl
 over-same f g (suc n) h = rw (over-same f g n (λ j l. h j (omega arith)), h n (omega arith)) refl
 
 -- Rows and columns of a table may be gone through either way.
-pub over-swap : (f : ℕ → ℕ → Broken) (n m : ℕ) → least_over n (λ i. least_over m (λ j. f i j)) ≡ least_over m (λ j. least_over n (λ i. f i j))
+pub over-swap : (f : ℕ → ℕ → Option ℕ) (n m : ℕ) → least_over n (λ i. least_over m (λ j. f i j)) ≡ least_over m (λ j. least_over n (λ i. f i j))
 unfolding least_over
-over-swap f zero m = sym (over_none (λ j. Nowhere) m (λ j l. refl))
+over-swap f zero m = sym (over_none (λ j. None) m (λ j l. refl))
 over-swap f (suc n) m =
     ap (λ x. least x (least_over m (λ j. f n j))) (over-swap f n m)
     ∙ sym (over-least (λ j. least_over n (λ i. f i j)) (λ j. f n j) m)
@@ -89,31 +88,31 @@ over-swap f (suc n) m =
 -- ---- rules of a run
 
 -- A row outside a run breaks no rule of it.
-pub child-outside : (s : List ℕ) (first n j : ℕ) → in_run first n j ≡ false → child_rule s first n j ≡ Nowhere
+pub child-outside : (s : List ℕ) (first n j : ℕ) → in_run first n j ≡ false → child_rule s first n j ≡ None
 unfolding child_rule rule least
 child-outside s first n j e = go (in_run first n j) e
   where
-    go : (t : Bool) → t ≡ false → rule (not t || ltb (id_before s first j) (type_id s j)) (type_at s j) Nowhere ≡ Nowhere
+    go : (t : Bool) → t ≡ false → rule (not t || ltb (id_before s first j) (type_id s j)) (type_at s j) None ≡ None
     go true h = let z : ◌≡◌ {A = ℕ} 0 1 = cc in absurd (omega arith)
     go false h = refl
 
-pub branch-outside : (s : List ℕ) (at j : ℕ) → in_run (field_a s at) (field_b s at) j ≡ false → branch_rule s at j ≡ Nowhere
+pub branch-outside : (s : List ℕ) (at j : ℕ) → in_run (field_a s at) (field_b s at) j ≡ false → branch_rule s at j ≡ None
 unfolding branch_rule rule least
 branch-outside s at j e = go (in_run (field_a s at) (field_b s at) j) e
   where
-    go : (t : Bool) → t ≡ false → rule (not t || is_branch_kind (kind_at s j)) (at + 2) Nowhere ≡ Nowhere
+    go : (t : Bool) → t ≡ false → rule (not t || is_branch_kind (kind_at s j)) (at + 2) None ≡ None
     go true h = let z : ◌≡◌ {A = ℕ} 0 1 = cc in absurd (omega arith)
     go false h = refl
 
 -- ---- uses by user
 
 -- Row t is used.
-abbrev pub used_rule : List ℕ → ℕ → Broken
-used_rule s t = rule (not (eqb (used s t (service_count s)) 0)) (behaviour_at s t) Nowhere
+abbrev pub used_rule : List ℕ → ℕ → Option ℕ
+used_rule s t = rule (not (eqb (used s t (service_count s)) 0)) (behaviour_at s t) None
 
-rule-apart : (t : Bool) (p : ℕ) (m : Broken) → rule t p m ≡ least (rule t p Nowhere) m
+rule-apart : (t : Bool) (p : ℕ) (m : Option ℕ) → rule t p m ≡ least (rule t p None) m
 unfolding rule
-rule-apart t p m = sym (ap (λ x. least x m) (least-none (pick t Nowhere (At p))))
+rule-apart t p m = sym (ap (λ x. least x m) (least-none (pick t None (Some p))))
 
 -- The use of B rows, told by the users in file order: never used; second uses by B rows; second uses by services.
 pub uses-by-user : (s : List ℕ) → uses_rows s ≡
@@ -132,8 +131,8 @@ uses-by-user s =
     n : ℕ
     n = behaviour_count s
 
-    rows : ℕ → Broken
+    rows : ℕ → Option ℕ
     rows t = least_over (behaviour_count s) (row_use_rule s t)
 
-    services : ℕ → Broken
+    services : ℕ → Option ℕ
     services t = least_over (service_count s) (service_use_rule s t)

@@ -1,16 +1,12 @@
 -- "lowest place first": the place of refusal 4 is that of a broken rule, and no rule is broken at a lower one; so it is for refusal 5.
-use Rattle.std.specs.Prelude.{ℕ, ◌+◌, ◌<◌, ◌≤◌, List, Bool, ◌⊎◌}
+use Rattle.std.specs.Prelude.{ℕ, ◌<◌, ◌≤◌, List, Bool}
 use Rattle.std.proofs.Math.Path.{◌≡◌, refl, sym, ap, subst}
 use Rattle.std.proofs.Common.{◌∙◌, inl, inr, le_refl, arith}
 use Rattle.std.proofs.Math.Bool.{true, false}
 use Rattle.std.proofs.Math.Logic.{⊎_elim}
 use Rattle.basics.specs.Choice.{pick}
-use Rattle.refusal.specs.declared.Verdict.{Verdict}
-use Rattle.refusal.specs.declared.Verdict.TheVariants.{Done, Refused}
 use Rattle.refusal.specs.declared.Refusal.{Refusal}
 use Rattle.refusal.specs.declared.Refusal.TheVariants.{FileLayout, SectionCount, BrokenField, TooLarge}
-use Rattle.network.specs.declared.Broken.{Broken}
-use Rattle.network.specs.declared.Broken.TheVariants.{At, Nowhere}
 use Rattle.network.specs.Least.{least, rule, least_over}
 use Rattle.network.proofs.LeastLaws.{AtOrBelow, least-hit, rule-hit, over-hit, least-below, rule-below, over_below}
 use Rattle.network.specs.Layout.{path_count, type_count, expression_count, behaviour_count, operation_count, service_count, path_at, expression_at, behaviour_at, laid_out, counted}
@@ -19,7 +15,7 @@ use Rattle.network.specs.Rows.{behaviour_row, operation_fields, operation_links,
 use Rattle.network.specs.Rows.{expression_rows, behaviour_rows, operation_rows, service_rows, expression_kind_at, kind_at, is_choice_kind, first_child, child_count}
 use Rattle.network.specs.Uses.{row_use_rule, service_use_rule, uses_row, uses_rows, broken}
 use Rattle.network.specs.Sizes.{type_large, expression_large, type_sizes, expression_sizes, large}
-use Rattle.network.specs.Form.{after_sizes, after_fields, form_of}
+use Rattle.network.specs.Form.{after_fields, form_of}
 use Rattle.network.specs.Breaks.{path_first, path_second, path_third, path_fourth, type_cardinality, type_basic_type, type_children, child_id}
 use Rattle.network.specs.Breaks.{expression_kind_byte, expression_basic, expression_a, expression_b, expression_c, behaviour_kind_byte, behaviour_unused}
 use Rattle.network.specs.Breaks.{behaviour_a, behaviour_b, behaviour_c, behaviour_d, choice_branches, never_used, used_again_by_row, used_again_by_service}
@@ -29,24 +25,26 @@ use Rattle.network.specs.Breaks.{service_client, service_repeated}
 use Rattle.network.specs.Breaks.{in_path, in_type, in_expression, in_behaviour, in_use, in_operation, in_service}
 use Rattle.network.specs.Breaks.{PathBreaks, TypeBreaks, ExpressionBreaks, BehaviourBreaks, UseBreaks, OperationBreaks, ServiceBreaks}
 use Rattle.network.specs.Breaks.{Breaks, TooLargeAt, large_type, large_expression}
+use Rattle.std.specs.Prelude.{Option, Some, None}
+use Rattle.std.specs.Prelude.{Result, Ok, Err}
 
 -- A rule before others: the answer is its place or theirs; it is at or below its place, and theirs.
-hit : {C : Type 0} (t : Bool) (x : ℕ) (m : Broken) (p : ℕ) → (t ≡ false → x ≡ p → C) → (m ≡ At p → C) → rule t x m ≡ At p → C
+hit : {C : Type 0} (t : Bool) (x : ℕ) (m : Option ℕ) (p : ℕ) → (t ≡ false → x ≡ p → C) → (m ≡ Some p → C) → rule t x m ≡ Some p → C
 hit t x m p f g e = ⊎_elim (λ h. f h.0 h.1) g (rule-hit t x m p e)
 
-nothing : {C : Type 0} (p : ℕ) → Nowhere ≡ At p → C
+nothing : {C : Type 0} (p : ℕ) → None ≡ Some p → C
 nothing p e = absurd (let z : ◌≡◌ {A = ℕ} 0 1 = cc in omega arith)
 
-here : (t : Bool) (x : ℕ) (m : Broken) → t ≡ false → AtOrBelow (rule t x m) x
+here : (t : Bool) (x : ℕ) (m : Option ℕ) → t ≡ false → AtOrBelow (rule t x m) x
 here t x m e = rule-below t x m x (inl (e, le_refl x))
 
-past : (t : Bool) (x : ℕ) (m : Broken) (p : ℕ) → AtOrBelow m p → AtOrBelow (rule t x m) p
+past : (t : Bool) (x : ℕ) (m : Option ℕ) (p : ℕ) → AtOrBelow m p → AtOrBelow (rule t x m) p
 past t x m p h = rule-below t x m p (inr h)
 
 -- ---- the answer of a row is the place of one of its rules
 
 module _ (s : List ℕ) where
-  path_row-hit : (r : ℕ) → r < path_count s → (p : ℕ) → path_row s r ≡ At p → Breaks s p
+  path_row-hit : (r : ℕ) → r < path_count s → (p : ℕ) → path_row s r ≡ Some p → Breaks s p
   unfolding path_row
   path_row-hit r l p =
       hit _ _ _ p (λ h q. subst (Breaks s) q (in_path r l (path_first h)))
@@ -55,11 +53,11 @@ module _ (s : List ℕ) where
       (hit _ _ _ p (λ h q. subst (Breaks s) q (in_path r l (path_fourth h)))
       (nothing p))))
 
-  child_rule-hit : (r : ℕ) → r < type_count s → (j : ℕ) → j < type_count s → (p : ℕ) → child_rule s (first_child s r) (child_count s r) j ≡ At p → Breaks s p
+  child_rule-hit : (r : ℕ) → r < type_count s → (j : ℕ) → j < type_count s → (p : ℕ) → child_rule s (first_child s r) (child_count s r) j ≡ Some p → Breaks s p
   unfolding child_rule
   child_rule-hit r l j k p = hit _ _ _ p (λ h q. subst (Breaks s) q (in_type r l (child_id j k h))) (nothing p)
 
-  type_row-hit : (r : ℕ) → r < type_count s → (p : ℕ) → type_row s r ≡ At p → Breaks s p
+  type_row-hit : (r : ℕ) → r < type_count s → (p : ℕ) → type_row s r ≡ Some p → Breaks s p
   unfolding type_row child_ids
   type_row-hit r l p =
       hit _ _ _ p (λ h q. subst (Breaks s) q (in_type r l (type_cardinality h)))
@@ -67,7 +65,7 @@ module _ (s : List ℕ) where
       (hit _ _ _ p (λ h q. subst (Breaks s) q (in_type r l (type_children h)))
       (λ e. let w = over-hit (child_rule s (first_child s r) (child_count s r)) (type_count s) p e in child_rule-hit r l w.0 w.1 p w.2)))
 
-  expression_row-hit : (r : ℕ) → r < expression_count s → (p : ℕ) → expression_row s r ≡ At p → Breaks s p
+  expression_row-hit : (r : ℕ) → r < expression_count s → (p : ℕ) → expression_row s r ≡ Some p → Breaks s p
   unfolding expression_row fields_rule
   expression_row-hit r l p =
       hit _ _ _ p (λ h q. subst (Breaks s) q (in_expression r l (expression_kind_byte h)))
@@ -78,19 +76,19 @@ module _ (s : List ℕ) where
       (nothing p)))))
 
   branch-hit : (r : ℕ) → r < behaviour_count s → is_choice_kind (kind_at s r) ≡ true → (j : ℕ) → j < behaviour_count s → (p : ℕ)
-      → branch_rule s (behaviour_at s r) j ≡ At p → Breaks s p
+      → branch_rule s (behaviour_at s r) j ≡ Some p → Breaks s p
   unfolding branch_rule
   branch-hit r l c j k p = hit _ _ _ p (λ h q. subst (Breaks s) q (in_behaviour r l (choice_branches j k c h))) (nothing p)
 
-  choice-hit : (r : ℕ) → r < behaviour_count s → (p : ℕ) → choice_run s r ≡ At p → Breaks s p
+  choice-hit : (r : ℕ) → r < behaviour_count s → (p : ℕ) → choice_run s r ≡ Some p → Breaks s p
   unfolding choice_run branch_row_rule
   choice-hit r l p e = go (is_choice_kind (kind_at s r)) refl e
     where
-      go : (c : Bool) → is_choice_kind (kind_at s r) ≡ c → pick c (least_over (behaviour_count s) (branch_rule s (behaviour_at s r))) Nowhere ≡ At p → Breaks s p
+      go : (c : Bool) → is_choice_kind (kind_at s r) ≡ c → pick c (least_over (behaviour_count s) (branch_rule s (behaviour_at s r))) None ≡ Some p → Breaks s p
       go true c e = let w = over-hit (branch_rule s (behaviour_at s r)) (behaviour_count s) p e in branch-hit r l c w.0 w.1 p w.2
       go false c e = nothing p e
 
-  behaviour_row-hit : (r : ℕ) → r < behaviour_count s → (p : ℕ) → behaviour_row s r ≡ At p → Breaks s p
+  behaviour_row-hit : (r : ℕ) → r < behaviour_count s → (p : ℕ) → behaviour_row s r ≡ Some p → Breaks s p
   unfolding behaviour_row behaviour_head fields_rule
   behaviour_row-hit r l p =
       hit _ _ _ p (λ h q. subst (Breaks s) q (in_behaviour r l (behaviour_kind_byte h)))
@@ -101,11 +99,11 @@ module _ (s : List ℕ) where
       (hit _ _ _ p (λ h q. subst (Breaks s) q (in_behaviour r l (behaviour_d h)))
       (choice-hit r l p))))))
 
-  repeat_rule-hit : (r : ℕ) → r < operation_count s → (j : ℕ) → j < r → (p : ℕ) → repeat_rule s r j ≡ At p → Breaks s p
+  repeat_rule-hit : (r : ℕ) → r < operation_count s → (j : ℕ) → j < r → (p : ℕ) → repeat_rule s r j ≡ Some p → Breaks s p
   unfolding repeat_rule
   repeat_rule-hit r l j k p = hit _ _ _ p (λ h q. subst (Breaks s) q (in_operation r l (operation_repeated j k h))) (nothing p)
 
-  operation_row-hit : (r : ℕ) → r < operation_count s → (p : ℕ) → operation_row s r ≡ At p → Breaks s p
+  operation_row-hit : (r : ℕ) → r < operation_count s → (p : ℕ) → operation_row s r ≡ Some p → Breaks s p
   unfolding operation_row operation_fields operation_links
   operation_row-hit r l p =
       hit _ _ _ p (λ h q. subst (Breaks s) q (in_operation r l (operation_service_row h)))
@@ -118,11 +116,11 @@ module _ (s : List ℕ) where
       (hit _ _ _ p (λ h q. subst (Breaks s) q (in_operation r l (operation_reply h)))
       (λ e. let w = over-hit (repeat_rule s r) (r) p e in repeat_rule-hit r l w.0 w.1 p w.2))))))))
 
-  location_rule-hit : (r : ℕ) → r < service_count s → (j : ℕ) → j < r → (p : ℕ) → location_rule s r j ≡ At p → Breaks s p
+  location_rule-hit : (r : ℕ) → r < service_count s → (j : ℕ) → j < r → (p : ℕ) → location_rule s r j ≡ Some p → Breaks s p
   unfolding location_rule
   location_rule-hit r l j k p = hit _ _ _ p (λ h q. subst (Breaks s) q (in_service r l (service_repeated j k h))) (nothing p)
 
-  service_row-hit : (r : ℕ) → r < service_count s → (p : ℕ) → service_row s r ≡ At p → Breaks s p
+  service_row-hit : (r : ℕ) → r < service_count s → (p : ℕ) → service_row s r ≡ Some p → Breaks s p
   unfolding service_row
   service_row-hit r l p =
       hit _ _ _ p (λ h q. subst (Breaks s) q (in_service r l (service_location_zero h)))
@@ -130,15 +128,15 @@ module _ (s : List ℕ) where
       (hit _ _ _ p (λ h q. subst (Breaks s) q (in_service r l (service_client h)))
       (λ e. let w = over-hit (location_rule s r) (r) p e in location_rule-hit r l w.0 w.1 p w.2)))
 
-  row_use-hit : (r : ℕ) → r < behaviour_count s → (j : ℕ) → j < behaviour_count s → (p : ℕ) → row_use_rule s r j ≡ At p → Breaks s p
+  row_use-hit : (r : ℕ) → r < behaviour_count s → (j : ℕ) → j < behaviour_count s → (p : ℕ) → row_use_rule s r j ≡ Some p → Breaks s p
   unfolding row_use_rule
   row_use-hit r l j k p = hit _ _ _ p (λ h q. subst (Breaks s) q (in_use r l (used_again_by_row j k h))) (nothing p)
 
-  service_use-hit : (r : ℕ) → r < behaviour_count s → (j : ℕ) → j < service_count s → (p : ℕ) → service_use_rule s r j ≡ At p → Breaks s p
+  service_use-hit : (r : ℕ) → r < behaviour_count s → (j : ℕ) → j < service_count s → (p : ℕ) → service_use_rule s r j ≡ Some p → Breaks s p
   unfolding service_use_rule
   service_use-hit r l j k p = hit _ _ _ p (λ h q. subst (Breaks s) q (in_use r l (used_again_by_service j k h))) (nothing p)
 
-  uses_row-hit : (r : ℕ) → r < behaviour_count s → (p : ℕ) → uses_row s r ≡ At p → Breaks s p
+  uses_row-hit : (r : ℕ) → r < behaviour_count s → (p : ℕ) → uses_row s r ≡ Some p → Breaks s p
   unfolding uses_row
   uses_row-hit r l p =
       hit _ _ _ p (λ h q. subst (Breaks s) q (in_use r l (never_used h)))
@@ -148,28 +146,28 @@ module _ (s : List ℕ) where
       (least-hit (least_over (behaviour_count s) (row_use_rule s r)) (least_over (service_count s) (service_use_rule s r)) p e))
 
   -- The lowest place in the sections after one.
-  abbrev after_uses : Broken
+  abbrev after_uses : Option ℕ
   after_uses = least (operation_rows s) (service_rows s)
 
-  abbrev after_behaviours : Broken
+  abbrev after_behaviours : Option ℕ
   after_behaviours = least (uses_rows s) after_uses
 
-  abbrev after_expressions : Broken
+  abbrev after_expressions : Option ℕ
   after_expressions = least (behaviour_rows s) after_behaviours
 
-  abbrev after_types : Broken
+  abbrev after_types : Option ℕ
   after_types = least (expression_rows s) after_expressions
 
-  abbrev after_paths : Broken
+  abbrev after_paths : Option ℕ
   after_paths = least (type_rows s) after_types
 
-  either : {C : Type 0} (a b : Broken) (p : ℕ) → (a ≡ At p → C) → (b ≡ At p → C) → least a b ≡ At p → C
+  either : {C : Type 0} (a b : Option ℕ) (p : ℕ) → (a ≡ Some p → C) → (b ≡ Some p → C) → least a b ≡ Some p → C
   either a b p f g e = ⊎_elim f g (least-hit a b p e)
 
-  some-row : {C : Type 0} (f : ℕ → Broken) (n p : ℕ) → ((r : ℕ) → r < n → (q : ℕ) → f r ≡ At q → Breaks s q) → (Breaks s p → C) → least_over n f ≡ At p → C
+  some-row : {C : Type 0} (f : ℕ → Option ℕ) (n p : ℕ) → ((r : ℕ) → r < n → (q : ℕ) → f r ≡ Some q → Breaks s q) → (Breaks s p → C) → least_over n f ≡ Some p → C
   some-row f n p g k e = let w = over-hit f n p e in k (g w.0 w.1 p w.2)
 
-  broken-hit : (p : ℕ) → broken s ≡ At p → Breaks s p
+  broken-hit : (p : ℕ) → broken s ≡ Some p → Breaks s p
   unfolding broken path_rows type_rows expression_rows behaviour_rows uses_rows operation_rows service_rows
   broken-hit p =
       either (path_rows s) after_paths p (some-row (path_row s) (path_count s) p path_row-hit (λ b. b))
@@ -317,7 +315,7 @@ module _ (s : List ℕ) where
 
   -- ---- too large
 
-  large-hit : (p : ℕ) → large s ≡ At p → TooLargeAt s p
+  large-hit : (p : ℕ) → large s ≡ Some p → TooLargeAt s p
   unfolding large type_sizes expression_sizes type_large expression_large
   large-hit p =
       either (type_sizes s) (expression_sizes s) p
@@ -334,18 +332,18 @@ module _ (s : List ℕ) where
       least-below (type_sizes s) (expression_sizes s) p (inr (over_below (expression_large s) (expression_count s) r p l (here _ _ _ h)))
 
   -- The lowest of all.
-  lowest : (P : ℕ → Type 0) (b : Broken) (p : ℕ) → b ≡ At p → P p → ((q : ℕ) → P q → AtOrBelow b q) → P p × ((q : ℕ) → P q → p ≤ q)
+  lowest : (P : ℕ → Type 0) (b : Option ℕ) (p : ℕ) → b ≡ Some p → P p → ((q : ℕ) → P q → AtOrBelow b q) → P p × ((q : ℕ) → P q → p ≤ q)
   lowest P b p e h f = (
     h,
     λ q k.
         let w = f q k in
-        let same : At p ≡ At w.0 = sym e ∙ w.1 in
+        let same : Some p ≡ Some w.0 = sym e ∙ w.1 in
         let i : p ≡ w.0 = cc in
         let l = w.2 in
         omega arith,
   )
 
-  refused-inj : {a b : Refusal} → Refused a ≡ Refused b → a ≡ b
+  refused-inj : {a b : Refusal} → ◌≡◌ {A = Result (Unit {0}) Refusal} (Err a) (Err b) → a ≡ b
   refused-inj e = cc
 
   broken-inj : {p q : ℕ} → BrokenField p ≡ BrokenField q → p ≡ q
@@ -355,50 +353,50 @@ module _ (s : List ℕ) where
   large-inj e = cc
 
   -- 4: the verdict on a file is 4 at p only where p is the lowest place of a broken rule.
-  pub lowest-broken : (p : ℕ) → form_of s ≡ Refused (BrokenField p) → Breaks s p × ((q : ℕ) → Breaks s q → p ≤ q)
+  pub lowest-broken : (p : ℕ) → form_of s ≡ Err (BrokenField p) → Breaks s p × ((q : ℕ) → Breaks s q → p ≤ q)
   unfolding form_of
   lowest-broken p e = go (laid_out s) (counted s) (broken s) (large s) refl e
     where
-      go : (a b : Bool) (x y : Broken) → broken s ≡ x → pick a (pick b (after_fields x y) (Refused SectionCount)) (Refused FileLayout) ≡ Refused (BrokenField p)
+      go : (a b : Bool) (x y : Option ℕ) → broken s ≡ x → pick a (pick b (after_fields x y) (Err SectionCount)) (Err FileLayout) ≡ Err (BrokenField p)
           → Breaks s p × ((q : ℕ) → Breaks s q → p ≤ q)
-      go true true (At q) y f e =
-          let same : broken s ≡ At p = f ∙ ap At (broken-inj (refused-inj e)) in lowest (Breaks s) (broken s) p same (broken-hit p same) broken-below
-      go true true Nowhere Nowhere f e = absurd (let z : ◌≡◌ {A = ℕ} 0 1 = cc in omega arith)
-      go true true Nowhere (At q) f e = absurd (let z : ◌≡◌ {A = ℕ} 0 1 = cc in omega arith)
+      go true true (Some q) y f e =
+          let same : broken s ≡ Some p = f ∙ ap Some (broken-inj (refused-inj e)) in lowest (Breaks s) (broken s) p same (broken-hit p same) broken-below
+      go true true None None f e = absurd (let z : ◌≡◌ {A = ℕ} 0 1 = cc in omega arith)
+      go true true None (Some q) f e = absurd (let z : ◌≡◌ {A = ℕ} 0 1 = cc in omega arith)
       go true false x y f e = absurd (let z : ◌≡◌ {A = ℕ} 0 1 = cc in omega arith)
       go false b x y f e = absurd (let z : ◌≡◌ {A = ℕ} 0 1 = cc in omega arith)
 
   -- 5: it is 5 at p only where no rule is broken and p is the lowest place of a row that is too large.
-  pub lowest-large : (p : ℕ) → form_of s ≡ Refused (TooLarge p) → ((q : ℕ) → Breaks s q → ⊥) × TooLargeAt s p × ((q : ℕ) → TooLargeAt s q → p ≤ q)
+  pub lowest-large : (p : ℕ) → form_of s ≡ Err (TooLarge p) → ((q : ℕ) → Breaks s q → ⊥) × TooLargeAt s p × ((q : ℕ) → TooLargeAt s q → p ≤ q)
   unfolding form_of
   lowest-large p e = go (laid_out s) (counted s) (broken s) (large s) refl refl e
     where
-      none : broken s ≡ Nowhere → (q : ℕ) → Breaks s q → ⊥
-      none f q h = let w = broken-below q h in let g : Nowhere ≡ At w.0 = sym f ∙ w.1 in nothing w.0 g
+      none : broken s ≡ None → (q : ℕ) → Breaks s q → ⊥
+      none f q h = let w = broken-below q h in let g : None ≡ Some w.0 = sym f ∙ w.1 in nothing w.0 g
 
-      go : (a b : Bool) (x y : Broken) → broken s ≡ x → large s ≡ y
-          → pick a (pick b (after_fields x y) (Refused SectionCount)) (Refused FileLayout) ≡ Refused (TooLarge p)
+      go : (a b : Bool) (x y : Option ℕ) → broken s ≡ x → large s ≡ y
+          → pick a (pick b (after_fields x y) (Err SectionCount)) (Err FileLayout) ≡ Err (TooLarge p)
           → ((q : ℕ) → Breaks s q → ⊥) × TooLargeAt s p × ((q : ℕ) → TooLargeAt s q → p ≤ q)
-      go true true (At q) y f g e = absurd (let z : ◌≡◌ {A = ℕ} 0 1 = cc in omega arith)
-      go true true Nowhere Nowhere f g e = absurd (let z : ◌≡◌ {A = ℕ} 0 1 = cc in omega arith)
-      go true true Nowhere (At q) f g e =
-          let same : large s ≡ At p = g ∙ ap At (large-inj (refused-inj e)) in
+      go true true (Some q) y f g e = absurd (let z : ◌≡◌ {A = ℕ} 0 1 = cc in omega arith)
+      go true true None None f g e = absurd (let z : ◌≡◌ {A = ℕ} 0 1 = cc in omega arith)
+      go true true None (Some q) f g e =
+          let same : large s ≡ Some p = g ∙ ap Some (large-inj (refused-inj e)) in
           let w = lowest (TooLargeAt s) (large s) p same (large-hit p same) large-below in (none f, w.0, w.1)
       go true false x y f g e = absurd (let z : ◌≡◌ {A = ℕ} 0 1 = cc in omega arith)
       go false b x y f g e = absurd (let z : ◌≡◌ {A = ℕ} 0 1 = cc in omega arith)
 
   -- A file that none of 2 to 5 refuses breaks no rule, and no row of it is too large.
-  pub none-broken : form_of s ≡ Done → ((q : ℕ) → Breaks s q → ⊥) × ((q : ℕ) → TooLargeAt s q → ⊥)
+  pub none-broken : form_of s ≡ (Ok tt) → ((q : ℕ) → Breaks s q → ⊥) × ((q : ℕ) → TooLargeAt s q → ⊥)
   unfolding form_of
   none-broken e = go (laid_out s) (counted s) (broken s) (large s) refl refl e
     where
-      go : (a b : Bool) (x y : Broken) → broken s ≡ x → large s ≡ y → pick a (pick b (after_fields x y) (Refused SectionCount)) (Refused FileLayout) ≡ Done
+      go : (a b : Bool) (x y : Option ℕ) → broken s ≡ x → large s ≡ y → pick a (pick b (after_fields x y) (Err SectionCount)) (Err FileLayout) ≡ (Ok tt)
           → ((q : ℕ) → Breaks s q → ⊥) × ((q : ℕ) → TooLargeAt s q → ⊥)
-      go true true (At q) y f g e = absurd (let z : ◌≡◌ {A = ℕ} 0 1 = cc in omega arith)
-      go true true Nowhere Nowhere f g e = (
-        (λ q h. let w = broken-below q h in let k : Nowhere ≡ At w.0 = sym f ∙ w.1 in nothing w.0 k),
-        (λ q h. let w = large-below q h in let k : Nowhere ≡ At w.0 = sym g ∙ w.1 in nothing w.0 k),
+      go true true (Some q) y f g e = absurd (let z : ◌≡◌ {A = ℕ} 0 1 = cc in omega arith)
+      go true true None None f g e = (
+        (λ q h. let w = broken-below q h in let k : None ≡ Some w.0 = sym f ∙ w.1 in nothing w.0 k),
+        (λ q h. let w = large-below q h in let k : None ≡ Some w.0 = sym g ∙ w.1 in nothing w.0 k),
       )
-      go true true Nowhere (At q) f g e = absurd (let z : ◌≡◌ {A = ℕ} 0 1 = cc in omega arith)
+      go true true None (Some q) f g e = absurd (let z : ◌≡◌ {A = ℕ} 0 1 = cc in omega arith)
       go true false x y f g e = absurd (let z : ◌≡◌ {A = ℕ} 0 1 = cc in omega arith)
       go false b x y f g e = absurd (let z : ◌≡◌ {A = ℕ} 0 1 = cc in omega arith)

@@ -1,23 +1,22 @@
 -- The network that an unrefused file is, whole; and the input that an output meets is the only one.
-use Rattle.std.specs.Prelude.{ℕ, zero, suc, ◌+◌, ◌<◌, ◌≤◌, ◌≡◌, refl, List, [], ◌∷◌, Bool, true, false, not, ◌&&◌, ◌||◌, ◌⊎◌, T, eqb, ltb, length}
-use Rattle.std.proofs.Common.{sym, ◌∙◌, ap, subst, inl, inr, ⊎_elim, arith}
+use Rattle.std.specs.Prelude.{ℕ, zero, suc, ◌+◌, ◌<◌, ◌≤◌, ◌≡◌, refl, List, Bool, true, false, not, ◌&&◌, T, eqb, ltb, length}
+use Rattle.std.proofs.Common.{sym, ◌∙◌, ap, subst, ⊎_elim, arith}
 use Rattle.tree_forest.specs.Compare.{Compare, lt, eq, gt, compare}
 use Rattle.basics.specs.Choice.{pick}
 use Rattle.basics.specs.TestLaws.{and-of, clash, eq_of, lt_of, not-true, of_eq, or-of, positive}
-use Rattle.network_syntax.specs.Syntax.{Direction, input, output, Operation, Behaviour, Optional, none, some, Service, Network}
+use Rattle.network_syntax.specs.Syntax.{input, output, Operation, Behaviour, Optional, none, some, Service}
 use Rattle.network.specs.declared.BehaviourKind.{BehaviourKind}
-use Rattle.network.specs.Layout.{behaviour_count, operation_count, service_count, counted, path_count, type_count, expression_count}
+use Rattle.network.specs.Layout.{behaviour_count, operation_count, service_count}
 use Rattle.network.specs.Rows.{kind_at, is_branch_kind, is_choice_kind, operation_service, operation_direction, operation_id, operation_location, same_service}
 use Rattle.network.specs.Rows.{same_name, service_location, starter_row, client_row, service_key, no_row, starter_fits, client_fits}
 use Rattle.network.specs.Uses.{service_uses}
 use Rattle.network.specs.Form.{WellFormed}
 use Rattle.network.specs.Decode.{operation_of, behaviour_of, row_operation, optional_behaviour, service_of, rows_from, network_of}
-use Rattle.network_syntax.specs.Meets.{location_of, some_at, in_file, same_kind, meets, first_of, met_input}
-use Rattle.network_syntax.specs.Rows.{entry, is_input_operation}
+use Rattle.network_syntax.specs.Rows.{entry}
 use Rattle.network_syntax.specs.Keys.{key_id_of, key_id}
 use Rattle.network.specs.Shapes.{OperationShape, Apart, is_choice_behaviour, FileBehaviour, IfAny, Role, as_starter, as_client, behaviour_as}
 use Rattle.network.specs.Shapes.{NetworkShape}
-use Rattle.network.proofs.RowLaws.{ServiceKept, service-kept, OperationKept, operation-kept}
+use Rattle.network.proofs.RowLaws.{service-kept, operation-kept}
 use Rattle.network.proofs.UseLaws.{uses-kept, one-service, choice-kind, one_same}
 use Rattle.network.proofs.DecodeLaws.{operation-shape}
 use Rattle.network.proofs.BehaviourLaws.{behaviour-shape, behaviour-in-file, choice-row, behaviour-operations}

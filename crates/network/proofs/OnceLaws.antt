@@ -1,6 +1,6 @@
 -- Each row once: the rows of a behaviour go up, from user to user, to its top row, and a row has one user.
-use Rattle.std.specs.Prelude.{ℕ, zero, suc, ◌+◌, ◌<◌, ◌≤◌, ◌≡◌, refl, List, Bool, true, false, ◌||◌, ◌⊎◌, T, eqb}
-use Rattle.std.proofs.Common.{sym, ◌∙◌, ap, subst, inl, inr, ⊎_elim, arith, eqb→eq}
+use Rattle.std.specs.Prelude.{ℕ, zero, suc, ◌<◌, ◌≤◌, ◌≡◌, List, Bool, ◌||◌, T, eqb}
+use Rattle.std.proofs.Common.{sym, ◌∙◌, subst, arith, eqb→eq}
 use Rattle.std.proofs.Math.Dec.{eqb_refl}
 use Rattle.basics.specs.TestLaws.{or_case, or_l, or_r}
 use Rattle.tree_forest.specs.Compare.{Compare, lt, eq, gt, compare}
@@ -8,12 +8,12 @@ use Rattle.network_syntax.specs.Syntax.{Behaviour, choice, Branches, last_branch
 use Rattle.network.specs.declared.BehaviourKind.{BehaviourKind}
 use Rattle.network.specs.Layout.{behaviour_count, service_count, behaviour_at}
 use Rattle.network.specs.Rows.{field_a, field_b, field_c, field_d, kind_at}
-use Rattle.network.specs.Uses.{row_uses, service_uses}
+use Rattle.network.specs.Uses.{service_uses}
 use Rattle.network.specs.Form.{WellFormed}
 use Rattle.network.specs.Decode.{branches_from, behaviour_from, behaviour_to, behaviour_of}
 use Rattle.network_syntax.specs.Rows.{has_row, has_row_in}
 use Rattle.network.specs.Shapes.{Outside, Apart, EachRowOnce, EachBranchRowOnce}
-use Rattle.network.proofs.UseLaws.{Uses, one-user, no-user, one-service, Child, SubKept, InputKept, BranchKept, RowKept, behaviour-kept}
+use Rattle.network.proofs.UseLaws.{Uses, one-user, no-user, Child, SubKept, BranchKept, RowKept, behaviour-kept}
 use Rattle.network.proofs.UseLaws.{branch_kept}
 use Rattle.network.proofs.BehaviourLaws.{BranchesKept, Later}
 

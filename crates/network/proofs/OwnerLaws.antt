@@ -1,12 +1,11 @@
 -- Whose row is it? Every B row of an unrefused file stands in the starter or the client of a service (and in one alone,
 -- by OnceLaws): "Each row is used exactly once, by a row or a service".
-use Rattle.std.specs.Prelude.{ℕ, zero, suc, ◌+◌, ◌<◌, ◌≤◌, ◌≡◌, refl, List, Bool, true, false, not, ◌&&◌, ◌||◌, ◌⊎◌, T, eqb, leb, ltb}
-use Rattle.std.proofs.Common.{sym, ◌∙◌, ap, subst, inl, inr, ⊎_elim, arith, eqb→eq}
+use Rattle.std.specs.Prelude.{ℕ, zero, suc, ◌+◌, ◌<◌, ◌≤◌, ◌≡◌, refl, List, Bool, true, false, not, ◌||◌, ◌⊎◌, T, eqb, leb, ltb}
+use Rattle.std.proofs.Common.{sym, ap, subst, inl, inr, ⊎_elim, arith, eqb→eq}
 use Rattle.std.proofs.Math.Dec.{eqb_refl}
 use Rattle.tree_forest.specs.Compare.{Compare, lt, eq, gt, compare}
-use Rattle.basics.specs.Choice.{pick}
 use Rattle.basics.specs.TestLaws.{and-of, clash, eq_of, le_of, lt_of, ne_of, not-T-false, or_case, or_l, or_r}
-use Rattle.network_syntax.specs.Syntax.{Behaviour, Branches, Optional, none, some}
+use Rattle.network_syntax.specs.Syntax.{Behaviour, Branches, some}
 use Rattle.network.specs.declared.BehaviourKind.{BehaviourKind}
 use Rattle.network.specs.Least.{sum_over}
 use Rattle.network.specs.Layout.{behaviour_count, service_count, behaviour_at}
@@ -20,9 +19,9 @@ use Rattle.network_syntax.specs.ViewLaws.{own_row}
 use Rattle.network.specs.Shapes.{Role, as_starter, as_client, behaviour_as}
 use Rattle.network.proofs.LeastLaws.{rule-kept}
 use Rattle.network.proofs.RowLaws.{unbroken, counts-kept}
-use Rattle.network.proofs.UseLaws.{Uses, Child, SubKept, InputKept, BranchKept, RowKept, behaviour-kept, branch_kept, branch-kind}
+use Rattle.network.proofs.UseLaws.{Uses, BranchKept, RowKept, behaviour-kept, branch_kept, branch-kind}
 use Rattle.network.proofs.BehaviourLaws.{BranchesKept, Later, row-to}
-use Rattle.network.proofs.NetworkLaws.{top_row, TopKept, Top, top_of}
+use Rattle.network.proofs.NetworkLaws.{top_row, top_of}
 
 -- ---- a sum that is not 0 has a part that is not
 

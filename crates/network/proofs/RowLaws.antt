@@ -1,17 +1,12 @@
 -- What a file that none of 2 to 5 refuses keeps: for every row the facts that its rules say.
-use Rattle.std.specs.Prelude.{ℕ, zero, suc, ◌+◌, ◌-◌, ◌<◌, ◌≤◌, ◌≡◌, refl, List, Bool, true, false, not, ◌&&◌, ◌||◌, ◌⊎◌, eqb, leb, ltb}
-use Rattle.std.proofs.Common.{sym, ◌∙◌, ap, inl, inr, ⊎_elim, arith}
+use Rattle.std.specs.Prelude.{ℕ, suc, ◌+◌, ◌<◌, ◌≤◌, ◌≡◌, refl, List, Bool, true, false, not, ◌&&◌, ◌||◌, eqb, leb, ltb}
+use Rattle.std.proofs.Common.{arith}
 use Rattle.scalar.specs.Basic.{last_basic}
-use Rattle.scalar.specs.Value.{is_value}
 use Rattle.basics.specs.Choice.{pick}
 use Rattle.basics.specs.TestLaws.{and-of, eq_of, le_of, lt_of, ne_of, not-true, of_le, of_lt, under}
 use Rattle.wire.specs.Wire.{byte_at, u16_at}
-use Rattle.network.specs.declared.Broken.{Broken}
-use Rattle.network.specs.declared.Broken.TheVariants.{At, Nowhere}
 use Rattle.refusal.specs.declared.Refusal.TheVariants.{FileLayout, SectionCount}
-use Rattle.refusal.specs.declared.Verdict.{Verdict}
-use Rattle.refusal.specs.declared.Verdict.TheVariants.{Done, Refused}
-use Rattle.network.specs.Least.{least, rule, least_over}
+use Rattle.network.specs.Least.{least}
 use Rattle.network.specs.Layout.{laid_out, counted, path_count, type_count, expression_count, behaviour_count, operation_count, service_count, path_at}
 use Rattle.network.specs.Layout.{type_at, expression_at, operation_at, service_at, behaviour_at}
 use Rattle.network.specs.Rows.{in_run, later_run, path_row, type_id, cardinality, type_basic, first_child, child_count, children_fit, id_before}
@@ -24,8 +19,10 @@ use Rattle.network.specs.Rows.{service_location, starter_row, client_row, starte
 use Rattle.network.specs.Uses.{uses_row, uses_rows, broken}
 use Rattle.network.specs.Sizes.{type_within, levels_within, nodes_to, depth_within, type_levels, type_nodes, expression_levels, type_large}
 use Rattle.network.specs.Sizes.{expression_large, type_sizes, expression_sizes, large}
-use Rattle.network.specs.Form.{after_sizes, after_fields, form_of, WellFormed}
+use Rattle.network.specs.Form.{after_fields, form_of, WellFormed}
 use Rattle.network.proofs.LeastLaws.{least_kept, rule-kept, over-kept}
+use Rattle.std.specs.Prelude.{Option, Some, None}
+use Rattle.std.specs.Prelude.{Ok, Err}
 
 pub in-run : (first n j : ℕ) → first ≤ j → j < first + n → in_run first n j ≡ true
 in-run first n j l h = rw (of_le first j l) (of_lt j (first + n) h)
@@ -35,14 +32,14 @@ in-run first n j l h = rw (of_le first j l) (of_lt j (first + n) h)
 pub record Unrefused (s : List ℕ) : Type 0 where
   pub layout : laid_out s ≡ true
   pub counts : counted s ≡ true
-  pub rules : broken s ≡ Nowhere
-  pub sizes : large s ≡ Nowhere
+  pub rules : broken s ≡ None
+  pub sizes : large s ≡ None
 
-unrefused-by : (s : List ℕ) (a b : Bool) (x y : Broken) → laid_out s ≡ a → counted s ≡ b → broken s ≡ x → large s ≡ y
-    → pick a (pick b (after_fields x y) (Refused SectionCount)) (Refused FileLayout) ≡ Done → Unrefused s
-unrefused-by s true true Nowhere Nowhere p q e f h = record { layout = p; counts = q; rules = e; sizes = f }
-unrefused-by s true true Nowhere (At y) p q e f h = let z : ◌≡◌ {A = ℕ} 0 1 = cc in absurd (omega arith)
-unrefused-by s true true (At x) y p q e f h = let z : ◌≡◌ {A = ℕ} 0 1 = cc in absurd (omega arith)
+unrefused-by : (s : List ℕ) (a b : Bool) (x y : Option ℕ) → laid_out s ≡ a → counted s ≡ b → broken s ≡ x → large s ≡ y
+    → pick a (pick b (after_fields x y) (Err SectionCount)) (Err FileLayout) ≡ (Ok tt) → Unrefused s
+unrefused-by s true true None None p q e f h = record { layout = p; counts = q; rules = e; sizes = f }
+unrefused-by s true true None (Some y) p q e f h = let z : ◌≡◌ {A = ℕ} 0 1 = cc in absurd (omega arith)
+unrefused-by s true true (Some x) y p q e f h = let z : ◌≡◌ {A = ℕ} 0 1 = cc in absurd (omega arith)
 unrefused-by s true false x y p q e f h = let z : ◌≡◌ {A = ℕ} 0 1 = cc in absurd (omega arith)
 unrefused-by s false b x y p q e f h = let z : ◌≡◌ {A = ℕ} 0 1 = cc in absurd (omega arith)
 
@@ -82,13 +79,13 @@ counts-kept s w =
 -- ---- no row has a broken rule
 
 pub record Unbroken (s : List ℕ) : Type 0 where
-  pub paths : (r : ℕ) → r < path_count s → path_row s r ≡ Nowhere
-  pub types : (r : ℕ) → r < type_count s → type_row s r ≡ Nowhere
-  pub expressions : (r : ℕ) → r < expression_count s → expression_row s r ≡ Nowhere
-  pub behaviours : (r : ℕ) → r < behaviour_count s → behaviour_row s r ≡ Nowhere
-  pub uses : (r : ℕ) → r < behaviour_count s → uses_row s r ≡ Nowhere
-  pub operations : (r : ℕ) → r < operation_count s → operation_row s r ≡ Nowhere
-  pub services : (r : ℕ) → r < service_count s → service_row s r ≡ Nowhere
+  pub paths : (r : ℕ) → r < path_count s → path_row s r ≡ None
+  pub types : (r : ℕ) → r < type_count s → type_row s r ≡ None
+  pub expressions : (r : ℕ) → r < expression_count s → expression_row s r ≡ None
+  pub behaviours : (r : ℕ) → r < behaviour_count s → behaviour_row s r ≡ None
+  pub uses : (r : ℕ) → r < behaviour_count s → uses_row s r ≡ None
+  pub operations : (r : ℕ) → r < operation_count s → operation_row s r ≡ None
+  pub services : (r : ℕ) → r < service_count s → service_row s r ≡ None
 
 pub unbroken : (s : List ℕ) → WellFormed s → Unbroken s
 unfolding broken path_rows type_rows expression_rows behaviour_rows uses_rows operation_rows service_rows
@@ -159,11 +156,11 @@ type-kept s w r l =
         go true p q = absurd (ne (eq_of n 0 p))
         go false p q = run first n q
 
-    ids : (first n j : ℕ) → child_rule s first n j ≡ Nowhere → first ≤ j → j < first + n → id_before s first j < type_id s j
+    ids : (first n j : ℕ) → child_rule s first n j ≡ None → first ≤ j → j < first + n → id_before s first j < type_id s j
     ids first n j e x y =
         lt_of (id_before s first j) (type_id s j)
         (under (in_run first n j) (ltb (id_before s first j) (type_id s j))
-        (rule-kept (not (in_run first n j) || ltb (id_before s first j) (type_id s j)) (type_at s j) Nowhere e).0
+        (rule-kept (not (in_run first n j) || ltb (id_before s first j) (type_id s j)) (type_at s j) None e).0
         (in-run first n j x y))
 
 -- A message type's root.
@@ -184,7 +181,7 @@ pub type-size : (s : List ℕ) → WellFormed s → (r : ℕ) → r < type_count
 unfolding large type_sizes type_large type_within
 type-size s w r l =
     let h = (least_kept (type_sizes s) (expression_sizes s) (unrefused s w).sizes).0 in
-    let k = (rule-kept (type_within s r) (type_at s r) Nowhere (over-kept (type_large s) (type_count s) r h l)).0 in
+    let k = (rule-kept (type_within s r) (type_at s r) None (over-kept (type_large s) (type_count s) r h l)).0 in
     let f = and-of (levels_within s type_levels r) (leb (nodes_to s type_levels r) type_nodes) k in
     (f.0, le_of (nodes_to s type_levels r) type_nodes f.1)
 
@@ -192,7 +189,7 @@ pub expression-size : (s : List ℕ) → WellFormed s → (r : ℕ) → r < expr
 unfolding large expression_sizes expression_large
 expression-size s w r l =
     let h = (least_kept (type_sizes s) (expression_sizes s) (unrefused s w).sizes).1 in
-    (rule-kept (depth_within s expression_levels r) (expression_at s r) Nowhere (over-kept (expression_large s) (expression_count s) r h l)).0
+    (rule-kept (depth_within s expression_levels r) (expression_at s r) None (over-kept (expression_large s) (expression_count s) r h l)).0
 
 -- ---- O
 
@@ -232,9 +229,9 @@ operation-kept s w r l =
     replies : (n t : ℕ) → reply_fits s n t ≡ true → n ≡ 1 → root_fits s t ≡ true
     replies n t p e = rw e at p
 
-    first-time : (q : ℕ) → repeat_rule s r q ≡ Nowhere → same_service s r q && same_name s r q ≡ false
+    first-time : (q : ℕ) → repeat_rule s r q ≡ None → same_service s r q && same_name s r q ≡ false
     first-time q p = not-true (same_service s r q && same_name s r q)
-        (rule-kept (not (same_service s r q && same_name s r q)) (operation_at s r) Nowhere p).0
+        (rule-kept (not (same_service s r q && same_name s r q)) (operation_at s r) None p).0
 
 -- ---- S
 
@@ -258,9 +255,9 @@ service-kept s w r l =
       once = λ q x. first-time q (over-kept (location_rule s r) r q c.1 x);
     }
   where
-    first-time : (q : ℕ) → location_rule s r q ≡ Nowhere → service_location s q ≡ service_location s r → ⊥
+    first-time : (q : ℕ) → location_rule s r q ≡ None → service_location s q ≡ service_location s r → ⊥
     first-time q p = ne_of (service_location s q) (service_location s r)
-        (rule-kept (not (eqb (service_location s q) (service_location s r))) (service_at s r) Nowhere p).0
+        (rule-kept (not (eqb (service_location s q) (service_location s r))) (service_at s r) None p).0
 
 -- ---- places of rows
 

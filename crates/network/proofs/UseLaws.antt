@@ -1,25 +1,22 @@
 -- What an unrefused file keeps of its B rows: each field leads where its kind says, and each row is used once.
-use Rattle.std.specs.Prelude.{ℕ, zero, suc, ◌+◌, ◌<◌, ◌≤◌, ◌≡◌, refl, List, Bool, true, false, not, ◌&&◌, ◌||◌, ◌⊎◌, eqb, leb, ltb}
-use Rattle.std.proofs.Common.{sym, ◌∙◌, ap, subst, inl, inr, ⊎_elim, arith}
+use Rattle.std.specs.Prelude.{ℕ, zero, suc, ◌+◌, ◌<◌, ◌≤◌, ◌≡◌, refl, List, Bool, true, false, not, ◌&&◌, ◌||◌, eqb, leb, ltb}
+use Rattle.std.proofs.Common.{sym, ap, subst, arith}
 use Rattle.std.proofs.Math.Dec.{eqb-suc-zero}
 use Rattle.tree_forest.specs.Compare.{Compare, lt, eq, gt, compare}
-use Rattle.wire.specs.Wire.{byte_at, u16_at}
+use Rattle.wire.specs.Wire.{byte_at}
 use Rattle.basics.specs.Choice.{pick}
 use Rattle.basics.specs.TestLaws.{and-of, clash, le_of, lt_not, lt_of, not-true, of_eq, true-false, under}
-use Rattle.network.specs.declared.Broken.{Broken}
-use Rattle.network.specs.declared.Broken.TheVariants.{At, Nowhere}
 use Rattle.network.specs.declared.BehaviourKind.{BehaviourKind}
-use Rattle.network.specs.declared.FieldSort.{FieldSort}
-use Rattle.network.specs.declared.Fields.{Fields}
-use Rattle.network.specs.Least.{least, rule, least_over, sum_over}
+use Rattle.network.specs.Least.{least_over}
 use Rattle.network.specs.Layout.{path_count, expression_count, behaviour_count, operation_count, service_count, behaviour_at, service_at}
 use Rattle.network.specs.Kinds.{behaviour_kind, behaviour_fields}
 use Rattle.network.specs.Rows.{in_run, later_run, field_a, field_b, field_c, field_d, kind_at, is_branch_kind, is_choice_kind, is_input_kind, sub_fits, input_fits}
-use Rattle.network.specs.Rows.{field_fits, fields_rule, behaviour_head, branch_rule, branch_row_rule, choice_run, behaviour_row, starter_row, client_row}
+use Rattle.network.specs.Rows.{field_fits, fields_rule, behaviour_head, branch_rule, branch_row_rule, choice_run, behaviour_row}
 use Rattle.network.specs.Uses.{field_uses, one, uses_by, row_uses, service_uses, used_by_rows, used, second_use, row_use_rule, service_use_rule, uses_row}
 use Rattle.network.specs.Form.{WellFormed}
 use Rattle.network.proofs.LeastLaws.{least_kept, rule-kept, over-kept, sum-part}
-use Rattle.network.proofs.RowLaws.{Unbroken, unbroken, in-run}
+use Rattle.network.proofs.RowLaws.{unbroken, in-run}
+use Rattle.std.specs.Prelude.{None}
 
 -- ---- uses
 
@@ -51,12 +48,12 @@ uses-kept s w t l =
       by_row = λ r x u.
           first-use (used_by_rows s t r) (row_uses s t r)
           (not-true (second_use (used_by_rows s t r) (row_uses s t r))
-          (rule-kept (not (second_use (used_by_rows s t r) (row_uses s t r))) (behaviour_at s r) Nowhere
+          (rule-kept (not (second_use (used_by_rows s t r) (row_uses s t r))) (behaviour_at s r) None
           (over-kept (row_use_rule s t) (behaviour_count s) r b.0 x)).0) u;
       by_service = λ q x u.
           first-use (used s t q) (service_uses s t q)
           (not-true (second_use (used s t q) (service_uses s t q))
-          (rule-kept (not (second_use (used s t q) (service_uses s t q))) (service_at s q) Nowhere
+          (rule-kept (not (second_use (used s t q) (service_uses s t q))) (service_at s q) None
           (over-kept (service_use_rule s t) (service_count s) q b.1 x)).0) u;
     }
 
@@ -205,7 +202,7 @@ record Tested (s : List ℕ) (r at : ℕ) (k : BehaviourKind) : Type 0 where
   fits_b : field_fits s r 0 (behaviour_fields k).b (field_b s at) (field_c s at) ≡ true
   fits_c : field_fits s r 0 (behaviour_fields k).c (field_c s at) 0 ≡ true
   fits_d : field_fits s r 0 (behaviour_fields k).d (field_d s at) 0 ≡ true
-  run : pick (is_choice_kind k) (branch_row_rule s at) Nowhere ≡ Nowhere
+  run : pick (is_choice_kind k) (branch_row_rule s at) None ≡ None
   users : (t : ℕ) → row_uses s t r ≡ uses_by s t at (behaviour_fields k)
   single : (t : ℕ) → t < behaviour_count s → Uses s r t → row_uses s t r ≡ 1
 
@@ -232,7 +229,7 @@ tested s w r l =
       single = λ t x u. ((uses-kept s w t x).by_row r l u).1;
     }
 
-branch-rows : (s : List ℕ) (r at : ℕ) → later_run (behaviour_count s) r (field_a s at) (field_b s at) ≡ true → branch_row_rule s at ≡ Nowhere
+branch-rows : (s : List ℕ) (r at : ℕ) → later_run (behaviour_count s) r (field_a s at) (field_b s at) ≡ true → branch_row_rule s at ≡ None
     → ((t : ℕ) → row_uses s t r ≡ uses_by s t at (behaviour_fields BehaviourKind.Choice)) → (j : ℕ) → field_a s at ≤ j → j < field_a s at + field_b s at
     → BranchKept s r j
 unfolding later_run branch_row_rule branch_rule behaviour_fields field_uses
@@ -243,7 +240,7 @@ branch-rows s r at e h u j x y =
     let i : in_run (field_a s at) (field_b s at) j ≡ true = in-run (field_a s at) (field_b s at) j x y in
     let n : one (in_run (field_a s at) (field_b s at) j) ≡ 1 = ap one i in
     let z = u j in
-    let k = (rule-kept (not (in_run (field_a s at) (field_b s at) j) || is_branch_kind (kind_at s j)) (at + 2) Nowhere
+    let k = (rule-kept (not (in_run (field_a s at) (field_b s at) j) || is_branch_kind (kind_at s j)) (at + 2) None
     (over-kept (branch_rule s at) (behaviour_count s) j h (omega arith))).0 in
     record {
       child = record { later = omega arith; exists = omega arith; uses = omega arith };

@@ -2,7 +2,7 @@
 -- field's first byte; for a run or constant its start, for a type's root the O field, for a child its id; for a B row never used, a second
 -- use or a repeated id, the first byte of that row, of the using row or of the later row)". And of refusal 5: "A type or expression is too
 -- large (place: its row's first byte, lowest first)". LowestLaws: the place that the checker gives is the lowest of these.
-use Rattle.std.specs.Prelude.{ℕ, ◌+◌, ◌<◌, ◌≡◌, List, Bool, true, false, not, ◌&&◌, ◌||◌, eqb, leb, ltb}
+use Rattle.std.specs.Prelude.{ℕ, ◌+◌, ◌<◌, ◌≡◌, List, true, false, not, ◌&&◌, ◌||◌, eqb, leb, ltb}
 use Rattle.scalar.specs.Basic.{last_basic}
 use Rattle.wire.specs.Wire.{byte_at, u16_at}
 use Rattle.network.specs.Layout.{path_count, type_count, expression_count, behaviour_count, operation_count, service_count}

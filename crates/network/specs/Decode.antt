@@ -1,13 +1,13 @@
 -- Rows become syntax: paths, type trees, expressions, operations, behaviours, services, the network. Every definition is total:
 -- where refusals 2 to 5 do not apply it means what 01's "Network file" says, elsewhere its value is never looked at.
-use Rattle.std.specs.Prelude.{ℕ, zero, suc, ◌+◌, List, [], ◌∷◌, Bool, true, false, eqb}
-use Rattle.tree_forest.specs.Forest.{Forest, end, Tree, tree, node_of}
+use Rattle.std.specs.Prelude.{ℕ, zero, suc, ◌+◌, List, [], ◌∷◌, true, eqb}
+use Rattle.tree_forest.specs.Forest.{end, Tree, tree, node_of}
 use Rattle.tree_forest.specs.Path.{Path, path}
 use Rattle.scalar.specs.Basic.{void}
-use Rattle.scalar.specs.Value.{Value, value}
+use Rattle.scalar.specs.Value.{value}
 use Rattle.basics.specs.Choice.{pick}
-use Rattle.network_syntax.specs.Syntax.{Mark, mark, Types, MessageType, Unary, logical_not, negate, Binary, add, subtract, less, equal, logical_and, Expression}
-use Rattle.network_syntax.specs.Syntax.{constant, value_at, presence, unary, binary, Direction, input, output, Operation, Behaviour, nil, one_way}
+use Rattle.network_syntax.specs.Syntax.{Mark, mark, Types, MessageType, logical_not, negate, add, subtract, less, equal, logical_and, Expression}
+use Rattle.network_syntax.specs.Syntax.{constant, value_at, presence, unary, binary, input, output, Operation, Behaviour, nil, one_way}
 use Rattle.network_syntax.specs.Syntax.{request_response, notification, solicit_response, if_then_else, while_do, sequence, parallel, assign, choice}
 use Rattle.network_syntax.specs.Syntax.{Branches, last_branch, branch, Optional, none, some, Service, Network}
 use Rattle.network.specs.declared.ExpressionKind.{ExpressionKind}

@@ -6,8 +6,6 @@ use Rattle.std.specs.Prelude.{ℕ, ◌+◌, ◌-◌, List, Bool, true, false, no
 use Rattle.scalar.specs.Basic.{last_basic}
 use Rattle.scalar.specs.Value.{is_value}
 use Rattle.basics.specs.Choice.{pick}
-use Rattle.network.specs.declared.Broken.{Broken}
-use Rattle.network.specs.declared.Broken.TheVariants.{Nowhere}
 use Rattle.network.specs.declared.ExpressionKind.{ExpressionKind}
 use Rattle.network.specs.declared.BehaviourKind.{BehaviourKind}
 use Rattle.network.specs.declared.FieldSort.{FieldSort}
@@ -15,10 +13,11 @@ use Rattle.network.specs.declared.FieldSort.TheVariants.{Unruled, Unused, PathRo
 use Rattle.network.specs.declared.FieldSort.TheVariants.{BranchRun, BranchCount, ConstantPart}
 use Rattle.network.specs.declared.Fields.{Fields}
 use Rattle.wire.specs.Wire.{byte_at, u16_at}
-use Rattle.network.specs.Least.{least, rule, least_over}
+use Rattle.network.specs.Least.{rule, least_over}
 use Rattle.network.specs.Layout.{path_count, type_count, expression_count, behaviour_count, operation_count, service_count, data_size, data_part}
 use Rattle.network.specs.Layout.{path_at, type_at, expression_at, behaviour_at, operation_at, service_at}
 use Rattle.network.specs.Kinds.{expression_kind, behaviour_kind, expression_fields, behaviour_fields}
+use Rattle.std.specs.Prelude.{Option, None}
 
 -- Row j is one of the n rows from `first` on.
 abbrev pub in_run : ℕ → ℕ → ℕ → Bool
@@ -29,14 +28,14 @@ unfoldable pub later_run : ℕ → ℕ → ℕ → ℕ → Bool
 later_run size r first n = ltb r first && leb (first + n) size
 
 -- P: "four u16 ids; the first is not 0; after a 0 only 0". The place is the field that is not 0 after a 0.
-abbrev pub path_by : List ℕ → ℕ → Broken
+abbrev pub path_by : List ℕ → ℕ → Option ℕ
 path_by s at =
     rule (not (eqb (u16_at s at) 0)) at
     (rule (not (eqb (u16_at s at) 0) || eqb (u16_at s (at + 2)) 0) (at + 2)
     (rule (not (eqb (u16_at s (at + 2)) 0) || eqb (u16_at s (at + 4)) 0) (at + 4)
-    (rule (not (eqb (u16_at s (at + 4)) 0) || eqb (u16_at s (at + 6)) 0) (at + 6) Nowhere)))
+    (rule (not (eqb (u16_at s (at + 4)) 0) || eqb (u16_at s (at + 6)) 0) (at + 6) None)))
 
-unfoldable pub path_row : List ℕ → ℕ → Broken
+unfoldable pub path_row : List ℕ → ℕ → Option ℕ
 path_row s r = path_by s (path_at s r)
 
 -- T: "id u16, cardinality u8 .., basic u8 .., first child u16, child count u16".
@@ -64,14 +63,14 @@ unfoldable pub id_before : List ℕ → ℕ → ℕ → ℕ
 id_before s first j = pick (eqb j first) 0 (type_id s (j - 1))
 
 -- T: "ids rising strictly and not 0", for every existing row j of the run; the place is the child's id.
-unfoldable pub child_rule : List ℕ → ℕ → ℕ → ℕ → Broken
-child_rule s first n j = rule (not (in_run first n j) || ltb (id_before s first j) (type_id s j)) (type_at s j) Nowhere
+unfoldable pub child_rule : List ℕ → ℕ → ℕ → ℕ → Option ℕ
+child_rule s first n j = rule (not (in_run first n j) || ltb (id_before s first j) (type_id s j)) (type_at s j) None
 
-unfoldable pub child_ids : List ℕ → ℕ → ℕ → Broken
+unfoldable pub child_ids : List ℕ → ℕ → ℕ → Option ℕ
 child_ids s first n = least_over (type_count s) (child_rule s first n)
 
 -- T: "cardinality u8 (0 is [0,1], optional; 1 is [1,1]), basic u8 (0 bool, .., 6 void)"; the children.
-unfoldable pub type_row : List ℕ → ℕ → Broken
+unfoldable pub type_row : List ℕ → ℕ → Option ℕ
 type_row s r =
     rule (leb (cardinality s r) 1) (type_at s r + 2)
     (rule (leb (type_basic s r) last_basic) (type_at s r + 3)
@@ -171,7 +170,7 @@ field_fits s r basic BranchCount v w = leb 1 v && leb v 8
 field_fits s r basic ConstantPart v w = constant_fits s basic v w
 
 -- The rules of the fields a, b, c of row r, whose first byte is `at`.
-unfoldable pub fields_rule : List ℕ → ℕ → ℕ → Fields → ℕ → Broken → Broken
+unfoldable pub fields_rule : List ℕ → ℕ → ℕ → Fields → ℕ → Option ℕ → Option ℕ
 fields_rule s r basic q at others =
     rule (field_fits s r basic q.a (field_a s at) (field_b s at)) (at + 2)
     (rule (field_fits s r basic q.b (field_b s at) (field_c s at)) (at + 4)
@@ -192,35 +191,35 @@ basic_fits ExpressionKind.And basic = eqb basic 0
 basic_fits ExpressionKind.Unknown basic = true
 
 -- E: kind 0 to 9, basic, a, b, c.
-abbrev pub expression_by : List ℕ → ℕ → ℕ → ExpressionKind → Broken
+abbrev pub expression_by : List ℕ → ℕ → ℕ → ExpressionKind → Option ℕ
 expression_by s r at k =
     rule (leb (byte_at s at) 9) at
     (rule (basic_fits k (byte_at s (at + 1))) (at + 1)
-    (fields_rule s r (byte_at s (at + 1)) (expression_fields k) at Nowhere))
+    (fields_rule s r (byte_at s (at + 1)) (expression_fields k) at None))
 
-unfoldable pub expression_row : List ℕ → ℕ → Broken
+unfoldable pub expression_row : List ℕ → ℕ → Option ℕ
 expression_row s r = expression_by s r (expression_at s r) (expression_kind_at s r)
 
 -- B: "kind u8, 0": 0 to 11, and the unused byte.
-unfoldable pub behaviour_head : List ℕ → ℕ → Broken → Broken
+unfoldable pub behaviour_head : List ℕ → ℕ → Option ℕ → Option ℕ
 behaviour_head s at others = rule (leb (byte_at s at) 11) at (rule (eqb (byte_at s (at + 1)) 0) (at + 1) others)
 
 -- B: the fields, with d.
-abbrev pub behaviour_rule : List ℕ → ℕ → ℕ → Fields → Broken → Broken
+abbrev pub behaviour_rule : List ℕ → ℕ → ℕ → Fields → Option ℕ → Option ℕ
 behaviour_rule s r at q others =
     behaviour_head s at (fields_rule s r 0 q at (rule (field_fits s r 0 q.d (field_d s at) 0) (at + 8) others))
 
 -- B: every existing row of a choice's run is a branch; the place is the run's start.
-unfoldable pub branch_rule : List ℕ → ℕ → ℕ → Broken
-branch_rule s at j = rule (not (in_run (field_a s at) (field_b s at) j) || is_branch_kind (kind_at s j)) (at + 2) Nowhere
+unfoldable pub branch_rule : List ℕ → ℕ → ℕ → Option ℕ
+branch_rule s at j = rule (not (in_run (field_a s at) (field_b s at) j) || is_branch_kind (kind_at s j)) (at + 2) None
 
-unfoldable pub branch_row_rule : List ℕ → ℕ → Broken
+unfoldable pub branch_row_rule : List ℕ → ℕ → Option ℕ
 branch_row_rule s at = least_over (behaviour_count s) (branch_rule s at)
 
-unfoldable pub choice_run : List ℕ → ℕ → Broken
-choice_run s r = pick (is_choice_kind (kind_at s r)) (branch_row_rule s (behaviour_at s r)) Nowhere
+unfoldable pub choice_run : List ℕ → ℕ → Option ℕ
+choice_run s r = pick (is_choice_kind (kind_at s r)) (branch_row_rule s (behaviour_at s r)) None
 
-unfoldable pub behaviour_row : List ℕ → ℕ → Broken
+unfoldable pub behaviour_row : List ℕ → ℕ → Option ℕ
 behaviour_row s r = behaviour_rule s r (behaviour_at s r) (behaviour_fields (kind_at s r)) (choice_run s r)
 
 -- O: "service row u8, direction u8 (0 in, 1 out), two-way u8 (0, 1), 0, id u16, location u16 .., request type u16, reply type u16".
@@ -270,10 +269,10 @@ same_name s r q =
     || (eqb (operation_direction s r) 1 && eqb (operation_location s r) (operation_location s q)))
 
 -- O: a repeated id is at the first byte of the later row, here r.
-unfoldable pub repeat_rule : List ℕ → ℕ → ℕ → Broken
-repeat_rule s r q = rule (not (same_service s r q && same_name s r q)) (operation_at s r) Nowhere
+unfoldable pub repeat_rule : List ℕ → ℕ → ℕ → Option ℕ
+repeat_rule s r q = rule (not (same_service s r q && same_name s r q)) (operation_at s r) None
 
-unfoldable pub operation_fields : List ℕ → ℕ → Broken → Broken
+unfoldable pub operation_fields : List ℕ → ℕ → Option ℕ → Option ℕ
 operation_fields s r others =
     rule (ltb (operation_service s r) (service_count s)) (operation_at s r)
     (rule (leb (operation_direction s r) 1) (operation_at s r + 1)
@@ -281,13 +280,13 @@ operation_fields s r others =
     (rule (eqb (byte_at s (operation_at s r + 3)) 0) (operation_at s r + 3)
     (rule (not (eqb (operation_id s r) 0)) (operation_at s r + 4) others))))
 
-unfoldable pub operation_links : List ℕ → ℕ → Broken → Broken
+unfoldable pub operation_links : List ℕ → ℕ → Option ℕ → Option ℕ
 operation_links s r others =
     rule (location_fits (operation_direction s r) (operation_location s r)) (operation_at s r + 6)
     (rule (root_fits s (request_type s r)) (operation_at s r + 8)
     (rule (reply_fits s (operation_two_way s r) (reply_type s r)) (operation_at s r + 10) others))
 
-unfoldable pub operation_row : List ℕ → ℕ → Broken
+unfoldable pub operation_row : List ℕ → ℕ → Option ℕ
 operation_row s r = operation_fields s r (operation_links s r (least_over r (repeat_rule s r)))
 
 -- S: "location u16, unique and not 0; starter row (a choice), client row, 65535 for none", then the key id.
@@ -315,30 +314,30 @@ unfoldable pub client_fits : List ℕ → ℕ → Bool
 client_fits s v = eqb v no_row || (ltb v (behaviour_count s) && not (is_branch_kind (kind_at s v)))
 
 -- S: a repeated location is at the first byte of the later row, here r.
-unfoldable pub location_rule : List ℕ → ℕ → ℕ → Broken
-location_rule s r q = rule (not (eqb (service_location s q) (service_location s r))) (service_at s r) Nowhere
+unfoldable pub location_rule : List ℕ → ℕ → ℕ → Option ℕ
+location_rule s r q = rule (not (eqb (service_location s q) (service_location s r))) (service_at s r) None
 
-unfoldable pub service_row : List ℕ → ℕ → Broken
+unfoldable pub service_row : List ℕ → ℕ → Option ℕ
 service_row s r =
     rule (not (eqb (service_location s r) 0)) (service_at s r)
     (rule (starter_fits s (starter_row s r)) (service_at s r + 2)
     (rule (client_fits s (client_row s r)) (service_at s r + 4) (least_over r (location_rule s r))))
 
 -- The lowest place in each section.
-unfoldable pub path_rows : List ℕ → Broken
+unfoldable pub path_rows : List ℕ → Option ℕ
 path_rows s = least_over (path_count s) (path_row s)
 
-unfoldable pub type_rows : List ℕ → Broken
+unfoldable pub type_rows : List ℕ → Option ℕ
 type_rows s = least_over (type_count s) (type_row s)
 
-unfoldable pub expression_rows : List ℕ → Broken
+unfoldable pub expression_rows : List ℕ → Option ℕ
 expression_rows s = least_over (expression_count s) (expression_row s)
 
-unfoldable pub behaviour_rows : List ℕ → Broken
+unfoldable pub behaviour_rows : List ℕ → Option ℕ
 behaviour_rows s = least_over (behaviour_count s) (behaviour_row s)
 
-unfoldable pub operation_rows : List ℕ → Broken
+unfoldable pub operation_rows : List ℕ → Option ℕ
 operation_rows s = least_over (operation_count s) (operation_row s)
 
-unfoldable pub service_rows : List ℕ → Broken
+unfoldable pub service_rows : List ℕ → Option ℕ
 service_rows s = least_over (service_count s) (service_row s)

@@ -1,11 +1,11 @@
 -- What the format promises of syntax: the limits and orders of 01's "Network file", said of paths, types, expressions,
 -- operations and behaviours. DecodeLaws and BehaviourLaws prove that the rows of a file that none of 2 to 5 refuses become such.
-use Rattle.std.specs.Prelude.{ℕ, suc, ◌+◌, ◌<◌, ◌≤◌, max, ◌≡◌, List, [], ◌∷◌, Bool, true, false, ◌||◌, length, T, eqb}
-use Rattle.tree_forest.specs.Forest.{Forest, end, node, Tree, tree, RisingTree, nodes, levels}
+use Rattle.std.specs.Prelude.{ℕ, suc, ◌+◌, ◌<◌, ◌≤◌, max, ◌≡◌, List, [], ◌∷◌, Bool, true, length, T}
+use Rattle.tree_forest.specs.Forest.{end, node, Tree, tree, RisingTree, nodes, levels}
 use Rattle.tree_forest.specs.Path.{Path, path}
 use Rattle.scalar.specs.Basic.{last_basic}
-use Rattle.scalar.specs.Value.{Value, value, is_value, basic_of, bytes_of}
-use Rattle.network_syntax.specs.Syntax.{Mark, mark, mandatory, basic, Types, MessageType, Unary, Binary, Expression, constant, value_at, presence, unary}
+use Rattle.scalar.specs.Value.{is_value, basic_of, bytes_of}
+use Rattle.network_syntax.specs.Syntax.{Mark, mandatory, basic, Types, MessageType, Expression, constant, value_at, presence, unary}
 use Rattle.network_syntax.specs.Syntax.{binary, Direction, input, output, Operation, Behaviour, nil, one_way, request_response, notification, solicit_response}
 use Rattle.network_syntax.specs.Syntax.{if_then_else, while_do, sequence, parallel, assign, choice, waiting, answering, Branches, last_branch, branch}
 use Rattle.network_syntax.specs.Syntax.{Optional, none, some, Service, Network}

@@ -2,12 +2,11 @@
 -- refusal 5: "A type or expression is too large (place: its row's first byte, lowest first)". Every row counts, used or not, and
 -- a row that is a child in several runs counts each time. The recursion is on the limit, so it ends on any bytes.
 use Rattle.std.specs.Prelude.{ℕ, zero, suc, ◌+◌, List, Bool, true, false, ◌&&◌, leb}
-use Rattle.network.specs.declared.Broken.{Broken}
-use Rattle.network.specs.declared.Broken.TheVariants.{Nowhere}
 use Rattle.network.specs.declared.ExpressionKind.{ExpressionKind}
 use Rattle.network.specs.Least.{least, rule, least_over}
 use Rattle.network.specs.Layout.{type_count, expression_count, type_at, expression_at}
 use Rattle.network.specs.Rows.{first_child, child_count, field_a, field_b, expression_kind_at}
+use Rattle.std.specs.Prelude.{Option, None}
 
 -- Sum and conjunction over the n rows from `first` on.
 unfoldable pub rows_sum : (ℕ → ℕ) → ℕ → ℕ → ℕ
@@ -61,18 +60,18 @@ depth_within s (suc d) r =
 abbrev pub expression_levels : ℕ
 expression_levels = 8
 
-unfoldable pub type_large : List ℕ → ℕ → Broken
-type_large s r = rule (type_within s r) (type_at s r) Nowhere
+unfoldable pub type_large : List ℕ → ℕ → Option ℕ
+type_large s r = rule (type_within s r) (type_at s r) None
 
-unfoldable pub expression_large : List ℕ → ℕ → Broken
-expression_large s r = rule (depth_within s expression_levels r) (expression_at s r) Nowhere
+unfoldable pub expression_large : List ℕ → ℕ → Option ℕ
+expression_large s r = rule (depth_within s expression_levels r) (expression_at s r) None
 
-unfoldable pub type_sizes : List ℕ → Broken
+unfoldable pub type_sizes : List ℕ → Option ℕ
 type_sizes s = least_over (type_count s) (type_large s)
 
-unfoldable pub expression_sizes : List ℕ → Broken
+unfoldable pub expression_sizes : List ℕ → Option ℕ
 expression_sizes s = least_over (expression_count s) (expression_large s)
 
 -- Refusal 5: the lowest place of a row that is too large.
-unfoldable pub large : List ℕ → Broken
+unfoldable pub large : List ℕ → Option ℕ
 large s = least (type_sizes s) (expression_sizes s)

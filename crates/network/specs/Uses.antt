@@ -3,8 +3,6 @@
 -- then S rows; every use after the first is a defect of the using row. A sub-behaviour field, a run and a service field use
 -- every existing B row that they name, also an earlier one or one of the wrong kind.
 use Rattle.std.specs.Prelude.{ℕ, ◌+◌, List, Bool, true, false, not, ◌&&◌, eqb, ltb}
-use Rattle.network.specs.declared.Broken.{Broken}
-use Rattle.network.specs.declared.Broken.TheVariants.{Nowhere}
 use Rattle.network.specs.declared.FieldSort.{FieldSort}
 use Rattle.network.specs.declared.FieldSort.TheVariants.{Unruled, Unused, PathRow, EarlierRow, ExpressionRow, OperationRow, LaterRow, InputRow}
 use Rattle.network.specs.declared.FieldSort.TheVariants.{BranchRun, BranchCount, ConstantPart}
@@ -14,6 +12,7 @@ use Rattle.network.specs.Layout.{behaviour_count, service_count, behaviour_at, s
 use Rattle.network.specs.Kinds.{behaviour_fields}
 use Rattle.network.specs.Rows.{in_run, field_a, field_b, field_c, field_d, kind_at, starter_row, client_row, path_rows, type_rows, expression_rows}
 use Rattle.network.specs.Rows.{behaviour_rows, operation_rows, service_rows}
+use Rattle.std.specs.Prelude.{Option, None}
 
 -- Does a field v, of the given sort and with the field w after it, use row t?
 unfoldable pub field_uses : FieldSort → ℕ → ℕ → ℕ → Bool
@@ -59,23 +58,23 @@ used s t n = used_by_rows s t (behaviour_count s) + sum_over n (service_uses s t
 unfoldable pub second_use : ℕ → ℕ → Bool
 second_use before here = not (eqb here 0) && ltb 1 (before + here)
 
-unfoldable pub row_use_rule : List ℕ → ℕ → ℕ → Broken
-row_use_rule s t r = rule (not (second_use (used_by_rows s t r) (row_uses s t r))) (behaviour_at s r) Nowhere
+unfoldable pub row_use_rule : List ℕ → ℕ → ℕ → Option ℕ
+row_use_rule s t r = rule (not (second_use (used_by_rows s t r) (row_uses s t r))) (behaviour_at s r) None
 
-unfoldable pub service_use_rule : List ℕ → ℕ → ℕ → Broken
-service_use_rule s t q = rule (not (second_use (used s t q) (service_uses s t q))) (service_at s q) Nowhere
+unfoldable pub service_use_rule : List ℕ → ℕ → ℕ → Option ℕ
+service_use_rule s t q = rule (not (second_use (used s t q) (service_uses s t q))) (service_at s q) None
 
 -- Row t is used, and by no row or service a second time.
-unfoldable pub uses_row : List ℕ → ℕ → Broken
+unfoldable pub uses_row : List ℕ → ℕ → Option ℕ
 uses_row s t =
     rule (not (eqb (used s t (service_count s)) 0)) (behaviour_at s t)
     (least (least_over (behaviour_count s) (row_use_rule s t)) (least_over (service_count s) (service_use_rule s t)))
 
-unfoldable pub uses_rows : List ℕ → Broken
+unfoldable pub uses_rows : List ℕ → Option ℕ
 uses_rows s = least_over (behaviour_count s) (uses_row s)
 
 -- Refusal 4: the lowest place of a broken rule over the whole file.
-unfoldable pub broken : List ℕ → Broken
+unfoldable pub broken : List ℕ → Option ℕ
 broken s =
     least (path_rows s)
     (least (type_rows s)

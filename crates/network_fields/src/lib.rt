@@ -1,36 +1,30 @@
 // Refusal 4 on the rows of E and B, by the table of what each kind's fields are: the lowest place of a broken rule. The use of B
 // rows is judged elsewhere.
-#![tactic(auto)]
+#![tactic(auto, unfolding(network::specs::Kinds::expression_fields, network::specs::Kinds::behaviour_fields, network::specs::Layout::data_part, network::specs::Rows::sub_fits, network::specs::Rows::input_fits, network::specs::Rows::constant_fits, network::specs::Rows::field_fits, network::specs::Rows::fields_rule, network::specs::Rows::basic_fits, network::specs::Rows::expression_row, network::specs::Rows::expression_rows, network::specs::Rows::behaviour_head, network::specs::Rows::branch_rule, network::specs::Rows::branch_row_rule, network::specs::Rows::choice_run, network::specs::Rows::behaviour_row, network::specs::Rows::behaviour_rows))]
 
-ghost use Rattle.std.specs.Prelude.{◌≡◌, not, ◌&&◌, ◌||◌, ◌+◌, ◌<◌};
+ghost use Rattle.std.specs.Prelude.{◌≡◌, ◌<◌};
 ghost use Rattle.scalar.specs.Value.{is_value};
-ghost use Rattle.wire.specs.Wire.{part, u16_at};
-ghost use Rattle.network.specs.Least.{rule};
+ghost use Rattle.wire.specs.Wire.{part};
 ghost use Rattle.network.specs.declared.FieldSort.TheVariants.{Unruled, Unused};
 ghost use Rattle.network.specs.Kinds.{fields, expression_fields, behaviour_fields};
-ghost use Rattle.network.specs.Rows.{field_a, field_b, field_c, field_d, sub_fits, input_fits, constant_fits, field_fits, fields_rule, basic_fits, expression_row, expression_rows};
-ghost use Rattle.network.specs.Rows.{behaviour_head, branch_rule, branch_row_rule, choice_run, behaviour_row, behaviour_rows};
+ghost use Rattle.network.specs.Rows.{sub_fits, input_fits, constant_fits, field_fits, fields_rule, basic_fits, expression_row, expression_rows};
+ghost use Rattle.network.specs.Rows.{branch_rule, branch_row_rule, choice_run, behaviour_row, behaviour_rows};
 
-use network::{BehaviourKind, Broken, ExpressionKind, FieldSort, Fields};
-use network_layout::{both, either, least, rule};
+use network::{BehaviourKind, ExpressionKind, FieldSort, Fields};
+use network_layout::{lowest, rule};
 
 fn sorts_of(a: FieldSort, b: FieldSort, c: FieldSort, d: FieldSort) -> Fields
     ensures { result ≡ fields a b c d }
 {
-    Fields {
-        a: a,
-        b: b,
-        c: c,
-        d: d,
-    }
+    Fields { a, b, c, d }
 }
 
 fn operands(a: FieldSort, b: FieldSort) -> Fields
     ensures { result ≡ fields a b Unused Unruled }
 {
     Fields {
-        a: a,
-        b: b,
+        a,
+        b,
         c: FieldSort::Unused,
         d: FieldSort::Unruled,
     }
@@ -40,9 +34,9 @@ fn three(a: FieldSort, b: FieldSort, c: FieldSort) -> Fields
     ensures { result ≡ fields a b c Unused }
 {
     Fields {
-        a: a,
-        b: b,
-        c: c,
+        a,
+        b,
+        c,
         d: FieldSort::Unused,
     }
 }
@@ -51,8 +45,8 @@ fn two(a: FieldSort, b: FieldSort) -> Fields
     ensures { result ≡ fields a b Unused Unused }
 {
     Fields {
-        a: a,
-        b: b,
+        a,
+        b,
         c: FieldSort::Unused,
         d: FieldSort::Unused,
     }
@@ -63,15 +57,19 @@ fn expression_sorts(k: ExpressionKind) -> Fields
 {
     match k {
         ExpressionKind::Constant => operands(FieldSort::ConstantPart, FieldSort::Unruled),
-        ExpressionKind::ValueAt => operands(FieldSort::PathRow, FieldSort::Unused),
-        ExpressionKind::Presence => operands(FieldSort::PathRow, FieldSort::Unused),
-        ExpressionKind::Not => operands(FieldSort::EarlierRow, FieldSort::Unused),
-        ExpressionKind::Negate => operands(FieldSort::EarlierRow, FieldSort::Unused),
-        ExpressionKind::Add => operands(FieldSort::EarlierRow, FieldSort::EarlierRow),
-        ExpressionKind::Subtract => operands(FieldSort::EarlierRow, FieldSort::EarlierRow),
-        ExpressionKind::Less => operands(FieldSort::EarlierRow, FieldSort::EarlierRow),
-        ExpressionKind::Equal => operands(FieldSort::EarlierRow, FieldSort::EarlierRow),
-        ExpressionKind::And => operands(FieldSort::EarlierRow, FieldSort::EarlierRow),
+        ExpressionKind::ValueAt | ExpressionKind::Presence => operands(
+            FieldSort::PathRow,
+            FieldSort::Unused,
+        ),
+        ExpressionKind::Not | ExpressionKind::Negate => operands(
+            FieldSort::EarlierRow,
+            FieldSort::Unused,
+        ),
+        ExpressionKind::Add
+        | ExpressionKind::Subtract
+        | ExpressionKind::Less
+        | ExpressionKind::Equal
+        | ExpressionKind::And => operands(FieldSort::EarlierRow, FieldSort::EarlierRow),
         ExpressionKind::Unknown => sorts_of(
             FieldSort::Unruled,
             FieldSort::Unruled,
@@ -124,33 +122,34 @@ pub fn behaviour_sorts(k: BehaviourKind) -> Fields
 fn sub_fits(s: &[u8], r: u16, v: u16) -> bool
     ensures { result ≡ sub_fits s.now r v }
 {
-    let later = both(r < v, v < network_layout::behaviour_count(s));
-    both(later, !network_rows::is_branch(network_rows::kind_at(s, v)))
+    r < v
+        && v < network_layout::behaviour_count(s)
+        && !network_rows::is_branch(network_rows::kind_at(s, v))
 }
 
 fn input_fits(s: &[u8], r: u16, v: u16) -> bool
     ensures { result ≡ input_fits s.now r v }
 {
-    let later = both(r < v, v < network_layout::behaviour_count(s));
-    both(later, network_rows::is_input(network_rows::kind_at(s, v)))
+    r < v
+        && v < network_layout::behaviour_count(s)
+        && network_rows::is_input(network_rows::kind_at(s, v))
 }
 
 // Are the bytes from `at` on, n of them as far as there are so many, a value of the basic type?
 fn value_at(s: &[u8], at: usize, basic: u8, n: usize) -> bool
     ensures { result ≡ is_value basic (part s.now at n) }
 {
-    let from = network_layout::smaller(at, s.len());
-    let len = network_layout::smaller(n, s.len() - from);
-    scalar::value_ok(s, from, basic, len)
+    let from = at.min(s.len());
+    scalar::value_ok(s, from, basic, n.min(s.len() - from))
 }
 
 fn constant_fits(s: &[u8], basic: u8, v: u16, n: u16) -> bool
     ensures { result ≡ constant_fits s.now basic v n }
 {
-    let end = wire::index(v) + wire::index(n);
-    let at = network_layout::data_start(s) + wire::index(v);
-    let value = value_at(s, at, basic, wire::index(n));
-    both(end <= wire::index(network_layout::data_size(s)), value)
+    let start = usize::from(v);
+    let n = usize::from(n);
+    start + n <= usize::from(network_layout::data_size(s))
+        && value_at(s, network_layout::data_start(s) + start, basic, n)
 }
 
 fn field_fits(s: &[u8], r: u16, basic: u8, q: FieldSort, v: u16, w: u16) -> bool
@@ -171,163 +170,108 @@ fn field_fits(s: &[u8], r: u16, basic: u8, q: FieldSort, v: u16, w: u16) -> bool
             v,
             w,
         ),
-        FieldSort::BranchCount => both(1 <= v, v <= 8),
+        FieldSort::BranchCount => 1 <= v && v <= 8,
         FieldSort::ConstantPart => constant_fits(s, basic, v, w),
     }
 }
 
 // The rules of fields a, b, c of row r, which are of these sorts and stand from `at` + 2 on.
-fn sorts_rule(
+fn fields_rule(
     s: &[u8],
     r: u16,
     basic: u8,
-    qa: FieldSort,
-    qb: FieldSort,
-    qc: FieldSort,
+    q: Fields,
     at: usize,
-    others: Broken,
-) -> Broken
+    others: Option<usize>,
+) -> Option<usize>
     requires { at < 1000000 }
-    ensures { result ≡ fields_rule s.now r basic (fields qa qb qc qc) at others }
+    ensures { result ≡ fields_rule s.now r basic q at others }
 {
     let a = wire::u16_at(s, at + 2);
     let b = wire::u16_at(s, at + 4);
     let c = wire::u16_at(s, at + 6);
-    let m = rule(field_fits(s, r, basic, qc, c, 0), at + 6, others);
-    let m = rule(field_fits(s, r, basic, qb, b, c), at + 4, m);
-    rule(field_fits(s, r, basic, qa, a, b), at + 2, m)
-}
-
-fn fields_rule(s: &[u8], r: u16, basic: u8, q: Fields, at: usize, others: Broken) -> Broken
-    requires { at < 1000000 }
-    ensures { result ≡ fields_rule s.now r basic q at others }
-{
-    let qa = q.a;
-    let qb = q.b;
-    let qc = q.c;
-    sorts_rule(s, r, basic, qa, qb, qc, at, others)
+    let m = rule(field_fits(s, r, basic, q.c, c, 0), at + 6, others);
+    let m = rule(field_fits(s, r, basic, q.b, b, c), at + 4, m);
+    rule(field_fits(s, r, basic, q.a, a, b), at + 2, m)
 }
 
 fn basic_fits(k: ExpressionKind, basic: u8) -> bool
     ensures { result ≡ basic_fits k basic }
 {
     match k {
-        ExpressionKind::Constant => basic <= 6,
-        ExpressionKind::ValueAt => basic == 0,
-        ExpressionKind::Presence => basic == 0,
-        ExpressionKind::Not => basic == 0,
-        ExpressionKind::Negate => basic == 0,
-        ExpressionKind::Add => basic == 0,
-        ExpressionKind::Subtract => basic == 0,
-        ExpressionKind::Less => basic == 0,
-        ExpressionKind::Equal => basic == 0,
-        ExpressionKind::And => basic == 0,
+        ExpressionKind::Constant => basic <= scalar::LAST_BASIC,
         ExpressionKind::Unknown => true,
+        _ => basic == 0,
     }
 }
 
-fn expression_rule(s: &[u8], r: u16) -> Broken
+fn expression_rule(s: &[u8], r: u16) -> Option<usize>
     ensures { result ≡ expression_row s.now r }
 {
     let at = network_layout::expression_at(s, r);
     let k = network_rows::expression_kind_at(s, r);
     let basic = wire::byte_at(s, at + 1);
-    let m = fields_rule(s, r, basic, expression_sorts(k), at, Broken::Nowhere);
+    let m = fields_rule(s, r, basic, expression_sorts(k), at, None);
     let m = rule(basic_fits(k, basic), at + 1, m);
     rule(wire::byte_at(s, at) <= 9, at, m)
 }
 
-pub fn expression_rows(s: &[u8]) -> Broken
+pub fn expression_rows(s: &[u8]) -> Option<usize>
     ensures { result ≡ expression_rows s.now }
 {
     let n = network_layout::expression_count(s);
-    let mut m = Broken::Nowhere;
-    let mut i: u16 = 0;
-    while i < n {
-        m = least(m, expression_rule(s, i));
-        i += 1;
-    }
-    m
+    lowest(0, n, |i| expression_rule(s, i))
 }
 
-fn behaviour_head(s: &[u8], at: usize, others: Broken) -> Broken
-    requires { at < 1000000 }
-    ensures { result ≡ behaviour_head s.now at others }
-{
-    let m = rule(wire::byte_at(s, at + 1) == 0, at + 1, others);
-    rule(wire::byte_at(s, at) <= 11, at, m)
-}
-
-fn branch_rule(s: &[u8], at: usize, j: u16) -> Broken
+fn branch_rule(s: &[u8], at: usize, j: u16) -> Option<usize>
     requires { at < 1000000 }
     ensures { result ≡ branch_rule s.now at j }
 {
     let inside = network_rules::in_run(wire::u16_at(s, at + 2), wire::u16_at(s, at + 4), j);
-    let holds = either(
-        !inside,
-        network_rows::is_branch(network_rows::kind_at(s, j)),
-    );
-    rule(holds, at + 2, Broken::Nowhere)
+    rule(
+        !inside || network_rows::is_branch(network_rows::kind_at(s, j)),
+        at + 2,
+        None,
+    )
 }
 
-fn branch_rows(s: &[u8], at: usize) -> Broken
+fn branch_rows(s: &[u8], at: usize) -> Option<usize>
     requires { at < 1000000 }
     ensures { result ≡ branch_row_rule s.now at }
 {
     let first = wire::u16_at(s, at + 2);
     let n = wire::u16_at(s, at + 4);
     let size = network_layout::behaviour_count(s);
+    let from = network_layout::clipped(first, 0, size);
     let end = network_layout::clipped(first, n, size);
-    let mut m = Broken::Nowhere;
-    let mut i = network_layout::clipped(first, 0, size);
-    while i < end {
-        m = least(m, branch_rule(s, at, i));
-        i += 1;
-    }
-    m
+    lowest(from, end, |i| branch_rule(s, at, i))
 }
 
-fn choice_run(s: &[u8], r: u16) -> Broken
+fn choice_run(s: &[u8], r: u16) -> Option<usize>
     ensures { result ≡ choice_run s.now r }
 {
-    let at = network_layout::behaviour_at(s, r);
-    let k = network_rows::kind_at(s, r);
-    let choice = network_rows::is_choice(k);
-    if choice {
-        return branch_rows(s, at);
+    if network_rows::is_choice(network_rows::kind_at(s, r)) {
+        branch_rows(s, network_layout::behaviour_at(s, r))
+    } else {
+        None
     }
-    Broken::Nowhere
 }
 
-fn last_rule(s: &[u8], r: u16, q: Fields, at: usize, others: Broken) -> Broken
-    requires { at < 1000000 }
-    ensures { result ≡ rule (field_fits s.now r 0 q.d (field_d s.now at) 0) (at + 8) others }
-{
-    let qd = q.d;
-    let holds = field_fits(s, r, 0, qd, wire::u16_at(s, at + 8), 0);
-    rule(holds, at + 8, others)
-}
-
-fn behaviour_rule(s: &[u8], r: u16) -> Broken
+fn behaviour_rule(s: &[u8], r: u16) -> Option<usize>
     ensures { result ≡ behaviour_row s.now r }
 {
     let at = network_layout::behaviour_at(s, r);
     let q = behaviour_sorts(network_rows::kind_at(s, r));
-    let m = choice_run(s, r);
-    let m = last_rule(s, r, q, at, m);
+    let d = wire::u16_at(s, at + 8);
+    let m = rule(field_fits(s, r, 0, q.d, d, 0), at + 8, choice_run(s, r));
     let m = fields_rule(s, r, 0, q, at, m);
-    behaviour_head(s, at, m)
+    let m = rule(wire::byte_at(s, at + 1) == 0, at + 1, m);
+    rule(wire::byte_at(s, at) <= 11, at, m)
 }
 
-pub fn behaviour_rows(s: &[u8]) -> Broken
+pub fn behaviour_rows(s: &[u8]) -> Option<usize>
     ensures { result ≡ behaviour_rows s.now }
 {
     let n = network_layout::behaviour_count(s);
-    let mut m = Broken::Nowhere;
-    let mut i: u16 = 0;
-    while i < n {
-        m = least(m, behaviour_rule(s, i));
-        i += 1;
-    }
-    m
+    lowest(0, n, |i| behaviour_rule(s, i))
 }

@@ -10,15 +10,12 @@ use lib.Dec.{leb, ltb}
 use lib.ListN.{get_or, set, length, length-set}
 use lib.Seq.{get_or-set_same, get_or-set_other}
 use native.Mathlib.Omega.{arith}
-use borrow.Author.Tests.{lt-ltb, le-ltb, le-leb, lt-leb, leb-true, leb-false, ltb-true, ltb-false, not-true, not-false}
+use borrow.Author.Tests.{lt-ltb, le-leb, lt-leb, leb-true, leb-false, ltb-true, ltb-false, not-true, not-false}
 use Rattle.basics.specs.Choice.{pick}
 use Rattle.basics.specs.TestLaws.{and-false, and-of, and-true}
 use Rattle.wire.specs.Wire.{byte_at}
-use Rattle.network.specs.declared.Broken.{Broken}
-use Rattle.network.specs.declared.Broken.TheVariants.{At, Nowhere}
 use Rattle.network.specs.declared.ExpressionKind.{ExpressionKind}
 use Rattle.refusal.specs.declared.Refusal.TheVariants.{FileLayout, SectionCount, BrokenField, TooLarge}
-use Rattle.refusal.specs.declared.Verdict.TheVariants.{Done, Refused}
 use Rattle.network.specs.Least.{least, rule}
 use Rattle.network.proofs.LeastLaws.{least_kept, rule-kept, over-kept}
 use Rattle.network.specs.Layout.{expression_count, expression_at, path_count, type_count, behaviour_count, operation_count, service_count, laid_out, counted}
@@ -28,24 +25,24 @@ use Rattle.network.specs.Uses.{uses_rows, broken}
 use Rattle.network.specs.Sizes.{rows_sum, rows_all, levels_within, nodes_to, type_within, depth_within, operands_within, expression_large, expression_sizes, large}
 use Rattle.network.specs.Form.{form_of}
 use Rattle.network_layout.specs.Loops.{Swept, swept_none, swept-more, swept-done}
-use Rattle.network_form.specs.declared.Spent.{Spent}
-use Rattle.network_form.specs.declared.Spent.TheVariants.{Left, Large}
 use Rattle.network_form.specs.Walk.{spent_by, spent, is_left, larger, level_above, level_at, level_by, row_level, Operands}
+use Rattle.std.specs.Prelude.{Option, Some, None, is_some}
+use Rattle.std.specs.Prelude.{Ok, Err}
 
-over : (b : Bool) (m n l : ℕ) → l < m → Large ≡ spent_by (true && b) (suc m + n) (suc l)
+over : (b : Bool) (m n l : ℕ) → l < m → None ≡ spent_by (true && b) (suc m + n) (suc l)
 over false m n l h = refl
 over true m n l h = simp (lt-leb (suc m + n) (suc l) (omega arith))
 
-first-large-by : (t b : Bool) (m n l : ℕ) → leb m l ≡ t → pick t (Left (l - m)) Large ≡ Large → Large ≡ spent_by (true && b) (suc m + n) (suc l)
+first-large-by : (t b : Bool) (m n l : ℕ) → leb m l ≡ t → pick t (Some (l - m)) None ≡ None → None ≡ spent_by (true && b) (suc m + n) (suc l)
 first-large-by true b m n l p e = let z : ◌≡◌ {A = ℕ} 0 1 = cc in absurd (omega arith)
 first-large-by false b m n l p e = over b m n l (leb-false m l p)
 
 -- a row whose children spend too much
-first-large : (a b : Bool) (m n l : ℕ) → spent_by a m l ≡ Large → Large ≡ spent_by (a && b) (suc m + n) (suc l)
+first-large : (a b : Bool) (m n l : ℕ) → spent_by a m l ≡ None → None ≡ spent_by (a && b) (suc m + n) (suc l)
 first-large false b m n l e = refl
 first-large true b m n l e = first-large-by (leb m l) b m n l refl e
 
-rest-by : (t b : Bool) (m n l k : ℕ) → m ≤ l → k ≡ l - m → leb n k ≡ t → pick (b && t) (Left (k - n)) Large ≡ spent_by (true && b) (suc m + n) (suc l)
+rest-by : (t b : Bool) (m n l k : ℕ) → m ≤ l → k ≡ l - m → leb n k ≡ t → pick (b && t) (Some (k - n)) None ≡ spent_by (true && b) (suc m + n) (suc l)
 rest-by t false m n l k h e p = refl
 rest-by true true m n l k h e p =
     let f : n ≤ k = leb-true n k p in
@@ -55,7 +52,7 @@ rest-by false true m n l k h e p =
     let f : k < n = leb-false n k p in
     simp (lt-leb (suc m + n) (suc l) (omega arith))
 
-first-left-by : (t b : Bool) (m n l k : ℕ) → leb m l ≡ t → pick t (Left (l - m)) Large ≡ Left k → spent_by b n k ≡ spent_by (true && b) (suc m + n) (suc l)
+first-left-by : (t b : Bool) (m n l k : ℕ) → leb m l ≡ t → pick t (Some (l - m)) None ≡ Some k → spent_by b n k ≡ spent_by (true && b) (suc m + n) (suc l)
 first-left-by true b m n l k p e =
     let f : m ≤ l = leb-true m l p in
     let z : k ≡ l - m = cc in
@@ -63,23 +60,23 @@ first-left-by true b m n l k p e =
 first-left-by false b m n l k p e = let z : ◌≡◌ {A = ℕ} 0 1 = cc in absurd (omega arith)
 
 -- a row whose children leave k, and then the rest
-first-left : (a b : Bool) (m n l k : ℕ) → spent_by a m l ≡ Left k → spent_by b n k ≡ spent_by (a && b) (suc m + n) (suc l)
+first-left : (a b : Bool) (m n l k : ℕ) → spent_by a m l ≡ Some k → spent_by b n k ≡ spent_by (a && b) (suc m + n) (suc l)
 first-left false b m n l k e = let z : ◌≡◌ {A = ℕ} 0 1 = cc in absurd (omega arith)
 first-left true b m n l k e = first-left-by (leb m l) b m n l k refl e
 
-done-by : (l : ℕ) → Left l ≡ spent_by true 0 l
+done-by : (l : ℕ) → Some l ≡ spent_by true 0 l
 done-by l = let z : l - 0 ≡ l = omega arith in simp (le-leb 0 l (omega arith), z)
 
 -- one law per way out of `walk`
-pub walk-done : (s : List ℕ) (d first n left : ℕ) → n ≡ 0 → Left left ≡ spent s d first n left
+pub walk-done : (s : List ℕ) (d first n left : ℕ) → n ≡ 0 → Some left ≡ spent s d first n left
 unfolding spent rows_all rows_sum
 walk-done s d first n left e = rw e (done-by left)
 
-pub walk-flat : (s : List ℕ) (d first n left : ℕ) → (n ≡ 0 → ⊥) → d ≡ 0 → Large ≡ spent s d first n left
+pub walk-flat : (s : List ℕ) (d first n left : ℕ) → (n ≡ 0 → ⊥) → d ≡ 0 → None ≡ spent s d first n left
 unfolding spent rows_all rows_sum levels_within
 walk-flat s d first n left a e = let z : n ≡ suc (n - 1) = omega arith in rw (e, z) refl
 
-full_by : (b : Bool) (m l : ℕ) → l ≡ 0 → 1 ≤ m → Large ≡ spent_by b m l
+full_by : (b : Bool) (m l : ℕ) → l ≡ 0 → 1 ≤ m → None ≡ spent_by b m l
 full_by true m l e h = simp (lt-leb m l (omega arith))
 full_by false m l e h = refl
 
@@ -87,7 +84,7 @@ some-node : (s : List ℕ) (d first n : ℕ) → 1 ≤ rows_sum (nodes_to s (suc
 unfolding rows_sum nodes_to
 some-node s d first n = omega arith
 
-pub walk-full : (s : List ℕ) (d first n left : ℕ) → (n ≡ 0 → ⊥) → (d ≡ 0 → ⊥) → left ≡ 0 → Large ≡ spent s d first n left
+pub walk-full : (s : List ℕ) (d first n left : ℕ) → (n ≡ 0 → ⊥) → (d ≡ 0 → ⊥) → left ≡ 0 → None ≡ spent s d first n left
 unfolding spent
 walk-full s d first n left a b e =
     let y : d ≡ suc (d - 1) = omega arith in
@@ -101,49 +98,48 @@ unroll : (s : List ℕ) (d first n left : ℕ) → spent s (suc d) first (suc n)
 unfolding spent rows_all rows_sum levels_within nodes_to
 unroll s d first n left = refl
 
-suc-large : (s : List ℕ) (d first n left : ℕ) → spent s d (first_child s first) (child_count s first) left ≡ Large → Large ≡ spent s (suc d) first (suc n) (suc left)
+suc-large : (s : List ℕ) (d first n left : ℕ) → spent s d (first_child s first) (child_count s first) left ≡ None → None ≡ spent s (suc d) first (suc n) (suc left)
 unfolding spent
 suc-large s d first n left e =
     first-large (rows_all (levels_within s d) (first_child s first) (child_count s first)) (rows_all (levels_within s (suc d)) (first + 1) n)
     (rows_sum (nodes_to s d) (first_child s first) (child_count s first)) (rows_sum (nodes_to s (suc d)) (first + 1) n) left e ∙ sym (unroll s d first n left)
 
-suc-rest : (s : List ℕ) (d first n left k : ℕ) → spent s d (first_child s first) (child_count s first) left ≡ Left k →
+suc-rest : (s : List ℕ) (d first n left k : ℕ) → spent s d (first_child s first) (child_count s first) left ≡ Some k →
     spent s (suc d) (first + 1) n k ≡ spent s (suc d) first (suc n) (suc left)
 unfolding spent
 suc-rest s d first n left k e =
     first-left (rows_all (levels_within s d) (first_child s first) (child_count s first)) (rows_all (levels_within s (suc d)) (first + 1) n)
     (rows_sum (nodes_to s d) (first_child s first) (child_count s first)) (rows_sum (nodes_to s (suc d)) (first + 1) n) left k e ∙ sym (unroll s d first n left)
 
-pub walk-large : (s : List ℕ) (d first n left f m : ℕ) (r : Spent) → (n ≡ 0 → ⊥) → (d ≡ 0 → ⊥) → (left ≡ 0 → ⊥) → f ≡ first_child s first → m ≡ child_count s first →
-    r ≡ spent s (d - 1) f m (left - 1) → r ≡ Large → Large ≡ spent s d first n left
-walk-large s d first n left f m r a b g p q h e =
-    let y : d ≡ suc (d - 1) = omega arith in
+-- With a level and a node taken for the first row.
+pub walk-large : (s : List ℕ) (d first n left below rest f m : ℕ) (r : Option ℕ) → (n ≡ 0 → ⊥) → below + 1 ≡ d → rest + 1 ≡ left → f ≡ first_child s first → m ≡ child_count s first →
+    r ≡ spent s below f m rest → r ≡ None → None ≡ spent s d first n left
+walk-large s d first n left below rest f m r a b g p q h e =
+    let y : d ≡ suc below = omega arith in
     let z : n ≡ suc (n - 1) = omega arith in
-    let w : left ≡ suc (left - 1) = omega arith in
-    let v : spent s (d - 1) (first_child s first) (child_count s first) (left - 1) ≡ Large = cc in
-    suc-large s (d - 1) first (n - 1) (left - 1) v ∙ cc
+    let w : left ≡ suc rest = omega arith in
+    let v : spent s below (first_child s first) (child_count s first) rest ≡ None = cc in
+    suc-large s below first (n - 1) rest v ∙ cc
 
-pub walk-rest : (s : List ℕ) (d first n left f m k : ℕ) (r x : Spent) → (n ≡ 0 → ⊥) → (d ≡ 0 → ⊥) → (left ≡ 0 → ⊥) → f ≡ first_child s first → m ≡ child_count s first →
-    r ≡ spent s (d - 1) f m (left - 1) → r ≡ Left k → x ≡ spent s d (first + 1) (n - 1) k → x ≡ spent s d first n left
-walk-rest s d first n left f m k r x a b g p q h e o =
-    let y : d ≡ suc (d - 1) = omega arith in
+pub walk-rest : (s : List ℕ) (d first n left below rest f m k : ℕ) (r x : Option ℕ) → (n ≡ 0 → ⊥) → below + 1 ≡ d → rest + 1 ≡ left → f ≡ first_child s first → m ≡ child_count s first →
+    r ≡ spent s below f m rest → r ≡ Some k → x ≡ spent s d (first + 1) (n - 1) k → x ≡ spent s d first n left
+walk-rest s d first n left below rest f m k r x a b g p q h e o =
+    let y : d ≡ suc below = omega arith in
     let z : n ≡ suc (n - 1) = omega arith in
-    let w : left ≡ suc (left - 1) = omega arith in
-    let v : spent s (d - 1) (first_child s first) (child_count s first) (left - 1) ≡ Left k = cc in
-    let u : spent s (suc (d - 1)) (first + 1) (n - 1) k ≡ spent s (suc (d - 1)) first (suc (n - 1)) (suc (left - 1)) = suc-rest s (d - 1) first (n - 1) (left - 1) k v in
+    let w : left ≡ suc rest = omega arith in
+    let v : spent s below (first_child s first) (child_count s first) rest ≡ Some k = cc in
+    let u : spent s (suc below) (first + 1) (n - 1) k ≡ spent s (suc below) first (suc (n - 1)) (suc rest) = suc-rest s below first (n - 1) rest k v in
     cc
 
 -- A row without children.
-pub walk-leaf : (s : List ℕ) (d first n left m : ℕ) (x : Spent) → (n ≡ 0 → ⊥) → (d ≡ 0 → ⊥) → (left ≡ 0 → ⊥) → m ≡ child_count s first → m ≡ 0 →
-    x ≡ spent s d (first + 1) (n - 1) (left - 1) → x ≡ spent s d first n left
-walk-leaf s d first n left m x a b g q z o =
-    walk-rest s d first n left (first_child s first) m (left - 1) (Left (left - 1)) x a b g refl q (walk-done s (d - 1) (first_child s first) m (left - 1) z) refl o
-
-pub ruleset walk-laws = (walk-done, walk-flat, walk-full, walk-large, walk-leaf, walk-rest)
+pub walk-leaf : (s : List ℕ) (d first n left below rest m : ℕ) (x : Option ℕ) → (n ≡ 0 → ⊥) → below + 1 ≡ d → rest + 1 ≡ left → m ≡ child_count s first → m ≡ 0 →
+    x ≡ spent s d (first + 1) (n - 1) rest → x ≡ spent s d first n left
+walk-leaf s d first n left below rest m x a b g q z o =
+    walk-rest s d first n left below rest (first_child s first) m rest (Some rest) x a b g refl q (walk-done s below (first_child s first) m rest z) refl o
 
 left_is : (b : Bool) (m l : ℕ) → is_left (spent_by b m l) ≡ (b && leb m l)
-left_is b m l = left_by (b && leb m l) (Left (l - m)) refl where
-  left_by : (t : Bool) (x : Spent) → is_left x ≡ true → is_left (pick t x Large) ≡ t
+left_is b m l = left_by (b && leb m l) (Some (l - m)) refl where
+  left_by : (t : Bool) (x : Option ℕ) → is_left x ≡ true → is_left (pick t x None) ≡ t
   left_by true x e = e
   left_by false x e = refl
 
@@ -155,89 +151,18 @@ within-is s r = left_is (levels_within s 4 r && true) (nodes_to s 4 r + 0) 16 �
     zero-plus : (n : ℕ) → n + 0 ≡ n
     zero-plus n = omega arith
 
-pub fits-left : (s : List ℕ) (r i n : ℕ) (w : Spent) → i ≡ r → w ≡ spent s 4 i 1 16 → w ≡ Left n → true ≡ type_within s r
-fits-left s r i n w p h e = let z : spent s 4 r 1 16 ≡ Left n = cc in sym (ap is_left z) ∙ within-is s r
-
-pub fits-large : (s : List ℕ) (r i : ℕ) (w : Spent) → i ≡ r → w ≡ spent s 4 i 1 16 → w ≡ Large → false ≡ type_within s r
-fits-large s r i w p h e = let z : spent s 4 r 1 16 ≡ Large = cc in sym (ap is_left z) ∙ within-is s r
-
-pub ruleset fits-laws = (fits-left, fits-large)
+pub fits : (s : List ℕ) (r i : ℕ) (w : Option ℕ) → i ≡ r → w ≡ spent s 4 i 1 16 → is_some w ≡ type_within s r
+fits s r i w p h = rw (h, p) (left-some (spent s 4 r 1 16) ∙ within-is s r)
+  where
+    left-some : (x : Option ℕ) → is_some x ≡ is_left x
+    left-some (Some n) = refl
+    left-some None = refl
 
 -- ---- levels of expressions
 
 pub level_in : (l : List ℕ) (a i : ℕ) → a < 256 → i ≡ a → get_or l i 0 ≡ level_at l a
 unfolding level_at
 level_in l a i h e = rw (lt-ltb a 256 h) (ap (λ (x : ℕ). get_or l x 0) e)
-
-pub level_out : (l : List ℕ) (a : ℕ) → 256 ≤ a → 0 ≡ level_at l a
-unfolding level_at
-level_out l a h = rw (le-ltb a 256 h) refl
-
-pub ruleset operand-laws = (level_in, level_out)
-
-pub larger-second : (a b : ℕ) → a < b → b ≡ larger a b
-unfolding larger
-larger-second a b h = simp (lt-ltb a b h)
-
-pub larger-first : (a b : ℕ) → b ≤ a → a ≡ larger a b
-unfolding larger
-larger-first a b h = simp (le-ltb a b h)
-
-pub above_more : (a b m : ℕ) → m ≡ larger a b → m < 8 → m + 1 ≡ level_above a b
-unfolding level_above
-above_more a b m e h = let z : ltb (larger a b) 8 ≡ true = lt-ltb (larger a b) 8 (omega arith) in rw z (ap (λ (x : ℕ). x + 1) e)
-
-pub above_most : (a b m : ℕ) → m ≡ larger a b → 8 ≤ m → 9 ≡ level_above a b
-unfolding level_above
-above_most a b m e h = let z : ltb (larger a b) 8 ≡ false = le-ltb (larger a b) 8 (omega arith) in rw z refl
-
-pub ruleset above-laws = (larger-second, larger-first, above_more, above_most)
-
-pub level-Constant : (k : ExpressionKind) (a b : ℕ) → k ≡ ExpressionKind.Constant → 1 ≡ level_by k a b
-unfolding level_by
-level-Constant k a b e = rw e refl
-
-pub level-ValueAt : (k : ExpressionKind) (a b : ℕ) → k ≡ ExpressionKind.ValueAt → 1 ≡ level_by k a b
-unfolding level_by
-level-ValueAt k a b e = rw e refl
-
-pub level-Presence : (k : ExpressionKind) (a b : ℕ) → k ≡ ExpressionKind.Presence → 1 ≡ level_by k a b
-unfolding level_by
-level-Presence k a b e = rw e refl
-
-pub level-Not : (k : ExpressionKind) (a b r : ℕ) → k ≡ ExpressionKind.Not → r ≡ level_above a a → r ≡ level_by k a b
-unfolding level_by
-level-Not k a b r e h = rw e h
-
-pub level-Negate : (k : ExpressionKind) (a b r : ℕ) → k ≡ ExpressionKind.Negate → r ≡ level_above a a → r ≡ level_by k a b
-unfolding level_by
-level-Negate k a b r e h = rw e h
-
-pub level-Add : (k : ExpressionKind) (a b r : ℕ) → k ≡ ExpressionKind.Add → r ≡ level_above a b → r ≡ level_by k a b
-unfolding level_by
-level-Add k a b r e h = rw e h
-
-pub level-Subtract : (k : ExpressionKind) (a b r : ℕ) → k ≡ ExpressionKind.Subtract → r ≡ level_above a b → r ≡ level_by k a b
-unfolding level_by
-level-Subtract k a b r e h = rw e h
-
-pub level-Less : (k : ExpressionKind) (a b r : ℕ) → k ≡ ExpressionKind.Less → r ≡ level_above a b → r ≡ level_by k a b
-unfolding level_by
-level-Less k a b r e h = rw e h
-
-pub level-Equal : (k : ExpressionKind) (a b r : ℕ) → k ≡ ExpressionKind.Equal → r ≡ level_above a b → r ≡ level_by k a b
-unfolding level_by
-level-Equal k a b r e h = rw e h
-
-pub level-And : (k : ExpressionKind) (a b r : ℕ) → k ≡ ExpressionKind.And → r ≡ level_above a b → r ≡ level_by k a b
-unfolding level_by
-level-And k a b r e h = rw e h
-
-pub level-Unknown : (k : ExpressionKind) (a b : ℕ) → k ≡ ExpressionKind.Unknown → 1 ≡ level_by k a b
-unfolding level_by
-level-Unknown k a b e = rw e refl
-
-pub ruleset level-laws = (level-Constant, level-ValueAt, level-Presence, level-Not, level-Negate, level-Add, level-Subtract, level-Less, level-Equal, level-And, level-Unknown)
 
 -- A list's number says how many levels a row has, as far as 8.
 abbrev Says : List ℕ → ℕ → ℕ → Type 0
@@ -366,15 +291,15 @@ earlier-by s r basic v w x ExpressionKind.And p q = (ltb-true v r p, ltb-true w 
 earlier-by s r basic v w x ExpressionKind.Unknown p q = tt
 
 -- The rules of an E row's fields a and b.
-fields-kept : (s : List ℕ) (r : ℕ) → expression_row s r ≡ Nowhere → fields_rule s r (byte_at s (expression_at s r + 1)) (expression_fields (expression_kind_at s r)) (expression_at s r) Nowhere ≡ Nowhere
+fields-kept : (s : List ℕ) (r : ℕ) → expression_row s r ≡ None → fields_rule s r (byte_at s (expression_at s r + 1)) (expression_fields (expression_kind_at s r)) (expression_at s r) None ≡ None
 unfolding expression_row
 fields-kept s r e =
     let at = expression_at s r in
     let k = expression_kind_at s r in
-    let h = rule-kept (leb (byte_at s at) 9) at (rule (basic_fits k (byte_at s (at + 1))) (at + 1) (fields_rule s r (byte_at s (at + 1)) (expression_fields k) at Nowhere)) e in
-    (rule-kept (basic_fits k (byte_at s (at + 1))) (at + 1) (fields_rule s r (byte_at s (at + 1)) (expression_fields k) at Nowhere) h.1).1
+    let h = rule-kept (leb (byte_at s at) 9) at (rule (basic_fits k (byte_at s (at + 1))) (at + 1) (fields_rule s r (byte_at s (at + 1)) (expression_fields k) at None)) e in
+    (rule-kept (basic_fits k (byte_at s (at + 1))) (at + 1) (fields_rule s r (byte_at s (at + 1)) (expression_fields k) at None) h.1).1
 
-earlier : (s : List ℕ) (r : ℕ) → expression_row s r ≡ Nowhere → Needs (expression_kind_at s r) (field_a s (expression_at s r) < r) (field_b s (expression_at s r) < r)
+earlier : (s : List ℕ) (r : ℕ) → expression_row s r ≡ None → Needs (expression_kind_at s r) (field_a s (expression_at s r) < r) (field_b s (expression_at s r) < r)
 unfolding fields_rule
 earlier s r e =
     let at = expression_at s r in
@@ -382,7 +307,7 @@ earlier s r e =
     let basic = byte_at s (at + 1) in
     let x = field_fits s r basic (expression_fields k).a (field_a s at) (field_b s at) in
     let y = field_fits s r basic (expression_fields k).b (field_b s at) (field_c s at) in
-    let z = rule (field_fits s r basic (expression_fields k).c (field_c s at) 0) (at + 6) Nowhere in
+    let z = rule (field_fits s r basic (expression_fields k).c (field_c s at) 0) (at + 6) None in
     let f = rule-kept x (at + 2) (rule y (at + 4) z) (fields-kept s r e) in
     let g = rule-kept y (at + 4) z f.1 in
     earlier-by s r basic (field_a s at) (field_b s at) (field_c s at) k f.0 g.0
@@ -396,7 +321,7 @@ pub record Levels (s : List ℕ) (i : ℕ) (l : List ℕ) : Type 0 where
 operand-says : (s l : List ℕ) (r a d : ℕ) → Levels s r l → r < 256 → d ≤ 8 → a < r → depth_within s d a ≡ leb (level_at l a) d
 operand-says s l r a d v g h k = v.says a k d h ∙ ap (λ (x : ℕ). leb x d) (level_in l a a (omega arith) refl)
 
-row-says : (s l : List ℕ) (r : ℕ) → expression_row s r ≡ Nowhere → r < 256 → Levels s r l → Says s r (row_level s l r)
+row-says : (s l : List ℕ) (r : ℕ) → expression_row s r ≡ None → r < 256 → Levels s r l → Says s r (row_level s l r)
 unfolding row_level depth_within
 row-says s l r e g v zero h = some_level (expression_kind_at s r) (level_at l (field_a s (expression_at s r))) (level_at l (field_b s (expression_at s r)))
 row-says s l r e g v (suc d) h =
@@ -405,17 +330,17 @@ row-says s l r e g v (suc d) h =
     kind-level (expression_kind_at s r) (depth_within s d a) (depth_within s d b) (level_at l a) (level_at l b) d (omega arith)
     (needs-map (expression_kind_at s r) (λ k. operand-says s l r a d v g (omega arith) k) (λ k. operand-says s l r b d v g (omega arith) k) (earlier s r e))
 
-pub record Leveling (s : List ℕ) (n i : ℕ) (m : Broken) (l : List ℕ) : Type 0 where
+pub record Leveling (s : List ℕ) (n i : ℕ) (m : Option ℕ) (l : List ℕ) : Type 0 where
   pub swept : Swept (expression_large s) n i m
   pub levels : Levels s i l
 
-pub levels-begin : (s : List ℕ) (n : ℕ) (l : List ℕ) → length l ≡ 256 → Leveling s n 0 Nowhere l
+pub levels-begin : (s : List ℕ) (n : ℕ) (l : List ℕ) → length l ≡ 256 → Leveling s n 0 None l
 levels-begin s n l e = record {
   swept = swept_none (expression_large s) n;
   levels = record { room = omega arith; says = λ j k. absurd (omega arith) };
 }
 
-large_is : (s : List ℕ) (i v at : ℕ) (x : Broken) → Says s i v → at ≡ expression_at s i → x ≡ rule (leb v 8) at Nowhere → x ≡ expression_large s i
+large_is : (s : List ℕ) (i v at : ℕ) (x : Option ℕ) → Says s i v → at ≡ expression_at s i → x ≡ rule (leb v 8) at None → x ≡ expression_large s i
 unfolding expression_large
 large_is s i v at x f e p = p ∙ rw (e, sym (f 8 (omega arith))) refl
 
@@ -434,18 +359,18 @@ set_says s i v l w h f = record {
     other : (j : ℕ) → j < i → Says s j (get_or (set l i v) j 0)
     other j q = rw (get_or-set_other l i j v 0 (λ e. omega arith)) (w.says j q)
 
-pub levels-more : (s : List ℕ) (n i v a at : ℕ) (m x r : Broken) (l : List ℕ) → Operands s → n ≡ expression_count s → Leveling s n i m l → i < n →
-    v ≡ row_level s l i → a ≡ i → at ≡ expression_at s i → x ≡ rule (leb v 8) at Nowhere → r ≡ least m x → Leveling s n (i + 1) r (set l a v)
+pub levels-more : (s : List ℕ) (n i v a at : ℕ) (m x r : Option ℕ) (l : List ℕ) → Operands s → n ≡ expression_count s → Leveling s n i m l → i < n →
+    v ≡ row_level s l i → a ≡ i → at ≡ expression_at s i → x ≡ rule (leb v 8) at None → r ≡ least m x → Leveling s n (i + 1) r (set l a v)
 unfolding expression_rows
 levels-more s n i v a at m x r l o c w h e d g p q =
-    let k : expression_row s i ≡ Nowhere = over-kept (expression_row s) (expression_count s) i o.kept (omega arith) in
+    let k : expression_row s i ≡ None = over-kept (expression_row s) (expression_count s) i o.kept (omega arith) in
     let f : Says s i v = rw e (row-says s l i k (omega (arith, o.few)) w.levels) in
     record {
       swept = swept-more (expression_large s) n i m x r w.swept h (large_is s i v at x f g p) q;
       levels = rw d (set_says s i v l w.levels (omega (arith, o.few)) f);
     }
 
-pub levels-done : (s : List ℕ) (n i : ℕ) (m : Broken) (l : List ℕ) → n ≡ expression_count s → Leveling s n i m l → n ≤ i → m ≡ expression_sizes s
+pub levels-done : (s : List ℕ) (n i : ℕ) (m : Option ℕ) (l : List ℕ) → n ≡ expression_count s → Leveling s n i m l → n ≤ i → m ≡ expression_sizes s
 unfolding expression_sizes
 levels-done s n i m l e w h = swept-done (expression_large s) n i m (expression_count s) w.swept h e
 
@@ -468,7 +393,7 @@ counts-few s e =
     let d = and-of (leb (behaviour_count s) 256) operations c.1 in
     (leb-true (expression_count s) 256 c.0, leb-true (behaviour_count s) 256 d.0)
 
-broken-kept : (s : List ℕ) → broken s ≡ Nowhere → expression_rows s ≡ Nowhere
+broken-kept : (s : List ℕ) → broken s ≡ None → expression_rows s ≡ None
 unfolding broken
 broken-kept s e =
     let rest = least (behaviour_rows s) (least (uses_rows s) (least (operation_rows s) (service_rows s))) in
@@ -479,10 +404,10 @@ broken-kept s e =
 pub few-behaviours : (s : List ℕ) (b : Bool) → b ≡ counted s → not b ≡ false → behaviour_count s ≤ 256
 few-behaviours s b q f = (counts-few s (sym q ∙ not-false b f)).1
 
-pub operands-left : (s : List ℕ) (b : Bool) (m : Broken) → b ≡ counted s → not b ≡ false → m ≡ broken s → m ≡ Nowhere → Operands s
+pub operands-left : (s : List ℕ) (b : Bool) (m : Option ℕ) → b ≡ counted s → not b ≡ false → m ≡ broken s → m ≡ None → Operands s
 operands-left s b m q f g h = record { few = (counts-few s (sym q ∙ not-false b f)).0; kept = broken-kept s (sym g ∙ h) }
 
-pub form-layout : (s : List ℕ) (a : Bool) → a ≡ laid_out s → not a ≡ true → Refused FileLayout ≡ form_of s
+pub form-layout : (s : List ℕ) (a : Bool) → a ≡ laid_out s → not a ≡ true → Err FileLayout ≡ form_of s
 unfolding form_of
 form-layout s a p e = let z : laid_out s ≡ false = sym p ∙ not-true a e in rw z refl
 
@@ -490,28 +415,28 @@ module _ (s : List ℕ) (a b : Bool) (p : a ≡ laid_out s) (e : not a ≡ false
   laid : laid_out s ≡ true
   laid = sym p ∙ not-false a e
 
-  pub form-counts : not b ≡ true → Refused SectionCount ≡ form_of s
+  pub form-counts : not b ≡ true → Err SectionCount ≡ form_of s
   unfolding form_of
   form-counts f = let z : counted s ≡ false = sym q ∙ not-true b f in rw (laid, z) refl
 
-  module _ (f : not b ≡ false) (m : Broken) (g : m ≡ broken s) where
+  module _ (f : not b ≡ false) (m : Option ℕ) (g : m ≡ broken s) where
     rows : counted s ≡ true
     rows = sym q ∙ not-false b f
 
-    pub form-field : (p : ℕ) → m ≡ At p → Refused (BrokenField p) ≡ form_of s
+    pub form-field : (p : ℕ) → m ≡ Some p → Err (BrokenField p) ≡ form_of s
     unfolding form_of
-    form-field p h = let z : broken s ≡ At p = sym g ∙ h in rw (laid, rows, z) refl
+    form-field p h = let z : broken s ≡ Some p = sym g ∙ h in rw (laid, rows, z) refl
 
-    module _ (h : m ≡ Nowhere) (l : Broken) (i : l ≡ large s) where
-      fields : broken s ≡ Nowhere
+    module _ (h : m ≡ None) (l : Option ℕ) (i : l ≡ large s) where
+      fields : broken s ≡ None
       fields = sym g ∙ h
 
-      pub form-large : (p : ℕ) → l ≡ At p → Refused (TooLarge p) ≡ form_of s
+      pub form-large : (p : ℕ) → l ≡ Some p → Err (TooLarge p) ≡ form_of s
       unfolding form_of
-      form-large p k = let z : large s ≡ At p = sym i ∙ k in rw (laid, rows, fields, z) refl
+      form-large p k = let z : large s ≡ Some p = sym i ∙ k in rw (laid, rows, fields, z) refl
 
-      pub form-whole : l ≡ Nowhere → Done ≡ form_of s
+      pub form-whole : l ≡ None → (Ok tt) ≡ form_of s
       unfolding form_of
-      form-whole k = let z : large s ≡ Nowhere = sym i ∙ k in rw (laid, rows, fields, z) refl
+      form-whole k = let z : large s ≡ None = sym i ∙ k in rw (laid, rows, fields, z) refl
 
 pub ruleset form-laws = (few-behaviours, operands-left, form-layout, form-counts, form-field, form-large, form-whole)

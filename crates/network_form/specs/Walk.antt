@@ -2,25 +2,23 @@
 -- operands' levels. 01: "Every T row written out has at most 16 nodes and 4 levels, every E row 8 levels; a row alone is one".
 use Rattle.std.specs.Prelude.{ℕ, ◌+◌, ◌-◌, ◌≤◌, ◌≡◌, List, Bool, true, false, ◌&&◌, leb, ltb, get_or}
 use Rattle.basics.specs.Choice.{pick}
-use Rattle.network.specs.declared.Broken.TheVariants.{Nowhere}
 use Rattle.network.specs.declared.ExpressionKind.{ExpressionKind}
 use Rattle.network.specs.Layout.{expression_count, expression_at}
 use Rattle.network.specs.Rows.{field_a, field_b, expression_kind_at, expression_rows}
 use Rattle.network.specs.Sizes.{rows_sum, rows_all, levels_within, nodes_to}
-use Rattle.network_form.specs.declared.Spent.{Spent}
-use Rattle.network_form.specs.declared.Spent.TheVariants.{Left, Large}
+use Rattle.std.specs.Prelude.{Option, Some, None}
 
 -- So many nodes taken from those left.
-abbrev pub spent_by : Bool → ℕ → ℕ → Spent
-spent_by within taken left = pick (within && leb taken left) (Left (left - taken)) Large
+abbrev pub spent_by : Bool → ℕ → ℕ → Option ℕ
+spent_by within taken left = pick (within && leb taken left) (Some (left - taken)) None
 
 -- What the n rows from `first` on leave, written out to d levels: too large if a row has more levels, or they all have more nodes.
-unfoldable pub spent : List ℕ → ℕ → ℕ → ℕ → ℕ → Spent
+unfoldable pub spent : List ℕ → ℕ → ℕ → ℕ → ℕ → Option ℕ
 spent s d first n left = spent_by (rows_all (levels_within s d) first n) (rows_sum (nodes_to s d) first n) left
 
-abbrev pub is_left : Spent → Bool
-is_left (Left n) = true
-is_left Large = false
+abbrev pub is_left : Option ℕ → Bool
+is_left (Some n) = true
+is_left None = false
 
 unfoldable pub larger : ℕ → ℕ → ℕ
 larger a b = pick (ltb a b) b a
@@ -55,4 +53,4 @@ row_level s levels r =
 -- A file that 3 and 4 leave: few enough expressions, whose operands are earlier rows.
 pub record Operands (s : List ℕ) : Type 0 where
   pub few : expression_count s ≤ 256
-  pub kept : expression_rows s ≡ Nowhere
+  pub kept : expression_rows s ≡ None

@@ -4,25 +4,30 @@ use Rattle.std.proofs.Common.{sym, ◌∙◌, ap, arith, lt-ltb, le-ltb, le-leb,
 use Rattle.std.proofs.lemmas.Bool.{lt-leb}
 use Rattle.std.proofs.Math.Seq.{take-length, drop-length}
 use Rattle.basics.specs.Choice.{pick}
-use Rattle.network.specs.declared.Broken.{Broken}
-use Rattle.network.specs.declared.Broken.TheVariants.{Nowhere}
 use Rattle.network.specs.Least.{least, least_over}
 use Rattle.network.specs.Rows.{in_run}
 use Rattle.network.proofs.FoldLaws.{over_none as over_nothing}
 use Rattle.network_layout.specs.LeastFacts.{over_zero, over-more, over-upto}
+use Rattle.std.specs.Prelude.{Option, None}
+
+-- m is the lowest over the numbers below `end` of any f that `post` gives from `first` on, and that has nothing below `first`.
+abbrev pub LowestBy : (ℕ → Option ℕ → Type 0) → ℕ → ℕ → Option ℕ → Type 0
+LowestBy post first end m =
+    (f : ℕ → Option ℕ) → ((i : ℕ) (x : Option ℕ) → i < end → post i x → x ≡ f i) → ((i : ℕ) → i < first → f i ≡ None)
+    → m ≡ least_over end f
 
 -- m is the lowest over the numbers below i, and i has not passed n.
-pub record Swept (f : ℕ → Broken) (n i : ℕ) (m : Broken) : Type 0 where
+pub record Swept (f : ℕ → Option ℕ) (n i : ℕ) (m : Option ℕ) : Type 0 where
   pub within : i ≤ n
   pub sofar : m ≡ least_over i f
 
-pub swept_none : (f : ℕ → Broken) (n : ℕ) → Swept f n 0 Nowhere
+pub swept_none : (f : ℕ → Option ℕ) (n : ℕ) → Swept f n 0 None
 swept_none f n = record { within = omega arith; sofar = over_zero f }
 
-pub swept-more : (f : ℕ → Broken) (n i : ℕ) (m x r : Broken) → Swept f n i m → i < n → x ≡ f i → r ≡ least m x → Swept f n (i + 1) r
+pub swept-more : (f : ℕ → Option ℕ) (n i : ℕ) (m x r : Option ℕ) → Swept f n i m → i < n → x ≡ f i → r ≡ least m x → Swept f n (i + 1) r
 swept-more f n i m x r w h q e = record { within = omega arith; sofar = over-more f i m x r w.sofar q e }
 
-pub swept-done : (f : ℕ → Broken) (n i : ℕ) (m : Broken) (k : ℕ) → Swept f n i m → n ≤ i → n ≡ k → m ≡ least_over k f
+pub swept-done : (f : ℕ → Option ℕ) (n i : ℕ) (m : Option ℕ) (k : ℕ) → Swept f n i m → n ≤ i → n ≡ k → m ≡ least_over k f
 swept-done f n i m k w h e =
     let z : i ≡ k = omega (arith, w.within) in
     w.sofar ∙ ap (λ (j : ℕ). least_over j f) z
@@ -34,8 +39,8 @@ abbrev pub clip : ℕ → ℕ → ℕ
 clip p q = pick (ltb p q) p q
 
 -- Rows outside the run are not broken.
-abbrev pub OnlyRun : (ℕ → Broken) → ℕ → ℕ → Type 0
-OnlyRun f first n = (j : ℕ) → in_run first n j ≡ false → f j ≡ Nowhere
+abbrev pub OnlyRun : (ℕ → Option ℕ) → ℕ → ℕ → Type 0
+OnlyRun f first n = (j : ℕ) → in_run first n j ≡ false → f j ≡ None
 
 before-run : (first n j : ℕ) → j < first → in_run first n j ≡ false
 before-run first n j h = simp (lt-leb first j h)
@@ -59,8 +64,8 @@ clip-rises p n q = go (ltb p q) refl (ltb (p + n) q) refl
     go false e true g = let l : q ≤ p = ltb-false p q e in let k : p + n < q = ltb-true (p + n) q g in omega arith
     go false e false g = omega arith
 
-pub run_none : (f : ℕ → Broken) (first n size from to : ℕ) → OnlyRun f first n → from ≡ clip (first + 0) size → to ≡ clip (first + n) size →
-    Swept f to from Nowhere
+pub run_none : (f : ℕ → Option ℕ) (first n size from to : ℕ) → OnlyRun f first n → from ≡ clip (first + 0) size → to ≡ clip (first + n) size →
+    Swept f to from None
 run_none f first n size from to only p q =
     let z : first + 0 ≡ first = omega arith in
     let e : from ≡ clip first size = p ∙ ap (λ (x : ℕ). clip x size) z in
@@ -78,7 +83,7 @@ past-run first n size j h l = after_run first n j (go (ltb (first + n) size) ref
     go true e k = k
     go false e k = omega arith
 
-pub run-done : (f : ℕ → Broken) (first n size to i : ℕ) (m : Broken) (k : ℕ) → OnlyRun f first n → to ≡ clip (first + n) size →
+pub run-done : (f : ℕ → Option ℕ) (first n size to i : ℕ) (m : Option ℕ) (k : ℕ) → OnlyRun f first n → to ≡ clip (first + n) size →
     Swept f to i m → to ≤ i → size ≡ k → m ≡ least_over k f
 run-done f first n size to i m k only q w h e =
     let b : clip (first + n) size ≤ size = (clip-below (first + n) size).1 in

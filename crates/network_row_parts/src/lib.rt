@@ -1,10 +1,9 @@
 // Rows by what they name: an E row's operator and operands, the sub-behaviours of a B row. Every function is exact on any bytes.
-#![tactic(auto)]
+#![tactic(auto, unfolding(crate::specs::Parts::unary_part, crate::specs::Parts::binary_part, crate::specs::Parts::expression_part, crate::specs::Parts::subs_of))]
 
 ghost use Rattle.std.specs.Prelude.{◌≡◌};
 ghost use Rattle.network_row_parts.specs.Parts.{unary_part, binary_part, part_as, expression_part, subs_in, subs_of};
 
-use network_layout::both;
 use network_rows::{BehaviourRow, ExpressionRow};
 
 #[derive(Clone, Copy)]
@@ -46,18 +45,20 @@ fn unary_part(o: UnaryOperator, a: u16, r: u16) -> Part
     ensures { result ≡ unary_part o a r }
 {
     if a < r {
-        return Part::Unary(o, a);
+        Part::Unary(o, a)
+    } else {
+        Part::Broken
     }
-    Part::Broken
 }
 
 fn binary_part(o: BinaryOperator, a: u16, b: u16, r: u16) -> Part
     ensures { result ≡ binary_part o a b r }
 {
-    if both(a < r, b < r) {
-        return Part::Binary(o, a, b);
+    if a < r && b < r {
+        Part::Binary(o, a, b)
+    } else {
+        Part::Broken
     }
-    Part::Broken
 }
 
 fn part_as(row: ExpressionRow, r: u16) -> Part
@@ -88,19 +89,11 @@ pub fn subs_in(row: BehaviourRow) -> Subs
     ensures { result ≡ subs_in row }
 {
     match row {
-        BehaviourRow::Nil => Subs::Nothing,
-        BehaviourRow::OneWay(_, _) => Subs::Nothing,
-        BehaviourRow::RequestResponse(_, _, _, d) => Subs::One(d),
-        BehaviourRow::Notification(_, _) => Subs::Nothing,
-        BehaviourRow::SolicitResponse(_, _, _) => Subs::Nothing,
-        BehaviourRow::If(_, b, c) => Subs::Two(b, c),
-        BehaviourRow::While(_, b) => Subs::One(b),
-        BehaviourRow::Sequence(a, b) => Subs::Two(a, b),
-        BehaviourRow::Parallel(a, b) => Subs::Two(a, b),
-        BehaviourRow::Assign(_, _) => Subs::Nothing,
+        BehaviourRow::RequestResponse(_, _, _, a) | BehaviourRow::While(_, a) => Subs::One(a),
+        BehaviourRow::If(_, a, b) | BehaviourRow::Sequence(a, b) | BehaviourRow::Parallel(a, b) =>
+            Subs::Two(a, b),
         BehaviourRow::Choice(first, n) => Subs::Run(first, n),
-        BehaviourRow::Branch(_, _) => Subs::Nothing,
-        BehaviourRow::Unknown => Subs::Nothing,
+        _ => Subs::Nothing,
     }
 }
 

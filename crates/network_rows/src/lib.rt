@@ -1,13 +1,12 @@
 // The rows of a network file, read by value: one field, or a whole row as a struct or an enum. Every reader is total: on any bytes
 // and any row number it gives what stands there, 0 past the end.
-#![tactic(auto)]
+#![tactic(auto, unfolding(network::specs::Rows::type_id, network::specs::Rows::cardinality, network::specs::Rows::type_basic, network::specs::Rows::first_child, network::specs::Rows::child_count, network::specs::Rows::expression_kind_at, network::specs::Rows::kind_at, network::specs::Rows::operation_service, network::specs::Rows::operation_direction, network::specs::Rows::operation_two_way, network::specs::Rows::operation_id, network::specs::Rows::operation_location, network::specs::Rows::request_type, network::specs::Rows::reply_type, network::specs::Rows::service_location, network::specs::Rows::starter_row, network::specs::Rows::client_row, network::specs::Rows::service_key, crate::specs::Readers::path_ids, crate::specs::Readers::expression_row_as, crate::specs::Readers::expression_row_of, crate::specs::Readers::behaviour_row_as, crate::specs::Readers::behaviour_row_of, crate::specs::Readers::view_in, crate::specs::Readers::input_row_of, crate::specs::Readers::output_row_of))]
 
 ghost use Rattle.std.specs.Prelude.{◌≡◌, ◌<◌};
-ghost use Rattle.network.specs.Kinds.{expression_kind, behaviour_kind};
 ghost use Rattle.network.specs.Rows.{is_branch_kind, is_choice_kind, is_input_kind, type_id, cardinality, type_basic, first_child, child_count, expression_kind_at, kind_at};
 ghost use Rattle.network.specs.Rows.{operation_service, operation_direction, operation_two_way, operation_id, operation_location, request_type, reply_type};
 ghost use Rattle.network.specs.Rows.{service_location, starter_row, client_row, service_key};
-ghost use Rattle.network_rows.specs.Readers.{path_ids, expression_row_as, expression_row_of, behaviour_row_as, behaviour_row_of};
+ghost use Rattle.network_rows.specs.Readers.{path_ids, expression_row_of, behaviour_row_of};
 ghost use Rattle.network_rows.specs.Readers.{input_row_of, output_row_of, BranchAt};
 
 use network::{BehaviourKind, ExpressionKind};
@@ -99,114 +98,34 @@ pub fn child_count(s: &[u8], r: u16) -> u16
     wire::u16_at(s, network_layout::type_at(s, r) + 6)
 }
 
-fn expression_kind(n: u8) -> ExpressionKind
-    ensures { result ≡ expression_kind n }
-{
-    match n {
-        0 => ExpressionKind::Constant,
-        1 => ExpressionKind::ValueAt,
-        2 => ExpressionKind::Presence,
-        3 => ExpressionKind::Not,
-        4 => ExpressionKind::Negate,
-        5 => ExpressionKind::Add,
-        6 => ExpressionKind::Subtract,
-        7 => ExpressionKind::Less,
-        8 => ExpressionKind::Equal,
-        9 => ExpressionKind::And,
-        _ => ExpressionKind::Unknown,
-    }
-}
-
-fn behaviour_kind(n: u8) -> BehaviourKind
-    ensures { result ≡ behaviour_kind n }
-{
-    match n {
-        0 => BehaviourKind::Nil,
-        1 => BehaviourKind::OneWay,
-        2 => BehaviourKind::RequestResponse,
-        3 => BehaviourKind::Notification,
-        4 => BehaviourKind::SolicitResponse,
-        5 => BehaviourKind::If,
-        6 => BehaviourKind::While,
-        7 => BehaviourKind::Sequence,
-        8 => BehaviourKind::Parallel,
-        9 => BehaviourKind::Assign,
-        10 => BehaviourKind::Choice,
-        11 => BehaviourKind::Branch,
-        _ => BehaviourKind::Unknown,
-    }
-}
-
 pub fn expression_kind_at(s: &[u8], r: u16) -> ExpressionKind
     ensures { result ≡ expression_kind_at s.now r }
 {
-    expression_kind(wire::byte_at(s, network_layout::expression_at(s, r)))
+    ExpressionKind::from(wire::byte_at(s, network_layout::expression_at(s, r)))
 }
 
 pub fn kind_at(s: &[u8], r: u16) -> BehaviourKind
     ensures { result ≡ kind_at s.now r }
 {
-    behaviour_kind(wire::byte_at(s, network_layout::behaviour_at(s, r)))
+    BehaviourKind::from(wire::byte_at(s, network_layout::behaviour_at(s, r)))
 }
 
 pub fn is_branch(k: BehaviourKind) -> bool
     ensures { result ≡ is_branch_kind k }
 {
-    match k {
-        BehaviourKind::Nil => false,
-        BehaviourKind::OneWay => false,
-        BehaviourKind::RequestResponse => false,
-        BehaviourKind::Notification => false,
-        BehaviourKind::SolicitResponse => false,
-        BehaviourKind::If => false,
-        BehaviourKind::While => false,
-        BehaviourKind::Sequence => false,
-        BehaviourKind::Parallel => false,
-        BehaviourKind::Assign => false,
-        BehaviourKind::Choice => false,
-        BehaviourKind::Branch => true,
-        BehaviourKind::Unknown => false,
-    }
+    k == BehaviourKind::Branch
 }
 
 pub fn is_choice(k: BehaviourKind) -> bool
     ensures { result ≡ is_choice_kind k }
 {
-    match k {
-        BehaviourKind::Nil => false,
-        BehaviourKind::OneWay => false,
-        BehaviourKind::RequestResponse => false,
-        BehaviourKind::Notification => false,
-        BehaviourKind::SolicitResponse => false,
-        BehaviourKind::If => false,
-        BehaviourKind::While => false,
-        BehaviourKind::Sequence => false,
-        BehaviourKind::Parallel => false,
-        BehaviourKind::Assign => false,
-        BehaviourKind::Choice => true,
-        BehaviourKind::Branch => false,
-        BehaviourKind::Unknown => false,
-    }
+    k == BehaviourKind::Choice
 }
 
 pub fn is_input(k: BehaviourKind) -> bool
     ensures { result ≡ is_input_kind k }
 {
-    match k {
-        BehaviourKind::Nil => false,
-        BehaviourKind::OneWay => true,
-        BehaviourKind::RequestResponse => true,
-        BehaviourKind::Notification => false,
-        BehaviourKind::SolicitResponse => false,
-        BehaviourKind::If => false,
-        BehaviourKind::While => false,
-        BehaviourKind::Sequence => false,
-        BehaviourKind::Parallel => false,
-        BehaviourKind::Assign => false,
-        BehaviourKind::Choice => false,
-        BehaviourKind::Branch => false,
-        BehaviourKind::Unknown => false,
-    }
+    matches!(k, BehaviourKind::OneWay | BehaviourKind::RequestResponse)
 }
 
 pub fn operation_service(s: &[u8], r: u16) -> u8
@@ -281,58 +200,32 @@ pub fn path_row(s: &[u8], r: u16) -> [u16; 4]
     ensures { result ≡ path_ids s.now r }
 {
     let at = network_layout::path_at(s, r);
-    let a = wire::u16_at(s, at);
-    let b = wire::u16_at(s, at + 2);
-    let c = wire::u16_at(s, at + 4);
-    let d = wire::u16_at(s, at + 6);
-    [a, b, c, d]
-}
-
-fn expression_as(kind: u8, basic: u8, a: u16, b: u16) -> ExpressionRow
-    ensures { result ≡ expression_row_as (expression_kind kind) basic a b }
-{
-    match kind {
-        0 => ExpressionRow::Constant(basic, a, b),
-        1 => ExpressionRow::ValueAt(a),
-        2 => ExpressionRow::Presence(a),
-        3 => ExpressionRow::Not(a),
-        4 => ExpressionRow::Negate(a),
-        5 => ExpressionRow::Add(a, b),
-        6 => ExpressionRow::Subtract(a, b),
-        7 => ExpressionRow::Less(a, b),
-        8 => ExpressionRow::Equal(a, b),
-        9 => ExpressionRow::And(a, b),
-        _ => ExpressionRow::Unknown,
-    }
+    [
+        wire::u16_at(s, at),
+        wire::u16_at(s, at + 2),
+        wire::u16_at(s, at + 4),
+        wire::u16_at(s, at + 6),
+    ]
 }
 
 pub fn expression_row(s: &[u8], r: u16) -> ExpressionRow
     ensures { result ≡ expression_row_of s.now r }
 {
     let at = network_layout::expression_at(s, r);
-    let basic = wire::byte_at(s, at + 1);
     let a = wire::u16_at(s, at + 2);
     let b = wire::u16_at(s, at + 4);
-    expression_as(wire::byte_at(s, at), basic, a, b)
-}
-
-fn behaviour_as(kind: u8, a: u16, b: u16, c: u16, d: u16) -> BehaviourRow
-    ensures { result ≡ behaviour_row_as (behaviour_kind kind) a b c d }
-{
-    match kind {
-        0 => BehaviourRow::Nil,
-        1 => BehaviourRow::OneWay(a, b),
-        2 => BehaviourRow::RequestResponse(a, b, c, d),
-        3 => BehaviourRow::Notification(a, b),
-        4 => BehaviourRow::SolicitResponse(a, b, c),
-        5 => BehaviourRow::If(a, b, c),
-        6 => BehaviourRow::While(a, b),
-        7 => BehaviourRow::Sequence(a, b),
-        8 => BehaviourRow::Parallel(a, b),
-        9 => BehaviourRow::Assign(a, b),
-        10 => BehaviourRow::Choice(a, b),
-        11 => BehaviourRow::Branch(a, b),
-        _ => BehaviourRow::Unknown,
+    match expression_kind_at(s, r) {
+        ExpressionKind::Constant => ExpressionRow::Constant(wire::byte_at(s, at + 1), a, b),
+        ExpressionKind::ValueAt => ExpressionRow::ValueAt(a),
+        ExpressionKind::Presence => ExpressionRow::Presence(a),
+        ExpressionKind::Not => ExpressionRow::Not(a),
+        ExpressionKind::Negate => ExpressionRow::Negate(a),
+        ExpressionKind::Add => ExpressionRow::Add(a, b),
+        ExpressionKind::Subtract => ExpressionRow::Subtract(a, b),
+        ExpressionKind::Less => ExpressionRow::Less(a, b),
+        ExpressionKind::Equal => ExpressionRow::Equal(a, b),
+        ExpressionKind::And => ExpressionRow::And(a, b),
+        ExpressionKind::Unknown => ExpressionRow::Unknown,
     }
 }
 
@@ -344,7 +237,21 @@ pub fn behaviour_row(s: &[u8], r: u16) -> BehaviourRow
     let b = wire::u16_at(s, at + 4);
     let c = wire::u16_at(s, at + 6);
     let d = wire::u16_at(s, at + 8);
-    behaviour_as(wire::byte_at(s, at), a, b, c, d)
+    match kind_at(s, r) {
+        BehaviourKind::Nil => BehaviourRow::Nil,
+        BehaviourKind::OneWay => BehaviourRow::OneWay(a, b),
+        BehaviourKind::RequestResponse => BehaviourRow::RequestResponse(a, b, c, d),
+        BehaviourKind::Notification => BehaviourRow::Notification(a, b),
+        BehaviourKind::SolicitResponse => BehaviourRow::SolicitResponse(a, b, c),
+        BehaviourKind::If => BehaviourRow::If(a, b, c),
+        BehaviourKind::While => BehaviourRow::While(a, b),
+        BehaviourKind::Sequence => BehaviourRow::Sequence(a, b),
+        BehaviourKind::Parallel => BehaviourRow::Parallel(a, b),
+        BehaviourKind::Assign => BehaviourRow::Assign(a, b),
+        BehaviourKind::Choice => BehaviourRow::Choice(a, b),
+        BehaviourKind::Branch => BehaviourRow::Branch(a, b),
+        BehaviourKind::Unknown => BehaviourRow::Unknown,
+    }
 }
 
 // B row r, if it is an input.

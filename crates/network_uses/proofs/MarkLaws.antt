@@ -3,7 +3,7 @@ use Prim.Native.Nat.{ℕ, zero, suc, ◌+◌, ◌<◌, ◌≤◌}
 use mathlib.Core.Path.{◌≡◌, refl, sym, ◌∙◌, ap}
 use mathlib.Core.List.{List, [], ◌∷◌}
 use mathlib.Core.Bool.{Bool, true, false, not, ◌&&◌, ◌||◌}
-use mathlib.Core.Logic.{⊎_elim}
+use mathlib.Core.Logic.{◌⊎◌, ⊎_elim}
 use native.Mathlib.Nat.{not-suc-le-zero, le_of_suc-le-suc, eq-or-lt_of_le}
 use native.Mathlib.Numerals.{add-one}
 use native.Mathlib.Omega.{arith}
@@ -12,8 +12,6 @@ use lib.Seq.{get_or-set_same, get_or-set_other}
 use lib.Dec.{eqb, leb, ltb}
 use borrow.Author.Tests.{eq-eqb, ne_eqb, eqb-true, eqb-false, lt-ltb, le-ltb, le-leb, ltb-true, ltb-false, leb-true}
 use Rattle.basics.specs.Choice.{pick}
-use Rattle.network.specs.declared.Broken.{Broken}
-use Rattle.network.specs.declared.Broken.TheVariants.{Nowhere}
 use Rattle.network.specs.declared.FieldSort.{FieldSort}
 use Rattle.network.specs.declared.FieldSort.TheVariants.{Unruled, Unused, PathRow, EarlierRow, ExpressionRow, OperationRow, LaterRow, InputRow, BranchRun, BranchCount, ConstantPart}
 use Rattle.network.specs.Least.{least, rule, least_over, sum_over}
@@ -28,6 +26,7 @@ use Rattle.network.proofs.FoldLaws.{used_rule, uses-by-user}
 use Rattle.network_layout.specs.Loops.{clip, clip-below, run_none, Swept, swept_none, swept-more, swept-done}
 use Rattle.network_layout.specs.LeastFacts.{rule-true, rule-either}
 use Rattle.network_uses.specs.Marks.{some_below, plus, second_of, Marked, MarkStep, use_of, run_to, field_use, sorts_use, row_use, service_use, no_use, uses_to, uses_beside, row_second, service_second, never_used, Unmarked, ByRows, Beside, ByServices, AllUsed}
+use Rattle.std.specs.Prelude.{Option, None}
 
 -- ---- tests below a number
 
@@ -77,11 +76,11 @@ some-either f g (suc n) =
     ap (λ (x : Bool). x || (f n || g n)) (some-either f g n) ∙ or-cross (some_below n f) (some_below n g) (f n) (g n)
 
 -- A rule at one place for each of the numbers is one rule.
-some-rule : (f : ℕ → Bool) (n p : ℕ) → rule (not (some_below n f)) p Nowhere ≡ least_over n (λ t. rule (not (f t)) p Nowhere)
+some-rule : (f : ℕ → Bool) (n p : ℕ) → rule (not (some_below n f)) p None ≡ least_over n (λ t. rule (not (f t)) p None)
 unfolding some_below least_over
 some-rule f zero p = rule-true true p refl
 some-rule f (suc n) p =
-    rule-either (some_below n f) (f n) p ∙ ap (λ (x : Broken). least x (rule (not (f n)) p Nowhere)) (some-rule f n p)
+    rule-either (some_below n f) (f n) p ∙ ap (λ (x : Option ℕ). least x (rule (not (f n)) p None)) (some-rule f n p)
 
 -- ---- second uses
 
@@ -208,7 +207,7 @@ pub run-begin : (first w n from end : ℕ) (l : List ℕ) → from ≡ clip (fir
 unfolding run_to
 run-begin first w n from end l p q = record {
   low = omega arith;
-  within = (run_none (λ j. Nowhere) first w n from end (λ j e. refl) p q).within;
+  within = (run_none (λ j. None) first w n from end (λ j e. refl) p q).within;
   step = step-nothing n (run_to first from) l (λ t k. ap one (outside first t from (omega (arith, (clip-below (first + 0) n).0))));
 }
 
@@ -272,59 +271,40 @@ unused : (n v w : ℕ) (q : FieldSort) (l : List ℕ) → ((t : ℕ) → field_u
 unfolding field_use
 unused n v w q l h = step-nothing n (field_use q v w) l (λ t k. ap one (h t))
 
-pub field-Unruled : (n v w : ℕ) (q : FieldSort) (l : List ℕ) → q ≡ Unruled → MarkStep n (field_use q v w) l l false
+-- Only three sorts of fields use a row.
+no-use : (q : FieldSort) (v w t : ℕ) → (q ≡ LaterRow → ⊥) → (q ≡ InputRow → ⊥) → (q ≡ BranchRun → ⊥) → field_uses q v w t ≡ false
 unfolding field_uses
-field-Unruled n v w q l e = rw e (unused n v w Unruled l (λ t. refl))
+no-use Unruled v w t a b c = refl
+no-use Unused v w t a b c = refl
+no-use PathRow v w t a b c = refl
+no-use EarlierRow v w t a b c = refl
+no-use ExpressionRow v w t a b c = refl
+no-use OperationRow v w t a b c = refl
+no-use LaterRow v w t a b c = absurd (a refl)
+no-use InputRow v w t a b c = absurd (b refl)
+no-use BranchRun v w t a b c = absurd (c refl)
+no-use BranchCount v w t a b c = refl
+no-use ConstantPart v w t a b c = refl
 
-pub field-Unused : (n v w : ℕ) (q : FieldSort) (l : List ℕ) → q ≡ Unused → MarkStep n (field_use q v w) l l false
-unfolding field_uses
-field-Unused n v w q l e = rw e (unused n v w Unused l (λ t. refl))
+pub field-rest : (n v w : ℕ) (q : FieldSort) (l : List ℕ) → (q ≡ LaterRow → ⊥) → (q ≡ InputRow → ⊥) → (q ≡ BranchRun → ⊥) → MarkStep n (field_use q v w) l l false
+field-rest n v w q l a b c = unused n v w q l (λ t. no-use q v w t a b c)
 
-pub field-PathRow : (n v w : ℕ) (q : FieldSort) (l : List ℕ) → q ≡ PathRow → MarkStep n (field_use q v w) l l false
-unfolding field_uses
-field-PathRow n v w q l e = rw e (unused n v w PathRow l (λ t. refl))
-
-pub field-EarlierRow : (n v w : ℕ) (q : FieldSort) (l : List ℕ) → q ≡ EarlierRow → MarkStep n (field_use q v w) l l false
-unfolding field_uses
-field-EarlierRow n v w q l e = rw e (unused n v w EarlierRow l (λ t. refl))
-
-pub field-ExpressionRow : (n v w : ℕ) (q : FieldSort) (l : List ℕ) → q ≡ ExpressionRow → MarkStep n (field_use q v w) l l false
-unfolding field_uses
-field-ExpressionRow n v w q l e = rw e (unused n v w ExpressionRow l (λ t. refl))
-
-pub field-OperationRow : (n v w : ℕ) (q : FieldSort) (l : List ℕ) → q ≡ OperationRow → MarkStep n (field_use q v w) l l false
-unfolding field_uses
-field-OperationRow n v w q l e = rw e (unused n v w OperationRow l (λ t. refl))
-
-pub field-BranchCount : (n v w : ℕ) (q : FieldSort) (l : List ℕ) → q ≡ BranchCount → MarkStep n (field_use q v w) l l false
-unfolding field_uses
-field-BranchCount n v w q l e = rw e (unused n v w BranchCount l (λ t. refl))
-
-pub field-ConstantPart : (n v w : ℕ) (q : FieldSort) (l : List ℕ) → q ≡ ConstantPart → MarkStep n (field_use q v w) l l false
-unfolding field_uses
-field-ConstantPart n v w q l e = rw e (unused n v w ConstantPart l (λ t. refl))
-
-pub field-LaterRow : (n v w : ℕ) (q : FieldSort) (l m : List ℕ) (x : Bool) → q ≡ LaterRow → MarkStep n (use_of v) l m x → MarkStep n (field_use q v w) l m x
+pub field-row : (n v w : ℕ) (q : FieldSort) (l m : List ℕ) (x : Bool) → (q ≡ LaterRow) ⊎ (q ≡ InputRow) → MarkStep n (use_of v) l m x → MarkStep n (field_use q v w) l m x
 unfolding field_use field_uses use_of
-field-LaterRow n v w q l m x e h = rw e (step-alike (λ t k. refl) h)
-
-pub field-InputRow : (n v w : ℕ) (q : FieldSort) (l m : List ℕ) (x : Bool) → q ≡ InputRow → MarkStep n (use_of v) l m x → MarkStep n (field_use q v w) l m x
-unfolding field_use field_uses use_of
-field-InputRow n v w q l m x e h = rw e (step-alike (λ t k. refl) h)
+field-row n v w q l m x e h = ⊎_elim (λ a. rw a (step-alike (λ t k. refl) h)) (λ a. rw a (step-alike (λ t k. refl) h)) e
 
 pub field-BranchRun : (n v w : ℕ) (q : FieldSort) (l m : List ℕ) (x : Bool) → q ≡ BranchRun → MarkStep n (field_use BranchRun v w) l m x → MarkStep n (field_use q v w) l m x
 field-BranchRun n v w q l m x e h = rw e h
 
-pub ruleset field_laws = (field-Unruled, field-Unused, field-PathRow, field-EarlierRow, field-ExpressionRow, field-OperationRow, field-BranchCount, field-ConstantPart, field-LaterRow, field-InputRow, field-BranchRun)
+pub ruleset field_laws = (field-rest, field-row, field-BranchRun)
 
 -- ---- a row: four fields
 
-pub sorts-step : (n : ℕ) (qa qb qc qd : FieldSort) (a b c d : ℕ) (l₀ l₁ l₂ l₃ l₄ : List ℕ) (x y z w p q r : Bool) → MarkStep n (field_use qa a b) l₀ l₁ x → MarkStep n (field_use qb b c) l₁ l₂ y →
-    MarkStep n (field_use qc c 0) l₂ l₃ z → MarkStep n (field_use qd d 0) l₃ l₄ w → p ≡ (z || w) → q ≡ (y || p) → r ≡ (x || q) → MarkStep n (sorts_use qa qb qc qd a b c d) l₀ l₄ r
+pub sorts-step : (n : ℕ) (qa qb qc qd : FieldSort) (a b c d : ℕ) (l₀ l₁ l₂ l₃ l₄ : List ℕ) (x y z w : Bool) → MarkStep n (field_use qa a b) l₀ l₁ x → MarkStep n (field_use qb b c) l₁ l₂ y →
+    MarkStep n (field_use qc c 0) l₂ l₃ z → MarkStep n (field_use qd d 0) l₃ l₄ w → MarkStep n (sorts_use qa qb qc qd a b c d) l₀ l₄ (x || y || z || w)
 unfolding sorts_use plus field_use
-sorts-step n qa qb qc qd a b c d l₀ l₁ l₂ l₃ l₄ x y z w p q r f g h k i j m =
-    let e : r ≡ (x || (y || (z || w))) = cc in
-    rw e (step-alike (λ t o. refl) (step-join f (step-join g (step-join h k))))
+sorts-step n qa qb qc qd a b c d l₀ l₁ l₂ l₃ l₄ x y z w f g h k =
+    step-alike (λ t o. omega arith) (step-join (step-join (step-join f g) h) k)
 
 pub ruleset sorts-laws = (sorts-step)
 
@@ -378,33 +358,33 @@ sum_more : (f : ℕ → ℕ) (i : ℕ) → sum_over (i + 1) f ≡ sum_over i f +
 unfolding sum_over
 sum_more f i = rw add-one
 
-pub record Using (s : List ℕ) (n i : ℕ) (m : Broken) (l : List ℕ) : Type 0 where
+pub record Using (s : List ℕ) (n i : ℕ) (m : Option ℕ) (l : List ℕ) : Type 0 where
   pub swept : Swept (row_second s) n i m
   pub after : Marked n (uses_to s i) l
 
-pub rows-begin : (s : List ℕ) (n : ℕ) (l : List ℕ) → Unmarked s n l → Using s n 0 Nowhere l
+pub rows-begin : (s : List ℕ) (n : ℕ) (l : List ℕ) → Unmarked s n l → Using s n 0 None l
 unfolding uses_to no_use used_by_rows sum_over
 rows-begin s n l h = record { swept = swept_none (row_second s) n; after = marked-alike (λ t k. refl) h.none }
 
 -- A second use by one row, as a rule at its first byte.
-row-second : (s : List ℕ) (n i at : ℕ) (x : Broken) (l o : List ℕ) (again : Bool) → n ≡ behaviour_count s → Marked n (uses_to s i) l → MarkStep n (row_use s i) l o again →
-    at ≡ behaviour_at s i → x ≡ rule (not again) at Nowhere → x ≡ row_second s i
+row-second : (s : List ℕ) (n i at : ℕ) (x : Option ℕ) (l o : List ℕ) (again : Bool) → n ≡ behaviour_count s → Marked n (uses_to s i) l → MarkStep n (row_use s i) l o again →
+    at ≡ behaviour_at s i → x ≡ rule (not again) at None → x ≡ row_second s i
 unfolding row_second row_use_rule uses_to used_by_rows row_use second_of
 row-second s n i at x l o again c v w e p =
     let z : again ≡ some_below (behaviour_count s) (second_of (uses_to s i) (row_use s i)) =
     w.seen (uses_to s i) v ∙ ap (λ (k : ℕ). some_below k (second_of (uses_to s i) (row_use s i))) c in
-    p ∙ ap (λ (b : Bool). rule (not b) at Nowhere) z ∙ ap (λ (k : ℕ). rule (not (some_below (behaviour_count s) (second_of (uses_to s i) (row_use s i)))) k Nowhere) e
+    p ∙ ap (λ (b : Bool). rule (not b) at None) z ∙ ap (λ (k : ℕ). rule (not (some_below (behaviour_count s) (second_of (uses_to s i) (row_use s i)))) k None) e
     ∙ some-rule (second_of (uses_to s i) (row_use s i)) (behaviour_count s) (behaviour_at s i)
 
-pub rows_more : (s : List ℕ) (n i at : ℕ) (m x r : Broken) (l₀ l o : List ℕ) (again : Bool) → Unmarked s n l₀ → Using s n i m l → i < n → MarkStep n (row_use s i) l o again →
-    at ≡ behaviour_at s i → x ≡ rule (not again) at Nowhere → r ≡ least m x → Using s n (i + 1) r o
+pub rows_more : (s : List ℕ) (n i at : ℕ) (m x r : Option ℕ) (l₀ l o : List ℕ) (again : Bool) → Unmarked s n l₀ → Using s n i m l → i < n → MarkStep n (row_use s i) l o again →
+    at ≡ behaviour_at s i → x ≡ rule (not again) at None → r ≡ least m x → Using s n (i + 1) r o
 unfolding uses_to used_by_rows row_use plus
 rows_more s n i at m x r l₀ l o again f v h w e p q = record {
   swept = swept-more (row_second s) n i m x r v.swept h (row-second s n i at x l o again f.all v.after w e p) q;
   after = marked-alike (λ t k. sym (sum_more (row_uses s t) i)) (w.adds (uses_to s i) v.after);
 }
 
-pub rows-done : (s : List ℕ) (n i : ℕ) (m : Broken) (l : List ℕ) → Using s n i m l → n ≤ i → ByRows s n m l
+pub rows-done : (s : List ℕ) (n i : ℕ) (m : Option ℕ) (l : List ℕ) → Using s n i m l → n ≤ i → ByRows s n m l
 rows-done s n i m l v h =
     let z : i ≡ n = omega (arith, v.swept.within) in
     record {
@@ -416,35 +396,35 @@ pub ruleset rows-laws = (rows-begin, rows_more, rows-done)
 
 -- ---- the pass over all services
 
-pub record Serving (s : List ℕ) (n all i : ℕ) (m : Broken) (l : List ℕ) : Type 0 where
+pub record Serving (s : List ℕ) (n all i : ℕ) (m : Option ℕ) (l : List ℕ) : Type 0 where
   pub swept : Swept (service_second s) all i m
   pub after : Marked n (uses_beside s i) l
 
-pub services-begin : (s : List ℕ) (n all : ℕ) (l : List ℕ) → Beside s n l → Serving s n all 0 Nowhere l
+pub services-begin : (s : List ℕ) (n all : ℕ) (l : List ℕ) → Beside s n l → Serving s n all 0 None l
 unfolding uses_to uses_beside used sum_over
 services-begin s n all l h = record {
   swept = swept_none (service_second s) all;
   after = marked-alike (λ t k. let e : used_by_rows s t n ≡ used_by_rows s t (behaviour_count s) = ap (used_by_rows s t) h.all in omega arith) h.by_rows;
 }
 
-service-second : (s : List ℕ) (n i at : ℕ) (x : Broken) (l o : List ℕ) (again : Bool) → n ≡ behaviour_count s → Marked n (uses_beside s i) l → MarkStep n (service_use s i) l o again →
-    at ≡ service_at s i → x ≡ rule (not again) at Nowhere → x ≡ service_second s i
+service-second : (s : List ℕ) (n i at : ℕ) (x : Option ℕ) (l o : List ℕ) (again : Bool) → n ≡ behaviour_count s → Marked n (uses_beside s i) l → MarkStep n (service_use s i) l o again →
+    at ≡ service_at s i → x ≡ rule (not again) at None → x ≡ service_second s i
 unfolding service_second service_use_rule uses_beside service_use second_of
 service-second s n i at x l o again c v w e p =
     let z : again ≡ some_below (behaviour_count s) (second_of (uses_beside s i) (service_use s i)) =
     w.seen (uses_beside s i) v ∙ ap (λ (k : ℕ). some_below k (second_of (uses_beside s i) (service_use s i))) c in
-    p ∙ ap (λ (b : Bool). rule (not b) at Nowhere) z ∙ ap (λ (k : ℕ). rule (not (some_below (behaviour_count s) (second_of (uses_beside s i) (service_use s i)))) k Nowhere) e
+    p ∙ ap (λ (b : Bool). rule (not b) at None) z ∙ ap (λ (k : ℕ). rule (not (some_below (behaviour_count s) (second_of (uses_beside s i) (service_use s i)))) k None) e
     ∙ some-rule (second_of (uses_beside s i) (service_use s i)) (behaviour_count s) (service_at s i)
 
-pub services-more : (s : List ℕ) (n all i at : ℕ) (m x r : Broken) (l₀ l o : List ℕ) (again : Bool) → Beside s n l₀ → Serving s n all i m l → i < all →
-    MarkStep n (service_use s i) l o again → at ≡ service_at s i → x ≡ rule (not again) at Nowhere → r ≡ least m x → Serving s n all (i + 1) r o
+pub services-more : (s : List ℕ) (n all i at : ℕ) (m x r : Option ℕ) (l₀ l o : List ℕ) (again : Bool) → Beside s n l₀ → Serving s n all i m l → i < all →
+    MarkStep n (service_use s i) l o again → at ≡ service_at s i → x ≡ rule (not again) at None → r ≡ least m x → Serving s n all (i + 1) r o
 unfolding uses_beside used service_use plus
 services-more s n all i at m x r l₀ l o again f v h w e p q = record {
   swept = swept-more (service_second s) all i m x r v.swept h (service-second s n i at x l o again f.all v.after w e p) q;
   after = marked-alike (λ t k. let z : sum_over (i + 1) (service_uses s t) ≡ sum_over i (service_uses s t) + service_uses s t i = sum_more (service_uses s t) i in omega arith) (w.adds (uses_beside s i) v.after);
 }
 
-pub services-done : (s : List ℕ) (n all i : ℕ) (m : Broken) (l : List ℕ) → all ≡ service_count s → Serving s n all i m l → all ≤ i → ByServices s n m l
+pub services-done : (s : List ℕ) (n all i : ℕ) (m : Option ℕ) (l : List ℕ) → all ≡ service_count s → Serving s n all i m l → all ≤ i → ByServices s n m l
 services-done s n all i m l e v h =
     let z : i ≡ service_count s = omega (arith, v.swept.within) in
     record {
@@ -456,22 +436,16 @@ pub ruleset services-laws = (services-begin, services-more, services-done)
 
 -- ---- rows without a mark
 
-is_never : (s : List ℕ) (n i a at : ℕ) (x : Broken) (l : List ℕ) → AllUsed s n l → i < n → a ≡ i → at ≡ behaviour_at s i →
-    x ≡ rule (not (eqb (get_or l a 0) 0)) at Nowhere → x ≡ never_used s i
+pub is_never : (s : List ℕ) (n i a at : ℕ) (x : Option ℕ) (l : List ℕ) → AllUsed s n l → i < n → a ≡ i → at ≡ behaviour_at s i →
+    x ≡ rule (not (eqb (get_or l a 0) 0)) at None → x ≡ never_used s i
 unfolding never_used uses_beside
 is_never s n i a at x l f h d e p =
     let z : eqb (get_or l i 0) 0 ≡ eqb (used s i (service_count s)) 0 = f.after.marked i h in
     p ∙ rw (d, e, z) refl
 
-pub never-more : (s : List ℕ) (n i a at : ℕ) (m x r : Broken) (l : List ℕ) → AllUsed s n l → Swept (never_used s) n i m → i < n → a ≡ i → at ≡ behaviour_at s i →
-    x ≡ rule (not (eqb (get_or l a 0) 0)) at Nowhere → r ≡ least m x → Swept (never_used s) n (i + 1) r
-never-more s n i a at m x r l f v h d e p q = swept-more (never_used s) n i m x r v h (is_never s n i a at x l f h d e p) q
-
-pub ruleset never-laws = (swept_none, never-more, swept-done)
-
 -- ---- the whole pass
 
-pub uses-are : (s : List ℕ) (n : ℕ) (x y z p m : Broken) (l o : List ℕ) → n ≡ behaviour_count s → ByRows s n x l → ByServices s n y o → z ≡ least_over n (never_used s) →
+pub uses-are : (s : List ℕ) (n : ℕ) (x y z p m : Option ℕ) (l o : List ℕ) → n ≡ behaviour_count s → ByRows s n x l → ByServices s n y o → z ≡ least_over n (never_used s) →
     p ≡ least x y → m ≡ least z p → m ≡ uses_rows s
 unfolding never_used row_second service_second
 uses-are s n x y z p m l o c v w q e f =
@@ -480,8 +454,8 @@ uses-are s n x y z p m l o c v w q e f =
     let i : x ≡ least_over B (λ r. least_over B (λ t. row_use_rule s t r)) = v.lowest ∙ ap (λ (k : ℕ). least_over k (row_second s)) c in
     let j : y ≡ least_over S (λ r. least_over B (λ t. service_use_rule s t r)) = w.lowest in
     let k : z ≡ least_over B (used_rule s) = q ∙ ap (λ (k : ℕ). least_over k (never_used s)) c in
-    f ∙ ap (least z) e ∙ ap (λ (u : Broken). least u (least x y)) k
-    ∙ ap (least (least_over B (used_rule s))) (ap (λ (u : Broken). least u y) i ∙ ap (least (least_over B (λ r. least_over B (λ t. row_use_rule s t r)))) j)
+    f ∙ ap (least z) e ∙ ap (λ (u : Option ℕ). least u (least x y)) k
+    ∙ ap (least (least_over B (used_rule s))) (ap (λ (u : Option ℕ). least u y) i ∙ ap (least (least_over B (λ r. least_over B (λ t. row_use_rule s t r)))) j)
     ∙ sym (uses-by-user s)
 
 pub ruleset uses-laws = (fresh-marks, uses-are)

@@ -1,12 +1,11 @@
 -- Marks on the B rows that are used, and what going over some uses of rows does to them. A mark that is not 0 says that the row is
 -- used. The uses of one row, run, field, B row or service are given as a function: how often is row t used?
 use Rattle.std.specs.Prelude.{ℕ, zero, suc, ◌+◌, ◌<◌, ◌≤◌, ◌≡◌, List, Bool, false, not, ◌&&◌, ◌||◌, get_or, length, eqb, leb, ltb}
-use Rattle.network.specs.declared.Broken.{Broken}
-use Rattle.network.specs.declared.Broken.TheVariants.{Nowhere}
 use Rattle.network.specs.declared.FieldSort.{FieldSort}
 use Rattle.network.specs.Least.{rule, least_over}
 use Rattle.network.specs.Layout.{behaviour_count, service_count, behaviour_at}
 use Rattle.network.specs.Uses.{one, field_uses, row_uses, service_uses, used_by_rows, used, second_use, row_use_rule, service_use_rule}
+use Rattle.std.specs.Prelude.{Option, None}
 
 -- A test holds of one of the numbers below n.
 unfoldable pub some_below : ℕ → (ℕ → Bool) → Bool
@@ -64,14 +63,14 @@ unfoldable pub uses_beside : List ℕ → ℕ → ℕ → ℕ
 uses_beside s i t = used s t i
 
 -- The second uses by B row r, by S row q, and the lack of a use of row t.
-unfoldable pub row_second : List ℕ → ℕ → Broken
+unfoldable pub row_second : List ℕ → ℕ → Option ℕ
 row_second s r = least_over (behaviour_count s) (λ t. row_use_rule s t r)
 
-unfoldable pub service_second : List ℕ → ℕ → Broken
+unfoldable pub service_second : List ℕ → ℕ → Option ℕ
 service_second s q = least_over (behaviour_count s) (λ t. service_use_rule s t q)
 
-unfoldable pub never_used : List ℕ → ℕ → Broken
-never_used s t = rule (not (eqb (used s t (service_count s)) 0)) (behaviour_at s t) Nowhere
+unfoldable pub never_used : List ℕ → ℕ → Option ℕ
+never_used s t = rule (not (eqb (used s t (service_count s)) 0)) (behaviour_at s t) None
 
 -- The pass: before it, after the B rows and their lowest second use m, before and after the services, and at its end.
 pub record Unmarked (s : List ℕ) (n : ℕ) (marks : List ℕ) : Type 0 where
@@ -79,7 +78,7 @@ pub record Unmarked (s : List ℕ) (n : ℕ) (marks : List ℕ) : Type 0 where
   pub all : n ≡ behaviour_count s
   pub none : Marked n no_use marks
 
-pub record ByRows (s : List ℕ) (n : ℕ) (m : Broken) (marks : List ℕ) : Type 0 where
+pub record ByRows (s : List ℕ) (n : ℕ) (m : Option ℕ) (marks : List ℕ) : Type 0 where
   pub lowest : m ≡ least_over n (row_second s)
   pub after : Marked n (uses_to s n) marks
 
@@ -88,7 +87,7 @@ pub record Beside (s : List ℕ) (n : ℕ) (marks : List ℕ) : Type 0 where
   pub all : n ≡ behaviour_count s
   pub by_rows : Marked n (uses_to s n) marks
 
-pub record ByServices (s : List ℕ) (n : ℕ) (m : Broken) (marks : List ℕ) : Type 0 where
+pub record ByServices (s : List ℕ) (n : ℕ) (m : Option ℕ) (marks : List ℕ) : Type 0 where
   pub lowest : m ≡ least_over (service_count s) (service_second s)
   pub after : Marked n (uses_beside s (service_count s)) marks
 

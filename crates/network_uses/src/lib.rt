@@ -1,16 +1,16 @@
 // Refusal 4, the last of its rules: "Each row is used exactly once, by a row or a service". One pass over the B and S rows in file
 // order with a mark for each B row that is used; then refusal 4 as a whole.
-#![tactic(auto)]
+#![tactic(auto, unfolding(network::specs::Uses::broken))]
 
 ghost use Rattle.std.specs.Prelude.{◌≡◌, ◌≤◌};
 ghost use Rattle.network.specs.Least.{least_over};
 ghost use Rattle.network.specs.Layout.{behaviour_count};
 ghost use Rattle.network.specs.declared.FieldSort.TheVariants.{BranchRun};
 ghost use Rattle.network.specs.Uses.{uses_rows, broken};
-ghost use Rattle.network_uses.specs.Marks.{MarkStep, use_of, field_use, sorts_use, row_use, service_use, never_used, Unmarked, ByRows, Beside, ByServices, AllUsed};
+ghost use Rattle.network_uses.specs.Marks.{MarkStep, use_of, field_use, row_use, service_use, never_used, Unmarked, ByRows, Beside, ByServices, AllUsed};
 
-use network::{Broken, FieldSort};
-use network_layout::{either, least, rule};
+use network::FieldSort;
+use network_layout::{least, lowest, rule};
 
 // Marks row v, if it is one of the n rows: was it marked?
 fn use_row(marks: &mut [u8; 256], n: u16, v: u16) -> bool
@@ -20,7 +20,7 @@ fn use_row(marks: &mut [u8; 256], n: u16, v: u16) -> bool
     if n <= v {
         return false;
     }
-    let i = wire::index(v);
+    let i = usize::from(v);
     let again = marks[i] != 0;
     marks[i] = 1;
     again
@@ -31,12 +31,10 @@ fn use_run(marks: &mut [u8; 256], n: u16, first: u16, w: u16) -> bool
     requires { n ≤ 256 }
     ensures { MarkStep n (field_use BranchRun first w) marks.old marks.new result }
 {
-    let end = network_layout::clipped(first, w, n);
+    let from = network_layout::clipped(first, 0, n);
     let mut again = false;
-    let mut i = network_layout::clipped(first, 0, n);
-    while i < end {
-        again = either(again, use_row(marks, n, i));
-        i += 1;
+    for i in from..network_layout::clipped(first, w, n) {
+        again |= use_row(marks, n, i);
     }
     again
 }
@@ -46,40 +44,10 @@ fn use_field(marks: &mut [u8; 256], n: u16, q: FieldSort, v: u16, w: u16) -> boo
     ensures { MarkStep n (field_use q v w) marks.old marks.new result }
 {
     match q {
-        FieldSort::Unruled => false,
-        FieldSort::Unused => false,
-        FieldSort::PathRow => false,
-        FieldSort::EarlierRow => false,
-        FieldSort::ExpressionRow => false,
-        FieldSort::OperationRow => false,
-        FieldSort::LaterRow => use_row(marks, n, v),
-        FieldSort::InputRow => use_row(marks, n, v),
+        FieldSort::LaterRow | FieldSort::InputRow => use_row(marks, n, v),
         FieldSort::BranchRun => use_run(marks, n, v, w),
-        FieldSort::BranchCount => false,
-        FieldSort::ConstantPart => false,
+        _ => false,
     }
-}
-
-fn use_sorts(
-    marks: &mut [u8; 256],
-    n: u16,
-    qa: FieldSort,
-    qb: FieldSort,
-    qc: FieldSort,
-    qd: FieldSort,
-    a: u16,
-    b: u16,
-    c: u16,
-    d: u16,
-) -> bool
-    requires { n ≤ 256 }
-    ensures { MarkStep n (sorts_use qa qb qc qd a b c d) marks.old marks.new result }
-{
-    let x = use_field(marks, n, qa, a, b);
-    let y = use_field(marks, n, qb, b, c);
-    let z = use_field(marks, n, qc, c, 0);
-    let w = use_field(marks, n, qd, d, 0);
-    either(x, either(y, either(z, w)))
 }
 
 // The uses of B row r.
@@ -93,11 +61,11 @@ fn use_fields(s: &[u8], marks: &mut [u8; 256], n: u16, r: u16) -> bool
     let b = wire::u16_at(s, at + 4);
     let c = wire::u16_at(s, at + 6);
     let d = wire::u16_at(s, at + 8);
-    let qa = q.a;
-    let qb = q.b;
-    let qc = q.c;
-    let qd = q.d;
-    use_sorts(marks, n, qa, qb, qc, qd, a, b, c, d)
+    let x = use_field(marks, n, q.a, a, b);
+    let y = use_field(marks, n, q.b, b, c);
+    let z = use_field(marks, n, q.c, c, 0);
+    let w = use_field(marks, n, q.d, d, 0);
+    x | y | z | w
 }
 
 // The uses of S row r.
@@ -105,68 +73,50 @@ fn use_service(s: &[u8], marks: &mut [u8; 256], n: u16, r: u16) -> bool
     requires { n ≤ 256 }
     ensures { MarkStep n (service_use s.now r) marks.old marks.new result }
 {
-    let a = network_rows::starter_row(s, r);
-    let b = network_rows::client_row(s, r);
-    let x = use_row(marks, n, a);
-    let y = use_row(marks, n, b);
-    either(x, y)
+    let x = use_row(marks, n, network_rows::starter_row(s, r));
+    let y = use_row(marks, n, network_rows::client_row(s, r));
+    x | y
 }
 
 // Second uses by B rows; afterwards the rows that B rows use are marked.
-fn rows_use(s: &[u8], marks: &mut [u8; 256], n: u16) -> Broken
+fn rows_use(s: &[u8], marks: &mut [u8; 256], n: u16) -> Option<usize>
     requires { Unmarked s.now n marks.old }
     ensures { ByRows s.now n result marks.new }
 {
-    let mut m = Broken::Nowhere;
-    let mut i: u16 = 0;
-    while i < n {
+    let mut m = None;
+    for i in 0..n {
         let again = use_fields(s, marks, n, i);
-        let x = rule(!again, network_layout::behaviour_at(s, i), Broken::Nowhere);
-        m = least(m, x);
-        i += 1;
+        m = least(m, rule(!again, network_layout::behaviour_at(s, i), None));
     }
     m
 }
 
 // Second uses by services, after the B rows.
-fn services_use(s: &[u8], marks: &mut [u8; 256], n: u16) -> Broken
+fn services_use(s: &[u8], marks: &mut [u8; 256], n: u16) -> Option<usize>
     requires { Beside s.now n marks.old }
     ensures { ByServices s.now n result marks.new }
 {
-    let all = network_layout::service_count(s);
-    let mut m = Broken::Nowhere;
-    let mut i: u16 = 0;
-    while i < all {
+    let mut m = None;
+    for i in 0..network_layout::service_count(s) {
         let again = use_service(s, marks, n, i);
-        let x = rule(!again, network_layout::service_at(s, i), Broken::Nowhere);
-        m = least(m, x);
-        i += 1;
+        m = least(m, rule(!again, network_layout::service_at(s, i), None));
     }
     m
 }
 
 // Rows without a mark.
-fn never_used(s: &[u8], marks: &[u8; 256], n: u16) -> Broken
+fn never_used(s: &[u8], marks: &[u8; 256], n: u16) -> Option<usize>
     requires { AllUsed s.now n marks.now }
     ensures { result ≡ least_over n (never_used s.now) }
 {
-    let mut m = Broken::Nowhere;
-    let mut i: u16 = 0;
-    while i < n {
-        let at = wire::index(i);
-        let x = rule(
-            marks[at] != 0,
-            network_layout::behaviour_at(s, i),
-            Broken::Nowhere,
-        );
-        m = least(m, x);
-        i += 1;
-    }
-    m
+    lowest(0, n, |i| {
+        let used = marks[usize::from(i)] != 0;
+        rule(used, network_layout::behaviour_at(s, i), None)
+    })
 }
 
 // "Each row is used exactly once, by a row or a service."
-fn uses_rows(s: &[u8]) -> Broken
+fn uses_rows(s: &[u8]) -> Option<usize>
     requires { behaviour_count s.now ≤ 256 }
     ensures { result ≡ uses_rows s.now }
 {
@@ -179,7 +129,7 @@ fn uses_rows(s: &[u8]) -> Broken
 }
 
 // Refusal 4: the lowest place of a broken rule in the file.
-pub fn lowest_broken(s: &[u8]) -> Broken
+pub fn lowest_broken(s: &[u8]) -> Option<usize>
     requires { behaviour_count s.now ≤ 256 }
     ensures { result ≡ broken s.now }
 {

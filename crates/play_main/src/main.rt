@@ -43,8 +43,7 @@ fn with_file<F: Read, R: Read, W: Write, E: Write>(
     if let Some(error) = file.failed {
         return Ok(console::fail(errors, path, error));
     }
-    let n = file.len;
-    run(reader, out, errors, &buf[..n])
+    run(reader, out, errors, &buf[..file.len])
 }
 
 // Plays over the network of this name.
@@ -56,10 +55,7 @@ fn with_path<F: Files, R: Read, W: Write, E: Write>(
     path: &[u8],
 ) -> io::Result<Status> {
     match console::open(files, path) {
-        Ok(file) => {
-            let mut network = file;
-            with_file(&mut network, reader, out, errors, path)
-        }
+        Ok(mut network) => { with_file(&mut network, reader, out, errors, path) }
         Err(error) => Ok(console::fail(errors, path, error)),
     }
 }

@@ -2,18 +2,11 @@
 ghost use Rattle.std.specs.Prelude.{◌≡◌, length};
 
 use crate::printing::{print_outcome, print_state};
-use crate::script::{move_of, read_line};
+use crate::script::{Asked, read_line};
 use console::{Status, What, write};
-use lines::{Fault, Judged};
+use lines::Fault;
 use std::io;
 use std::io::{Read, Write};
-
-// After a line: the run goes on, or is over with a status.
-#[derive(Clone, Copy)]
-enum Step {
-    On,
-    Over(Status),
-}
 
 // Makes the move of a line, or prints the state, and prints the line before what comes of it.
 fn play_line<W: Write>(
@@ -22,28 +15,27 @@ fn play_line<W: Write>(
     state: &mut [u8],
     sent: &mut [u8],
     line: &[u8],
-) -> io::Result<Judged>
+) -> io::Result<Result<(), Fault>>
     requires { length state.old ≡ 65536 }
     ensures { length state.new ≡ 65536 }
 {
     let mut outside = [0u8; 1024];
-    let read = read_line(line, &mut outside);
-    let judged = read.judged;
-    if let Judged::Wrong(_) = judged {
-        return Ok(judged);
-    }
+    let read = match read_line(line, &mut outside) {
+        Ok(read) => read,
+        Err(why) => return Ok(Err(why)),
+    };
     write(out, line)?;
-    let kind = read.kind;
-    if kind == 7 {
-        write(out, b"\n")?;
-        print_state(out, file, state)?;
-        return Ok(judged);
+    match read.asked {
+        Asked::Move(m) => {
+            let o = controller::step(file, state, sent, m, &outside[0..read.len]);
+            print_outcome(out, o, sent)?;
+        }
+        Asked::State => {
+            write(out, b"\n")?;
+            print_state(out, file, state)?;
+        }
     }
-    let n = read.len;
-    let values = read.values;
-    let o = controller::step(file, state, sent, move_of(kind, values), &outside[0..n]);
-    print_outcome(out, o, sent)?;
-    Ok(judged)
+    Ok(Ok(()))
 }
 
 // Plays a line unless it is blank or a comment.
@@ -53,27 +45,24 @@ fn play<W: Write>(
     state: &mut [u8],
     sent: &mut [u8],
     line: &[u8],
-) -> io::Result<Judged>
+) -> io::Result<Result<(), Fault>>
     requires { length state.old ≡ 65536 }
     ensures { length state.new ≡ 65536 }
 {
     let end = lines::without_return(line);
     let start = lines::blanks(&line[0..end]);
-    if end <= start {
-        return Ok(Judged::Good);
-    }
-    if line[start] == b'#' {
-        return Ok(Judged::Good);
+    if end <= start || line[start] == b'#' {
+        return Ok(Ok(()));
     }
     play_line(out, file, state, sent, &line[0..end])
 }
 
-fn stopped<E: Write>(errors: &mut E, line: u64, why: Fault) -> Step {
+fn stopped<E: Write>(errors: &mut E, line: u64, why: Fault) -> Option<Status> {
     console::wrong(errors, line, why);
-    Step::Over(Status::Failed)
+    Some(Status::Failed)
 }
 
-// What standard input gave: a line with its number is played.
+// What standard input gave: a line with its number is played. Gives the status once the run is over.
 fn turn<W: Write, E: Write>(
     out: &mut W,
     errors: &mut E,
@@ -83,22 +72,20 @@ fn turn<W: Write, E: Write>(
     what: What,
     line: &[u8],
     number: u64,
-) -> io::Result<Step>
+) -> io::Result<Option<Status>>
     requires { length state.old ≡ 65536 }
     ensures { length state.new ≡ 65536 }
 {
     match what {
-        What::More => return Ok(Step::On),
-        What::End => return Ok(Step::Over(Status::Done)),
-        What::Failed(error) => return Ok(Step::Over(console::unreadable(errors, error))),
-        What::Long => return Ok(stopped(errors, number, Fault::Long)),
-        What::Line => {},
+        What::More => Ok(None),
+        What::End => Ok(Some(Status::Done)),
+        What::Failed(error) => Ok(Some(console::unreadable(errors, error))),
+        What::Long => Ok(stopped(errors, number, Fault::Long)),
+        What::Line => match play(out, file, state, sent, line)? {
+            Ok(()) => Ok(None),
+            Err(why) => Ok(stopped(errors, number, why)),
+        },
     }
-    let judged = play(out, file, state, sent, line)?;
-    if let Judged::Wrong(why) = judged {
-        return Ok(stopped(errors, number, why));
-    }
-    Ok(Step::On)
 }
 
 // Plays standard input's lines, up to the first that is none of a script, and gives the status.
@@ -117,20 +104,17 @@ pub(crate) fn play_all<R: Read, W: Write, E: Write>(
     for _ in 0..console::TURNS {
         let event = console::next(reader, &mut buf, input);
         input = event.input;
-        let from = event.from;
-        let to = event.to;
-        let what = event.what;
-        let step = turn(
+        let over = turn(
             out,
             errors,
             file,
             state,
             &mut sent,
-            what,
-            &buf[from..to],
+            event.what,
+            &buf[event.from..event.to],
             input.lines,
         )?;
-        if let Step::Over(status) = step {
+        if let Some(status) = over {
             return Ok(status);
         }
     }

@@ -1,174 +1,132 @@
 // A line of the script into a move.
-ghost use Rattle.std.specs.Prelude.{◌≤◌, ◌≡◌, length};
+ghost use Rattle.std.specs.Prelude.{◌≤◌, length, IfOk};
 
 use controller::Move;
-use lines::{Fault, Judged};
+use lines::Fault;
 
-// The numbers of a move, and where what follows them starts.
+// What a line of the script asks for: a move, or that the state is printed.
 #[derive(Clone, Copy)]
-struct Numbers {
-    judged: Judged,
-    values: [u64; 4],
-    next: usize,
+pub(crate) enum Asked {
+    Move(Move),
+    State,
 }
 
-// A line of the script: the kind of its move (7 is `state`), its numbers, and how many outside bytes it has.
+// A line of the script, and how many outside bytes it has.
 #[derive(Clone, Copy)]
 pub(crate) struct Line {
-    pub(crate) judged: Judged,
-    pub(crate) kind: u8,
-    pub(crate) values: [u64; 4],
+    pub(crate) asked: Asked,
     pub(crate) len: usize,
 }
 
-// The kind of the move with this word, or 8.
-fn kind_of(word: &[u8]) -> u8 {
-    match word {
-        b"local" => 0,
-        b"receive" => 1,
-        b"send" => 2,
-        b"reply" => 3,
-        b"outer-message" => 4,
-        b"outer-reply" => 5,
-        b"close" => 6,
-        b"state" => 7,
-        _ => 8,
-    }
+// The word that a line begins with.
+#[derive(Clone, Copy, PartialEq, Eq)]
+enum Word {
+    Local,
+    Receive,
+    Send,
+    Reply,
+    OuterMessage,
+    OuterReply,
+    Close,
+    State,
 }
 
-// How many numbers a move has.
-fn count(kind: u8) -> usize
-    ensures { result ≤ 4 }
-{
-    match kind {
-        2 | 4 => 4,
-        6 => 2,
-        7 => 0,
-        _ => 3,
-    }
-}
-
-// The largest value of a move's number i: the fourth of an outside message has 32 bits, all others 16.
-fn most(kind: u8, i: usize) -> u32 {
-    if kind != 4 {
-        return 65535;
-    }
-    if i < 3 {
-        return 65535;
-    }
-    4294967295
-}
-
-// Reads a move's numbers.
-fn read_numbers(s: &[u8], kind: u8) -> Numbers
-    ensures { result.next ≤ length s.now }
-{
-    let n = count(kind);
-    let mut values = [0u64; 4];
-    let mut judged = Judged::Good;
-    let mut at: usize = 0;
-    for i in 0..n {
-        let read = lines::read_number(&s[at..], most(kind, i));
-        values[i] = read.value;
-        at += read.next;
-        judged = read.judged;
-        if let Judged::Wrong(_) = judged {
-            break;
+impl Word {
+    fn of(word: &[u8]) -> Option<Word> {
+        match word {
+            b"local" => Some(Word::Local),
+            b"receive" => Some(Word::Receive),
+            b"send" => Some(Word::Send),
+            b"reply" => Some(Word::Reply),
+            b"outer-message" => Some(Word::OuterMessage),
+            b"outer-reply" => Some(Word::OuterReply),
+            b"close" => Some(Word::Close),
+            b"state" => Some(Word::State),
+            _ => None,
         }
     }
-    Numbers {
-        judged: judged,
-        values: values,
-        next: at,
-    }
-}
 
-// What follows a move's numbers: outside bytes, or nothing.
-fn read_rest(s: &[u8], kind: u8, outside: &mut [u8]) -> lines::Bytes
-    ensures { result.len ≤ length outside.new }
-{
-    if kind == 4 {
-        return lines::read_bytes(s, outside);
+    // How many numbers follow.
+    fn count(self) -> usize
+        ensures { result ≤ 4 }
+    {
+        match self {
+            Word::Send | Word::OuterMessage => 4,
+            Word::Close => 2,
+            Word::State => 0,
+            _ => 3,
+        }
     }
-    if kind == 5 {
-        return lines::read_bytes(s, outside);
-    }
-    let mut judged = Judged::Good;
-    if lines::blanks(s) < s.len() {
-        judged = Judged::Wrong(Fault::Trailing);
-    }
-    lines::Bytes {
-        judged: judged,
-        len: 0,
-    }
-}
 
-fn wrong(judged: Judged) -> Line
-    ensures { result.len ≡ 0 }
-{
-    Line {
-        judged: judged,
-        kind: 8,
-        values: [0; 4],
-        len: 0,
+    // The largest value of number i: the fourth of an outside message has 32 bits, all others 16.
+    fn most(self, i: usize) -> u32 {
+        if self == Word::OuterMessage && 3 <= i {
+            return u32::MAX;
+        }
+        65535
     }
-}
 
-// Reads a line of the script, and its outside bytes into `outside`.
-pub(crate) fn read_line(s: &[u8], outside: &mut [u8]) -> Line
-    ensures { result.len ≤ length outside.new }
-{
-    let start = lines::blanks(s);
-    let end = start + lines::word(&s[start..]);
-    let kind = kind_of(&s[start..end]);
-    if kind == 8 {
-        return wrong(Judged::Wrong(Fault::Word));
-    }
-    let numbers = read_numbers(&s[end..], kind);
-    let judged = numbers.judged;
-    if let Judged::Wrong(_) = judged {
-        return wrong(judged);
-    }
-    let rest = end + numbers.next;
-    let read = read_rest(&s[rest..], kind, outside);
-    let values = numbers.values;
-    let judged = read.judged;
-    Line {
-        judged: judged,
-        kind: kind,
-        values: values,
-        len: read.len,
+    // What the word asks for with these numbers.
+    fn with(self, values: [u32; 4]) -> Asked {
+        let a = half(values[0]);
+        let b = half(values[1]);
+        let c = half(values[2]);
+        Asked::Move(match self {
+            Word::Local => Move::Local(a, b, c),
+            Word::Receive => Move::Receive(a, b, c),
+            Word::Send => Move::Send(a, b, c, half(values[3])),
+            Word::Reply => Move::Reply(a, b, c),
+            Word::OuterMessage => Move::OuterMessage(a, b, c, values[3]),
+            Word::OuterReply => Move::OuterReply(a, b, c),
+            Word::Close => Move::Close(a, b),
+            Word::State => return Asked::State,
+        })
     }
 }
 
 // A number that fits 16 bits.
-fn half(n: u64) -> u16 {
-    if 65535 < n {
-        return 65535;
-    }
-    n as u16
+fn half(n: u32) -> u16 {
+    u16::try_from(n).unwrap_or(u16::MAX)
 }
 
-// A number that fits 32 bits.
-fn whole(n: u64) -> u32 {
-    if 4294967295 < n {
-        return 4294967295;
+// Reads a line's numbers, and where what follows them starts.
+fn read_numbers(s: &[u8], word: Word) -> Result<([u32; 4], usize), Fault>
+    ensures { IfOk result (λ read. read.1 ≤ length s.now) }
+{
+    let mut values = [0; 4];
+    let mut at: usize = 0;
+    for i in 0..word.count() {
+        let (value, next) = lines::read_number(&s[at..], word.most(i))?;
+        values[i] = value;
+        at += next;
     }
-    n as u32
+    Ok((values, at))
 }
 
-// The move of a line; `state` is none.
-pub(crate) fn move_of(kind: u8, values: [u64; 4]) -> Move {
-    let a = half(values[0]);
-    let b = half(values[1]);
-    let c = half(values[2]);
-    match kind {
-        0 => Move::Local(a, b, c),
-        1 => Move::Receive(a, b, c),
-        2 => Move::Send(a, b, c, half(values[3])),
-        3 => Move::Reply(a, b, c),
-        4 => Move::OuterMessage(a, b, c, whole(values[3])),
-        5 => Move::OuterReply(a, b, c),
-        _ => Move::Close(a, b),
+// What follows a line's numbers: outside bytes, or nothing.
+fn read_rest(s: &[u8], word: Word, outside: &mut [u8]) -> Result<usize, Fault>
+    ensures { IfOk result (λ len. len ≤ length outside.new) }
+{
+    if word == Word::OuterMessage || word == Word::OuterReply {
+        return lines::read_bytes(s, outside);
     }
+    if lines::blanks(s) < s.len() {
+        return Err(Fault::Trailing);
+    }
+    Ok(0)
+}
+
+// Reads a line of the script, and its outside bytes into `outside`.
+pub(crate) fn read_line(s: &[u8], outside: &mut [u8]) -> Result<Line, Fault>
+    ensures { IfOk result (λ line. line.len ≤ length outside.new) }
+{
+    let start = lines::blanks(s);
+    let end = start + lines::word(&s[start..]);
+    let word = Word::of(&s[start..end]).ok_or(Fault::Word)?;
+    let (values, next) = read_numbers(&s[end..], word)?;
+    let len = read_rest(&s[end + next..], word, outside)?;
+    Ok(Line {
+        asked: word.with(values),
+        len,
+    })
 }

@@ -5,7 +5,7 @@
 #![tactic(auto)]
 
 use console::{Status, What};
-use lines::{Fault, Judged};
+use lines::Fault;
 use std::io;
 use std::io::{Read, Write};
 use std::process::ExitCode;
@@ -29,33 +29,35 @@ fn show<W: Write>(out: &mut W, number: u64, row: &[u8]) -> io::Result<()> {
 }
 
 // Answers the vector of a line, if there is one. A line that fits its buffer has at most half as many bytes.
-fn answer<W: Write>(out: &mut W, number: u64, line: &[u8]) -> io::Result<Judged> {
+fn answer<W: Write>(out: &mut W, number: u64, line: &[u8]) -> io::Result<Result<(), Fault>> {
     let mut row = [0u8; 2048];
     let end = lines::without_return(line);
     let end = lines::find(line, 0, end, b'#');
-    let read = lines::read_bytes(&line[0..end], &mut row);
-    let judged = read.judged;
-    if let Judged::Wrong(_) = judged {
-        return Ok(judged);
+    match lines::read_bytes(&line[0..end], &mut row) {
+        Err(why) => Ok(Err(why)),
+        Ok(0) => Ok(Ok(())),
+        Ok(1..8) => Ok(Err(Fault::Short)),
+        Ok(n) => {
+            show(out, number, &row[0..n])?;
+            Ok(Ok(()))
+        }
     }
-    let n = read.len;
-    if n == 0 {
-        return Ok(Judged::Good);
-    }
-    if n < 8 {
-        return Ok(Judged::Wrong(Fault::Short));
-    }
-    show(out, number, &row[0..n])?;
-    Ok(Judged::Good)
 }
 
 // The status after a line, which was `Done` or `Failed` before it.
-fn judge<E: Write>(errors: &mut E, status: Status, number: u64, judged: Judged) -> Status {
-    if let Judged::Wrong(why) = judged {
-        console::wrong(errors, number, why);
-        return Status::Failed;
+fn judge<E: Write>(
+    errors: &mut E,
+    status: Status,
+    number: u64,
+    judged: Result<(), Fault>,
+) -> Status {
+    match judged {
+        Ok(()) => status,
+        Err(why) => {
+            console::wrong(errors, number, why);
+            Status::Failed
+        }
     }
-    status
 }
 
 fn run<R: Read, W: Write, E: Write>(
@@ -69,16 +71,13 @@ fn run<R: Read, W: Write, E: Write>(
     for _ in 0..console::TURNS {
         let event = console::next(reader, &mut buf, input);
         input = event.input;
-        let what = event.what;
-        let from = event.from;
-        let to = event.to;
-        match what {
+        match event.what {
             What::End => return Ok(status),
             What::Failed(error) => return Ok(console::unreadable(errors, error)),
             What::More => {},
-            What::Long => status = judge(errors, status, input.lines, Judged::Wrong(Fault::Long)),
+            What::Long => status = judge(errors, status, input.lines, Err(Fault::Long)),
             What::Line => {
-                let judged = answer(out, input.lines, &buf[from..to])?;
+                let judged = answer(out, input.lines, &buf[event.from..event.to])?;
                 status = judge(errors, status, input.lines, judged);
             }
         }

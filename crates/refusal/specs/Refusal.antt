@@ -7,9 +7,8 @@ use Rattle.refusal.specs.declared.Refusal.TheVariants.{WrongOperation, PathNotFi
 use Rattle.refusal.specs.declared.Refusal.TheVariants.{EnvironmentsDiffer, SharedRoot, EnvironmentTooLarge, OutputMismatch}
 use Rattle.refusal.specs.declared.Refusal.TheVariants.{NoState, MoveNotAllowed, QueueFull, NoMessage, Stuck, MessageMisfit}
 use Rattle.refusal.specs.declared.Refusal.TheVariants.{UnknownByte, BrokenText, OutOfRange, UnfitKey}
-use Rattle.refusal.specs.declared.Verdict.{Verdict}
-use Rattle.refusal.specs.declared.Verdict.TheVariants.{Done, Refused}
 use Rattle.refusal.specs.declared.Outcome.{Outcome}
+use Rattle.std.specs.Prelude.{Result, Ok, Err}
 
 -- The number of a refusal.
 abbrev pub number_of : Refusal → ℕ
@@ -64,13 +63,13 @@ place_of OutOfRange = 0  -- "and from 14"
 place_of (UnfitKey row) = row  -- 02: "place the number of the lowest such input's O row"
 
 -- 01: "number 0 is done".
-abbrev pub number_in : Verdict → ℕ
-number_in Done = 0
-number_in (Refused why) = number_of why
+abbrev pub number_in : Result (Unit {0}) Refusal → ℕ
+number_in (Ok tt) = 0
+number_in (Err why) = number_of why
 
-abbrev pub place_in : Verdict → ℕ
-place_in Done = 0
-place_in (Refused why) = place_of why
+abbrev pub place_in : Result (Unit {0}) Refusal → ℕ
+place_in (Ok tt) = 0
+place_in (Err why) = place_of why
 
 -- 01: "A move's result is a number and the bytes written out."
 abbrev pub outcome_number : Outcome → ℕ
@@ -81,8 +80,8 @@ outcome_place o = place_in o.verdict
 
 -- Done, with so many bytes written out.
 abbrev pub done_with : ℕ → Outcome
-done_with n = record { bytes = n; verdict = Done }
+done_with n = record { bytes = n; verdict = (Ok tt) }
 
 -- Refused: nothing is written out.
 abbrev pub refused_by : Refusal → Outcome
-refused_by why = record { bytes = 0; verdict = Refused why }
+refused_by why = record { bytes = 0; verdict = Err why }

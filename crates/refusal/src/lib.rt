@@ -5,7 +5,7 @@ ghost use Rattle.std.specs.Prelude.{◌≡◌};
 ghost use Rattle.refusal.specs.Refusal.{number_of, place_of, outcome_number, outcome_place, done_with, refused_by};
 
 // The kinds of refusal in the papers' order. A place in a file or text is a byte's, a row is counted from 0 in its section.
-#[derive(Clone, Copy)]
+#[derive(Clone, Copy, PartialEq, Eq, Debug)]
 pub enum Refusal {
     BufferSize,
     FileLayout,
@@ -33,23 +33,17 @@ pub enum Refusal {
 }
 
 #[derive(Clone, Copy)]
-pub enum Verdict {
-    Done,
-    Refused(Refusal),
-}
-
-#[derive(Clone, Copy)]
 pub struct Outcome {
     pub bytes: usize,
-    pub verdict: Verdict,
+    pub verdict: Result<(), Refusal>,
 }
 
 pub fn done(bytes: usize) -> Outcome
     ensures { result ≡ done_with bytes }
 {
     Outcome {
-        bytes: bytes,
-        verdict: Verdict::Done,
+        bytes,
+        verdict: Ok(()),
     }
 }
 
@@ -58,7 +52,7 @@ pub fn refused(why: Refusal) -> Outcome
 {
     Outcome {
         bytes: 0,
-        verdict: Verdict::Refused(why),
+        verdict: Err(why),
     }
 }
 
@@ -92,58 +86,50 @@ pub fn number_of(why: Refusal) -> u8
     }
 }
 
-fn row_place(row: u16) -> usize
-    ensures { result ≡ row }
-{
-    row as usize
-}
-
 pub fn place_of(why: Refusal) -> usize
     ensures { result ≡ place_of why }
 {
     match why {
-        Refusal::BrokenField(at) => at,
-        Refusal::TooLarge(at) => at,
-        Refusal::WrongOperation(row) => row_place(row),
-        Refusal::PathNotFirm(row) => row_place(row),
-        Refusal::OperandType(row) => row_place(row),
-        Refusal::TypeMisfit(row) => row_place(row),
-        Refusal::EnvironmentsDiffer(row) => row_place(row),
-        Refusal::SharedRoot(row) => row_place(row),
-        Refusal::EnvironmentTooLarge(row) => row_place(row),
-        Refusal::OutputMismatch(row) => row_place(row),
-        Refusal::BufferSize => 0,
-        Refusal::FileLayout => 0,
-        Refusal::SectionCount => 0,
-        Refusal::NoState => 0,
-        Refusal::MoveNotAllowed => 0,
-        Refusal::QueueFull => 0,
-        Refusal::NoMessage => 0,
-        Refusal::Stuck => 0,
-        Refusal::MessageMisfit => 0,
-        Refusal::UnknownByte(at) => at,
-        Refusal::BrokenText(at) => at,
-        Refusal::OutOfRange => 0,
-        Refusal::UnfitKey(row) => row_place(row),
+        Refusal::BrokenField(at)
+        | Refusal::TooLarge(at)
+        | Refusal::UnknownByte(at)
+        | Refusal::BrokenText(at) => at,
+        Refusal::WrongOperation(row)
+        | Refusal::PathNotFirm(row)
+        | Refusal::OperandType(row)
+        | Refusal::TypeMisfit(row)
+        | Refusal::EnvironmentsDiffer(row)
+        | Refusal::SharedRoot(row)
+        | Refusal::EnvironmentTooLarge(row)
+        | Refusal::OutputMismatch(row)
+        | Refusal::UnfitKey(row) => usize::from(row),
+        Refusal::BufferSize
+        | Refusal::FileLayout
+        | Refusal::SectionCount
+        | Refusal::NoState
+        | Refusal::MoveNotAllowed
+        | Refusal::QueueFull
+        | Refusal::NoMessage
+        | Refusal::Stuck
+        | Refusal::MessageMisfit
+        | Refusal::OutOfRange => 0,
     }
 }
 
 pub fn number(answer: Outcome) -> u8
     ensures { result ≡ outcome_number answer }
 {
-    let verdict = answer.verdict;
-    match verdict {
-        Verdict::Done => 0,
-        Verdict::Refused(why) => number_of(why),
+    match answer.verdict {
+        Ok(()) => 0,
+        Err(why) => number_of(why),
     }
 }
 
 pub fn place(answer: Outcome) -> usize
     ensures { result ≡ outcome_place answer }
 {
-    let verdict = answer.verdict;
-    match verdict {
-        Verdict::Done => 0,
-        Verdict::Refused(why) => place_of(why),
+    match answer.verdict {
+        Ok(()) => 0,
+        Err(why) => place_of(why),
     }
 }

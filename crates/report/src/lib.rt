@@ -7,34 +7,28 @@ ghost use Rattle.std.specs.Prelude.{◌<◌};
 use check_environments::Environment;
 use check_network::{Answer, Pair};
 use console::{Status, number, write};
-use refusal::Verdict;
+use refusal::Refusal;
 use std::io;
 use std::io::Write;
 
 // The word of a basic type.
 pub fn word<W: Write>(out: &mut W, basic: u8) -> io::Result<()> {
-    let w = scalar::word_of(basic);
-    let bytes = w.bytes;
-    let len = w.len;
-    write(out, &bytes[..len])
+    write(out, scalar::word_of(basic))
 }
 
 // A path's ids down to the node, each in its place by level.
 pub fn print_path<W: Write>(out: &mut W, ids: [u16; 8], level: usize) -> io::Result<()>
     requires { level < 8 }
 {
-    for i in 0..level {
-        number(out, wire::index(ids[i]) as u64)?;
+    for id in &ids[..level] {
+        number(out, u64::from(*id))?;
         write(out, b".")?;
     }
-    number(out, wire::index(ids[level]) as u64)
+    number(out, u64::from(ids[level]))
 }
 
 fn mark<W: Write>(out: &mut W, mandatory: bool) -> io::Result<()> {
-    if mandatory {
-        return write(out, b" ! ");
-    }
-    write(out, b" ? ")
+    write(out, if mandatory { b" ! " } else { b" ? " })
 }
 
 // What follows a node's path.
@@ -55,58 +49,45 @@ fn nodes<W: Write>(
     at: usize,
     n: u8,
 ) -> io::Result<usize> {
-    if n == 0 {
+    if n == 0 || 7 < level {
         return Ok(at);
     }
-    if 7 < level {
-        return Ok(at);
-    }
-    let check_types::TypeHead::Node(id, mandatory, basic, count, mid) = check_types::type_head(
-        s, at, false,
-    ) else {
+    let Some(head) = check_types::type_head(s, at, false) else {
         return Ok(at);
     };
     let mut down = ids;
-    down[level] = id;
+    down[level] = head.id;
     number(out, q)?;
     write(out, role)?;
     print_path(out, down, level)?;
-    print_type(out, mandatory, basic)?;
-    let end = nodes(out, s, q, role, down, level + 1, mid, count)?;
+    print_type(out, head.mandatory, head.basic)?;
+    let end = nodes(out, s, q, role, down, level + 1, head.start, head.count)?;
     nodes(out, s, q, role, ids, level, end, n - 1)
 }
 
 fn environment<W: Write>(out: &mut W, q: u64, role: &[u8], e: Environment) -> io::Result<()> {
-    let s = e.bytes;
-    let tree::Head::Node(_, _, count, mid) = tree::head_at(&s, 0) else {
-        return Ok(());
-    };
-    nodes(out, &s, q, role, [0u16; 8], 0, mid, count)?;
+    if let Some(head) = tree::head_at(&e.bytes, 0) {
+        nodes(out, &e.bytes, q, role, [0u16; 8], 0, head.start, head.count)?;
+    }
     Ok(())
 }
 
 fn service<W: Write>(out: &mut W, q: u64, p: Pair) -> io::Result<()> {
-    let a = p.starter;
-    environment(out, q, b" S ", a)?;
-    let b = p.client;
-    environment(out, q, b" C ", b)
+    environment(out, q, b" S ", p.starter)?;
+    environment(out, q, b" C ", p.client)
 }
 
 fn accepted<W: Write>(out: &mut W, x: Answer) -> io::Result<()> {
     write(out, b"accepted\n")?;
-    let a = x.first;
-    service(out, 0, a)?;
-    let b = x.second;
-    service(out, 1, b)?;
-    let c = x.third;
-    service(out, 2, c)?;
-    let d = x.fourth;
-    service(out, 3, d)
+    service(out, 0, x.first)?;
+    service(out, 1, x.second)?;
+    service(out, 2, x.third)?;
+    service(out, 3, x.fourth)
 }
 
 pub fn refused<W: Write>(out: &mut W, n: u8, place: usize) -> io::Result<()> {
     write(out, b"refused ")?;
-    number(out, n as u64)?;
+    number(out, u64::from(n))?;
     write(out, b" ")?;
     number(out, place as u64)?;
     write(out, b"\n")
@@ -114,8 +95,7 @@ pub fn refused<W: Write>(out: &mut W, n: u8, place: usize) -> io::Result<()> {
 
 // What the checker answered; gives the status.
 pub fn answer<W: Write>(out: &mut W, x: Answer) -> io::Result<Status> {
-    let v = x.verdict;
-    if let Verdict::Refused(why) = v {
+    if let Err(why) = x.verdict {
         refused(out, refusal::number_of(why), refusal::place_of(why))?;
         return Ok(Status::Refused);
     }

@@ -3,53 +3,45 @@ use Prim.Native.Nat.{ℕ, ◌≤◌, ◌<◌}
 use native.Mathlib.Omega.{arith}
 use mathlib.Core.Path.{◌≡◌, refl, sym, ap, subst, ◌∙◌}
 use mathlib.Core.Bool.{Bool, true, false}
-use mathlib.Core.List.{List, [], ◌∷◌}
+use mathlib.Core.List.{[], ◌∷◌}
 use lib.ListN.{length, length-take, get_or-eq_default}
-use lib.Dec.{T}
+use lib.Dec.{T, eqb}
 use lib.IntN.{ℤ}
 use lib.Ieee.{Float, binary64, fits}
-use types.Run.{OneOf, miss}
-use denote.Enum.Declared.{tag_of}
 use mir.Syntax.{w32, w64}
 use Rattle.scalar.specs.declared.Scalar.{Scalar}
-use Rattle.scalar.specs.declared.Truth.{Truth}
 use Rattle.scalar.specs.declared.Operand.{Operand}
 use Rattle.scalar.specs.Basic.{bool, int, double, long, string, raw, void, last_basic}
-use Rattle.scalar.specs.Value.{basic_of, SoundValue, SoundText, BasicType, basic_types, no_type, basic_type, word_of, least_bytes}
+use Rattle.scalar.specs.Value.{Value, value, basic_of, SoundValue, SoundText, BasicType, basic_types, no_type, basic_type, word_of, least_bytes}
 use Rattle.wire.specs.Wire.{unsigned_of}
 use Rattle.scalar.specs.ValueLaws.{raw-short, empty-void}
+use Rattle.scalar.specs.Operator.{bit}
 use Rattle.scalar.specs.NumberLaws.{sound-bool, sound-integer, sound-floating}
-use Rattle.scalar.specs.Scalar.{value_of, value_beside, beside, truth_of}
+use Rattle.scalar.specs.Scalar.{value_of, value_beside, beside, kind_of, truth_of}
 use Rattle.scalar.proofs.Operating.{value-is}
-use Rattle.scalar.specs.contracts.Scalar as S
+use Rattle.std.specs.Prelude.{Some, None}
+use borrow.Author.Tests.{ne_eqb}
+use Rattle.scalar.specs.ScalarLaws.{basic-kind}
 
 -- ---- conditions
 
-abbrev NoBool : List ℕ
-NoBool = 1 ∷ 2 ∷ 3 ∷ 4 ∷ 5 ∷ 6 ∷ []
+bit-back : (p : Bool) → Some (eqb (unsigned_of (bit p ∷ [])) 1) ≡ Some p
+unfolding unsigned_of
+bit-back true = refl
+bit-back false = refl
 
-no_bool : (k : Scalar) (t : List ℕ) → OneOf NoBool (tag_of S.the_type k) → Truth.Wrong ≡ truth_of (value_beside k t)
+no_bool : (v : Value) → (basic_of v ≡ bool → ⊥) → None ≡ truth_of v
 unfolding truth_of
-no_bool (Scalar.Bool p) t h = absurd (miss NoBool 0 tt h)
-no_bool (Scalar.Int z) t h = refl
-no_bool (Scalar.Double x) t h = refl
-no_bool (Scalar.Long z) t h = refl
-no_bool Scalar.String t h = refl
-no_bool Scalar.Raw t h = refl
-no_bool Scalar.Void t h = refl
+no_bool (value b t) n = rw (ne_eqb b bool n) refl
 
 module _ (v : Operand) where
-  pub truth-true : {p : Bool} → v.scalar ≡ Scalar.Bool p → p ≡ true → Truth.True ≡ truth_of (value_of v)
-  unfolding truth_of unsigned_of
-  truth-true e f = sym (ap truth_of (value-is v (e ∙ ap Scalar.Bool f)))
+  pub truth-bool : {p : Bool} → v.scalar ≡ Scalar.Bool p → Some p ≡ truth_of (value_of v)
+  unfolding truth_of
+  truth-bool {p} e = rw (value-is v e) (sym (bit-back p))
 
-  pub truth-false : {p : Bool} → v.scalar ≡ Scalar.Bool p → p ≡ false → Truth.False ≡ truth_of (value_of v)
-  unfolding truth_of unsigned_of
-  truth-false e f = sym (ap truth_of (value-is v (e ∙ ap Scalar.Bool f)))
-
-  pub truth-other : OneOf NoBool (tag_of S.the_type v.scalar) → Truth.Wrong ≡ truth_of (value_of v)
+  pub truth-other : (kind_of v.scalar ≡ bool → ⊥) → None ≡ truth_of (value_of v)
   unfolding value_of
-  truth-other h = no_bool v.scalar (beside v) h
+  truth-other n = no_bool (value_of v) (λ e. n (sym (basic-kind v.scalar (beside v)) ∙ e))
 
   -- ---- basic types
 

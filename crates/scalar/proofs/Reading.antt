@@ -12,7 +12,7 @@ use lib.Dec.{eqb}
 use lib.IntN.{ℤ}
 use lib.Ieee.{Float, binary64, of_bits, to_bits}
 use mir.Syntax.{Width, w32, w64}
-use mir.Val.{bits, SFits, to_z, of_z}
+use mir.Val.{bool_byte, bits, SFits, to_z, of_z}
 use Rattle.wire.specs.Wire.{byte_at, u32_at, u64_at, put_u32, put_u64, part, with_part}
 use Rattle.wire.specs.WireLaws.{length_part, put_32, put-64}
 use Rattle.scalar.specs.declared.Scalar.{Scalar}
@@ -120,6 +120,10 @@ module _ (x : Operand) where
 
   pub void-written : x.scalar ≡ Void → bytes_of (value_of x) ≡ []
   void-written e = ap bytes_of (value-is e)
+
+pub byte_bit : (p : B.Bool) → bool_byte p ≡ bit p
+byte_bit true = refl
+byte_bit false = refl
 
 -- What `write` promises of the slice s that it leaves as t, saying n, where the value's bytes are v.
 abbrev pub Written : List ℕ → List ℕ → ℕ → ℕ → List ℕ → Type 0

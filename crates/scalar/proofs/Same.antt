@@ -1,14 +1,11 @@
--- Bytes that are the same: as lists, as the numbers that they stand for, and along a loop.
-use Prim.Native.Nat.{ℕ, suc, ◌+◌, ◌<◌, min}
-use native.Mathlib.Numerals.{add-one}
+-- Bytes that are the same: as lists, and as the numbers that they stand for.
+use Prim.Native.Nat.{ℕ}
 use native.Mathlib.Omega.{arith}
 use mathlib.Core.Path.{◌≡◌, refl, sym, ap, ◌∙◌}
-use mathlib.Core.Bool.{Bool, true, false, beq, ◌&&◌}
+use mathlib.Core.Bool.{Bool, true, false, beq}
 use mathlib.Core.List.{List, [], ◌∷◌}
-use lib.ListN.{length, take, drop, get_or}
-use lib.Seq.{drop-cons, drop-length, take_all}
-use lib.Dec.{eqb, leb}
-use borrow.Author.Tests.{eq-eqb, ne_eqb, eqb-true, leb-true, leb-false}
+use lib.Dec.{eqb}
+use borrow.Author.Tests.{eq-eqb, eqb-true}
 use mir.Syntax.{Width}
 use mir.Val.{of_z, SFits}
 use lib.IntN.{ℤ}
@@ -42,43 +39,3 @@ same_bit true true = refl
 same_bit true false = refl
 same_bit false true = refl
 same_bit false false = refl
-
--- ---- the loop of `same_bytes`
-
-pub long_apart : (s t : List ℕ) → (length s ≡ length t → ⊥) → false ≡ equal_bytes s t
-long_apart [] [] h = absurd (h refl)
-long_apart [] (b ∷ t) h = refl
-long_apart (a ∷ s) [] h = refl
-long_apart (a ∷ s) (b ∷ t) h = by (eqb a b) (equal_bytes s t) (long_apart s t (λ e. h (ap suc e)))
-  where
-    by : (p q : Bool) → false ≡ q → false ≡ (p && q)
-    by true q e = e
-    by false q e = refl
-
-module _ (s t : List ℕ) (i : ℕ) (hs : i < length s) (ht : i < length t) where
-  one_more : equal_bytes (drop i s) (drop i t) ≡ (eqb (get_or s i 0) (get_or t i 0) && equal_bytes (drop (suc i) s) (drop (suc i) t))
-  one_more = rw (drop-cons s i 0 hs, drop-cons t i 0 ht) refl
-
-  pub same-on : get_or s i 0 ≡ get_or t i 0 → equal_bytes (drop (i + 1) s) (drop (i + 1) t) ≡ equal_bytes (drop i s) (drop i t)
-  same-on e = rw (add-one i, one_more, eq-eqb (get_or s i 0) (get_or t i 0) e) refl
-
-  pub same-off : (get_or s i 0 ≡ get_or t i 0 → ⊥) → false ≡ equal_bytes (drop i s) (drop i t)
-  same-off e = rw (one_more, ne_eqb (get_or s i 0) (get_or t i 0) e) refl
-
-pub same_end : (s t : List ℕ) (i : ℕ) → length s ≡ length t → i ≡ length s → true ≡ equal_bytes (drop i s) (drop i t)
-same_end s t i e h =
-    let a : drop i s ≡ [] = ap (λ (k : ℕ). drop k s) h ∙ drop-length s in
-    let b : drop i t ≡ [] = ap (λ (k : ℕ). drop k t) (h ∙ e) ∙ drop-length t in
-    rw (a, b) refl
-
--- ---- bytes in an array of 16
-
--- No more than 16 bytes are beside a scalar.
-pub clip : (n : ℕ) (l : List ℕ) (k : ℕ) → length l ≡ 16 → k ≡ min n 16 → take k l ≡ take n l
-clip n l k e h = by (leb n 16) refl
-  where
-    by : (t : Bool) → leb n 16 ≡ t → take k l ≡ take n l
-    by true q = let a = leb-true n 16 q in let z : k ≡ n = omega arith in rw z refl
-    by false q =
-        let a = leb-false n 16 q in
-        take_all k l (omega arith) ∙ sym (take_all n l (omega arith))

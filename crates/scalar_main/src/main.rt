@@ -2,7 +2,7 @@
 // as their patterns in hexadecimal, strings and raws as their bytes.
 #![tactic(auto)]
 
-use scalar::{Computed, Operand, Scalar};
+use scalar::{BOOL, DOUBLE, Failure, INT, LONG, Operand, RAW, STRING, Scalar, VOID};
 use std::io;
 use std::io::Write;
 
@@ -21,10 +21,9 @@ fn show_number<W: Write>(out: &mut W, name: &[u8], bytes: &[u8], digits: usize) 
     }
 }
 
-fn show_bytes<W: Write>(out: &mut W, name: &[u8], bytes: &[u8], n: usize) -> io::Result<()> {
+fn show_bytes<W: Write>(out: &mut W, name: &[u8], bytes: &[u8]) -> io::Result<()> {
     say(out, name)?;
-    for i in 0..n {
-        let byte = wire::byte_at(bytes, i);
+    for byte in bytes {
         write!(out, "{byte:02x}")?;
     }
     Ok(())
@@ -33,35 +32,45 @@ fn show_bytes<W: Write>(out: &mut W, name: &[u8], bytes: &[u8], n: usize) -> io:
 fn show<W: Write>(out: &mut W, x: Operand) -> io::Result<()> {
     let mut buf = [0u8; 16];
     let n = scalar::write(&mut buf, 0, x);
-    let kind = x.scalar;
-    match kind {
+    match x.scalar {
         Scalar::Bool(_) => show_number(out, b" bool ", &buf, 2),
         Scalar::Int(_) => show_number(out, b" int ", &buf, 8),
         Scalar::Double(_) => show_number(out, b" double ", &buf, 16),
         Scalar::Long(_) => show_number(out, b" long ", &buf, 16),
-        Scalar::String => show_bytes(out, b" string ", &buf, n),
-        Scalar::Raw => show_bytes(out, b" raw ", &buf, n),
+        Scalar::String => show_bytes(out, b" string ", &buf[..n]),
+        Scalar::Raw => show_bytes(out, b" raw ", &buf[..n]),
         Scalar::Void => say(out, b" void"),
     }
 }
 
-fn show_result<W: Write>(out: &mut W, r: Computed) -> io::Result<()> {
+fn show_result<W: Write>(out: &mut W, r: Result<Scalar, Failure>) -> io::Result<()> {
     say(out, b" =")?;
     match r {
-        Computed::Wrong => say(out, b" wrong")?,
-        Computed::Outside(_) => say(out, b" outside")?,
-        Computed::Gives(x) => show(out, scalar::plain(x))?,
+        Ok(x) => show(out, scalar::plain(x))?,
+        Err(Failure::Wrong) => say(out, b" wrong")?,
+        Err(Failure::Outside(_)) => say(out, b" outside")?,
     }
     say(out, b"\n")
 }
 
-fn one<W: Write>(out: &mut W, name: &[u8], a: Operand, r: Computed) -> io::Result<()> {
+fn one<W: Write>(
+    out: &mut W,
+    name: &[u8],
+    a: Operand,
+    r: Result<Scalar, Failure>,
+) -> io::Result<()> {
     say(out, name)?;
     show(out, a)?;
     show_result(out, r)
 }
 
-fn two<W: Write>(out: &mut W, name: &[u8], a: Operand, b: Operand, r: Computed) -> io::Result<()> {
+fn two<W: Write>(
+    out: &mut W,
+    name: &[u8],
+    a: Operand,
+    b: Operand,
+    r: Result<Scalar, Failure>,
+) -> io::Result<()> {
     say(out, name)?;
     show(out, a)?;
     show(out, b)?;
@@ -85,10 +94,9 @@ fn single<W: Write>(out: &mut W, a: Operand) -> io::Result<()> {
 
 fn length_of(basic: u8) -> usize {
     match basic {
-        0 => 1,
-        1 => 4,
-        2 => 8,
-        3 => 8,
+        BOOL => 1,
+        INT => 4,
+        DOUBLE | LONG => 8,
         _ => 0,
     }
 }
@@ -113,11 +121,11 @@ fn value(basic: u8, bytes: &[u8], n: usize) -> Operand {
 }
 
 fn string(bytes: &[u8]) -> Operand {
-    value(4, bytes, bytes.len())
+    value(STRING, bytes, bytes.len())
 }
 
 fn raw(bytes: &[u8]) -> Operand {
-    value(5, bytes, bytes.len())
+    value(RAW, bytes, bytes.len())
 }
 
 // Two numbers of a basic type: add, subtract, less and equal, and negate of the first.
@@ -131,9 +139,16 @@ fn numbers<W: Write>(out: &mut W, basic: u8, a: u64, b: u64) -> io::Result<()> {
     one(out, b"negate", x, scalar::negate(x))
 }
 
+fn all_numbers<W: Write>(out: &mut W, basic: u8, pairs: &[(u64, u64)]) -> io::Result<()> {
+    for (a, b) in pairs {
+        numbers(out, basic, *a, *b)?;
+    }
+    Ok(())
+}
+
 fn bools<W: Write>(out: &mut W, a: u64, b: u64) -> io::Result<()> {
-    let x = number(0, a);
-    let y = number(0, b);
+    let x = number(BOOL, a);
+    let y = number(BOOL, b);
     two(out, b"and", x, y, scalar::logical_and(x, y))?;
     two(out, b"equal", x, y, scalar::equal(x, y))?;
     one(out, b"not", x, scalar::logical_not(x))
@@ -141,63 +156,93 @@ fn bools<W: Write>(out: &mut W, a: u64, b: u64) -> io::Result<()> {
 
 // The ends of the range, zero, and the ones next to them.
 fn ints<W: Write>(out: &mut W) -> io::Result<()> {
-    numbers(out, 1, 0x7FFFFFFF, 1)?;
-    numbers(out, 1, 0x80000000, 0xFFFFFFFF)?;
-    numbers(out, 1, 0x80000000, 0x80000000)?;
-    numbers(out, 1, 0x7FFFFFFF, 0x80000000)?;
-    numbers(out, 1, 0, 0x80000000)?;
-    numbers(out, 1, 0xFFFFFFFF, 1)?;
-    numbers(out, 1, 12, 0xFFFFFFEC)
+    all_numbers(
+        out,
+        INT,
+        &[
+            (0x7FFFFFFF, 1),
+            (0x80000000, 0xFFFFFFFF),
+            (0x80000000, 0x80000000),
+            (0x7FFFFFFF, 0x80000000),
+            (0, 0x80000000),
+            (0xFFFFFFFF, 1),
+            (12, 0xFFFFFFEC),
+        ],
+    )
 }
 
 fn longs<W: Write>(out: &mut W) -> io::Result<()> {
-    numbers(out, 3, 0x7FFFFFFFFFFFFFFF, 1)?;
-    numbers(out, 3, 0x8000000000000000, 0xFFFFFFFFFFFFFFFF)?;
-    numbers(out, 3, 0x8000000000000000, 0x8000000000000000)?;
-    numbers(out, 3, 0x7FFFFFFFFFFFFFFF, 0x8000000000000000)?;
-    numbers(out, 3, 0, 0x8000000000000000)?;
-    numbers(out, 3, 0xFFFFFFFFFFFFFFFF, 1)?;
-    numbers(out, 3, 0x7FFFFFFF, 1)
+    all_numbers(
+        out,
+        LONG,
+        &[
+            (0x7FFFFFFFFFFFFFFF, 1),
+            (0x8000000000000000, 0xFFFFFFFFFFFFFFFF),
+            (0x8000000000000000, 0x8000000000000000),
+            (0x7FFFFFFFFFFFFFFF, 0x8000000000000000),
+            (0, 0x8000000000000000),
+            (0xFFFFFFFFFFFFFFFF, 1),
+            (0x7FFFFFFF, 1),
+        ],
+    )
 }
 
 // Signed zeros, infinities and NaN.
 fn special_doubles<W: Write>(out: &mut W) -> io::Result<()> {
-    numbers(out, 2, 0x0000000000000000, 0x8000000000000000)?;
-    numbers(out, 2, 0x8000000000000000, 0x8000000000000000)?;
-    numbers(out, 2, 0x8000000000000000, 0x0000000000000000)?;
-    numbers(out, 2, 0x7FF0000000000000, 0x7FF0000000000000)?;
-    numbers(out, 2, 0x7FF0000000000000, 0xFFF0000000000000)?;
-    numbers(out, 2, 0x7FF8000000000000, 0x3FF0000000000000)?;
-    numbers(out, 2, 0x3FF0000000000000, 0x7FF8000000000000)
+    all_numbers(
+        out,
+        DOUBLE,
+        &[
+            (0x0000000000000000, 0x8000000000000000),
+            (0x8000000000000000, 0x8000000000000000),
+            (0x8000000000000000, 0x0000000000000000),
+            (0x7FF0000000000000, 0x7FF0000000000000),
+            (0x7FF0000000000000, 0xFFF0000000000000),
+            (0x7FF8000000000000, 0x3FF0000000000000),
+            (0x3FF0000000000000, 0x7FF8000000000000),
+        ],
+    )
 }
 
 // Sums that lie halfway between two doubles go to the even one.
 fn halfway_doubles<W: Write>(out: &mut W) -> io::Result<()> {
-    numbers(out, 2, 0x3FB999999999999A, 0x3FC999999999999A)?;
-    numbers(out, 2, 0x3FF0000000000000, 0x3CA0000000000000)?;
-    numbers(out, 2, 0x3FF0000000000001, 0x3CA0000000000000)?;
-    numbers(out, 2, 0x3FF0000000000000, 0x3CA0000000000001)?;
-    numbers(out, 2, 0x3FF0000000000000, 0x3C90000000000000)?;
-    numbers(out, 2, 0x4340000000000000, 0x3FF0000000000000)?;
-    numbers(out, 2, 0x4340000000000001, 0x3FF0000000000000)
+    all_numbers(
+        out,
+        DOUBLE,
+        &[
+            (0x3FB999999999999A, 0x3FC999999999999A),
+            (0x3FF0000000000000, 0x3CA0000000000000),
+            (0x3FF0000000000001, 0x3CA0000000000000),
+            (0x3FF0000000000000, 0x3CA0000000000001),
+            (0x3FF0000000000000, 0x3C90000000000000),
+            (0x4340000000000000, 0x3FF0000000000000),
+            (0x4340000000000001, 0x3FF0000000000000),
+        ],
+    )
 }
 
 // The largest doubles, and subnormal ones.
 fn outer_doubles<W: Write>(out: &mut W) -> io::Result<()> {
-    numbers(out, 2, 0x7FEFFFFFFFFFFFFF, 0x7FEFFFFFFFFFFFFF)?;
-    numbers(out, 2, 0x7FEFFFFFFFFFFFFF, 0x7C90000000000000)?;
-    numbers(out, 2, 0x7FEFFFFFFFFFFFFF, 0x7C8FFFFFFFFFFFFF)?;
-    numbers(out, 2, 0x0000000000000001, 0x0000000000000001)?;
-    numbers(out, 2, 0x0010000000000000, 0x0000000000000001)?;
-    numbers(out, 2, 0x000FFFFFFFFFFFFF, 0x0000000000000001)?;
-    numbers(out, 2, 0xFFEFFFFFFFFFFFFF, 0x7FEFFFFFFFFFFFFF)
+    all_numbers(
+        out,
+        DOUBLE,
+        &[
+            (0x7FEFFFFFFFFFFFFF, 0x7FEFFFFFFFFFFFFF),
+            (0x7FEFFFFFFFFFFFFF, 0x7C90000000000000),
+            (0x7FEFFFFFFFFFFFFF, 0x7C8FFFFFFFFFFFFF),
+            (0x0000000000000001, 0x0000000000000001),
+            (0x0010000000000000, 0x0000000000000001),
+            (0x000FFFFFFFFFFFFF, 0x0000000000000001),
+            (0xFFEFFFFFFFFFFFFF, 0x7FEFFFFFFFFFFFFF),
+        ],
+    )
 }
 
 fn all_bools<W: Write>(out: &mut W) -> io::Result<()> {
-    bools(out, 0, 0)?;
-    bools(out, 0, 1)?;
-    bools(out, 1, 0)?;
-    bools(out, 1, 1)
+    for (a, b) in [(0, 0), (0, 1), (1, 0), (1, 1)] {
+        bools(out, a, b)?;
+    }
+    Ok(())
 }
 
 fn compared<W: Write>(out: &mut W, a: Operand, b: Operand) -> io::Result<()> {
@@ -205,58 +250,62 @@ fn compared<W: Write>(out: &mut W, a: Operand, b: Operand) -> io::Result<()> {
 }
 
 fn strings<W: Write>(out: &mut W) -> io::Result<()> {
-    compared(out, string(b"hoist"), string(b"hoist"))?;
-    compared(out, string(b"hoist"), string(b"hoisT"))?;
-    compared(out, string(b"hoist"), string(b"hois"))?;
-    compared(out, string(b"hois"), string(b"hoist"))?;
-    compared(out, string(b""), string(b""))?;
-    compared(out, string(b""), string(b"h"))?;
-    compared(
-        out,
-        string(b"sixteen bytes ok"),
-        string(b"sixteen bytes ok"),
-    )?;
-    compared(
-        out,
-        string(b"sixteen bytes ok"),
-        string(b"sixteen bytes oK"),
-    )
+    let pairs: [(&[u8], &[u8]); 8] = [
+        (b"hoist", b"hoist"),
+        (b"hoist", b"hoisT"),
+        (b"hoist", b"hois"),
+        (b"hois", b"hoist"),
+        (b"", b""),
+        (b"", b"h"),
+        (b"sixteen bytes ok", b"sixteen bytes ok"),
+        (b"sixteen bytes ok", b"sixteen bytes oK"),
+    ];
+    for (a, b) in pairs {
+        compared(out, string(a), string(b))?;
+    }
+    Ok(())
 }
 
 fn raws<W: Write>(out: &mut W) -> io::Result<()> {
-    compared(out, raw(b"load"), raw(b"load"))?;
-    compared(out, raw(b"load"), raw(b"lord"))?;
-    compared(out, raw(b"0"), raw(b""))?;
-    compared(out, raw(b"0123456789abcdef"), raw(b"0123456789abcdef"))
+    let pairs: [(&[u8], &[u8]); 4] = [
+        (b"load", b"load"),
+        (b"load", b"lord"),
+        (b"0", b""),
+        (b"0123456789abcdef", b"0123456789abcdef"),
+    ];
+    for (a, b) in pairs {
+        compared(out, raw(a), raw(b))?;
+    }
+    Ok(())
 }
 
 // Operands of different kinds, or of a kind that an operator does not take, are wrong.
 fn unlike<W: Write>(out: &mut W) -> io::Result<()> {
-    both(out, number(1, 1), number(3, 1))?;
-    both(out, number(3, 1), number(2, 0))?;
-    both(out, number(0, 1), number(1, 1))?;
+    both(out, number(INT, 1), number(LONG, 1))?;
+    both(out, number(LONG, 1), number(DOUBLE, 0))?;
+    both(out, number(BOOL, 1), number(INT, 1))?;
     both(out, string(b"a"), raw(b"a"))?;
     both(out, string(b"a"), string(b"a"))?;
-    both(out, number(6, 0), number(6, 0))?;
-    both(out, number(1, 0), number(6, 0))
+    both(out, number(VOID, 0), number(VOID, 0))?;
+    both(out, number(INT, 0), number(VOID, 0))
 }
 
 fn single_operands<W: Write>(out: &mut W) -> io::Result<()> {
-    single(out, number(0, 1))?;
-    single(out, number(1, 5))?;
-    single(out, number(2, 0))?;
-    single(out, number(3, 5))?;
+    single(out, number(BOOL, 1))?;
+    single(out, number(INT, 5))?;
+    single(out, number(DOUBLE, 0))?;
+    single(out, number(LONG, 5))?;
     single(out, string(b"a"))?;
     single(out, raw(b"a"))?;
-    single(out, number(6, 0))
+    single(out, number(VOID, 0))
 }
 
 // Bytes that are no value: 17 bytes of a string, a second NaN, a bool of 2. They are taken for void.
 fn no_values<W: Write>(out: &mut W) -> io::Result<()> {
     single(out, string(b"seventeen bytes !"))?;
-    single(out, number(2, 0x7FF8000000000001))?;
-    single(out, number(2, 0xFFF8000000000000))?;
-    single(out, number(0, 2))
+    single(out, number(DOUBLE, 0x7FF8000000000001))?;
+    single(out, number(DOUBLE, 0xFFF8000000000000))?;
+    single(out, number(BOOL, 2))
 }
 
 fn main(rt: HostRuntime) -> io::Result<()> {

@@ -15,7 +15,6 @@ use Rattle.refusal.specs.Refusal.{number_of, outcome_number, done_with}
 use Rattle.check_typing.proofs.TypedLaws.{within-before}
 use Rattle.check_typing.proofs.DerivesLaws.{typed-derives}
 use Rattle.tree.specs.Encode.{Octets}
-use Rattle.refusal.specs.declared.Verdict.TheVariants.{Done}
 use Rattle.network.specs.Form.{form_of}
 use Rattle.network.specs.Layout.{behaviour_count}
 use Rattle.network.specs.Decode.{network_of}
@@ -52,6 +51,7 @@ use Rattle.soundness.specs.Property3.{Turn, NumberFits, Given, AllGiven, after, 
 use Rattle.soundness.proofs.TextLaws.{shape-texts}
 use Rattle.move_rules.specs.Fresh.{fresh_bytes, fresh}
 use Rattle.soundness.specs.Property3.{AllWellTyped, Never18, Never19, ReadyMoves, Only22, AllTexts, WritesText, KeyedQueues, Holds, AcceptedFile, Property3}
+use Rattle.std.specs.Prelude.{Ok, Err}
 
 is-undone : (s : Progress) → T (is_undone s) → s ≡ undone
 is-undone undone t = refl
@@ -186,7 +186,7 @@ module _ (file : List ℕ) (acc : AcceptedFile file) where
   network = accepted file acc.environments acc.octets acc.passes
 
   -- None of 2 to 5 refuses it.
-  whole : form_of file ≡ Done
+  whole : form_of file ≡ (Ok tt)
   whole = (accepted-derived file acc.environments acc.passes).0
 
   -- What holds of a sound state, each claim by its own law.

@@ -35,7 +35,7 @@ pub const KEPT_SIZE: usize = 144;
 pub fn slot_start(q: u16, n: u16) -> usize
     ensures { result ≡ slot_start q n }
 {
-    SLOT * (4 * wire::index(q) + wire::index(n))
+    SLOT * (4 * usize::from(q) + usize::from(n))
 }
 
 // Where the entry k of the queue starts, in the slot that starts at `slot`.

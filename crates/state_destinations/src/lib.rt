@@ -14,13 +14,6 @@ pub enum Destination {
     WaitingRow(u8, u8, u16),
 }
 
-// Where the reply to a message goes: to nobody if its operation is one-way.
-#[derive(Clone, Copy)]
-pub enum ReplyTo {
-    Nobody,
-    To(Destination),
-}
-
 // The kind of a destination.
 pub fn kind_of(d: Destination) -> u8
     ensures { (result ≡ destination_kind (destination_of d)) × (result ≤ 2) }
@@ -32,16 +25,14 @@ pub fn kind_of(d: Destination) -> u8
 }
 
 // The kind of where a reply goes: 0 for nobody.
-pub fn reply_kind(to: ReplyTo) -> u8
+pub fn reply_kind(to: Option<Destination>) -> u8
     ensures { result ≡ reply_kind (reply_of to) }
 {
-    match to {
-        ReplyTo::Nobody => 0,
-        ReplyTo::To(d) => kind_of(d),
-    }
+    to.map_or(0, kind_of)
 }
 
 // The destination of that kind in the four bytes from `at` on.
+#[tactic(auto, unfolding(state::specs::Bytes::read_destination))]
 pub fn read(state: &[u8], kind: u8, at: usize) -> Destination
     requires { at + 4 < 0x10000000000000000 }
     ensures { destination_of result ≡ read_destination state.now kind at }
@@ -57,14 +48,15 @@ pub fn read(state: &[u8], kind: u8, at: usize) -> Destination
 }
 
 // Where a reply of that kind goes, by the four bytes from `at` on.
-pub fn read_reply(state: &[u8], kind: u8, at: usize) -> ReplyTo
+#[tactic(auto, unfolding(state::specs::Bytes::read_reply))]
+pub fn read_reply(state: &[u8], kind: u8, at: usize) -> Option<Destination>
     requires { at + 4 < 0x10000000000000000 }
     ensures { reply_of result ≡ read_reply state.now kind at }
 {
     if kind == 0 {
-        return ReplyTo::Nobody;
+        return None;
     }
-    ReplyTo::To(read(state, kind, at))
+    Some(read(state, kind, at))
 }
 
 // Writes a destination to the four bytes from `at` on.
@@ -85,15 +77,16 @@ pub fn write(state: &mut [u8], at: usize, d: Destination)
 }
 
 // Writes where a reply goes to the four bytes from `at` on: zeros for nobody.
-pub fn write_reply(state: &mut [u8], at: usize, to: ReplyTo)
+#[tactic(auto, using(wire::specs::WireLaws::put_32), unfolding(state::specs::Bytes::zeros))]
+pub fn write_reply(state: &mut [u8], at: usize, to: Option<Destination>)
     requires { at + 4 ≤ length state.old }
     ensures { state.new ≡ with_part state.old at (reply_bytes (reply_of to)) }
 {
     match to {
-        ReplyTo::Nobody => {
+        None => {
             wire::put_u32(state, at, 0);
         }
-        ReplyTo::To(d) => {
+        Some(d) => {
             write(state, at, d);
         }
     }

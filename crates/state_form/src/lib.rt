@@ -13,10 +13,7 @@ fn end_of(s: &[u8], at: usize, n: usize) -> usize
     requires { at + n ≤ 0x100000000 }
     ensures { result ≡ min (at + n) (length s.now) }
 {
-    if at + n < s.len() {
-        return at + n;
-    }
-    s.len()
+    s.len().min(at + n)
 }
 
 // Are the n bytes from `at` on 0? The loop has no way out before its end, so that it is compiled to one over many bytes at a time.
@@ -26,10 +23,8 @@ pub fn all_zero(s: &[u8], at: usize, n: usize) -> bool
 {
     let end = end_of(s, at, n);
     let mut clear = true;
-    let mut i = at;
-    while i < end {
-        clear = network_layout::both(clear, s[i] == 0);
-        i += 1;
+    for i in at..end {
+        clear &= s[i] == 0;
     }
     clear
 }
@@ -51,10 +46,7 @@ fn four_bytes(s: &[u8], at: usize) -> u32
     requires { at + 4 ≤ length s.now }
     ensures { result ≡ u32_at s.now at }
 {
-    s[at] as u32
-        + 0x100 * (s[at + 1] as u32)
-        + 0x10000 * (s[at + 2] as u32)
-        + 0x1000000 * (s[at + 3] as u32)
+    u32::from_le_bytes([s[at], s[at + 1], s[at + 2], s[at + 3]])
 }
 
 // Are the five bytes from `at` on 0? Four of them are tested together.
@@ -65,13 +57,11 @@ fn five_zero(s: &[u8], at: usize) -> bool
     if s.len() < at + 5 {
         return all_zero(s, at, 5);
     }
-    if four_bytes(s, at) != 0 {
-        return false;
-    }
-    s[at + 4] == 0
+    four_bytes(s, at) == 0 && s[at + 4] == 0
 }
 
 // A row's progress: only a taken part uses byte 1, only a received row bytes 2 to 5. Most rows are undone or done, so these come first.
+#[tactic(auto, unfolding(state::specs::Form::progress_form))]
 pub fn progress_form(s: &[u8], at: usize) -> bool
     requires { at + row_size ≤ 0x100000000 }
     ensures { result ≡ progress_form s.now at }
@@ -94,19 +84,16 @@ pub fn rows_form(s: &[u8], at: usize, n: usize) -> bool
     requires { at + row_size * n ≤ 0x100000000 }
     ensures { result ≡ rows_form s.now at n }
 {
-    let mut place = at;
-    let mut left = n;
-    while 0 < left {
-        if !progress_form(s, place) {
+    for i in 0..n {
+        if !progress_form(s, at + state::ROW * i) {
             return false;
         }
-        place += state::ROW;
-        left -= 1;
     }
     true
 }
 
 // A used entry's destination: its kind is 0 to 2, and kind 0 has zeros.
+#[tactic(auto, unfolding(crate::specs::Parts::destination_form))]
 fn destination_form(s: &[u8], at: usize) -> bool
     requires { at + 8 ≤ 0x100000000 }
     ensures { result ≡ destination_form s.now at }
@@ -119,21 +106,16 @@ fn destination_form(s: &[u8], at: usize) -> bool
 }
 
 // A used entry of the queue: a message of the length it says, and zeros.
+#[tactic(auto, unfolding(state::specs::Form::entry_form, crate::specs::Parts::destination_form))]
 pub fn entry_form(s: &[u8], at: usize) -> bool
     requires { at + entry_size ≤ 0x100000000 }
     ensures { result ≡ entry_form s.now at }
 {
-    if !destination_form(s, at) {
-        return false;
-    }
-    let size = wire::index(wire::u16_at(s, at + 2));
-    if state::MESSAGE_ROOM < size {
-        return false;
-    }
-    if !tree::is_message(part(s, at + 8, size)) {
-        return false;
-    }
-    all_zero(s, at + 8 + size, state::MESSAGE_ROOM - size)
+    let size = usize::from(wire::u16_at(s, at + 2));
+    destination_form(s, at)
+        && size <= state::MESSAGE_ROOM
+        && tree::is_message(part(s, at + 8, size))
+        && all_zero(s, at + 8 + size, state::MESSAGE_ROOM - size)
 }
 
 // A queue of n entries: used ones, then zeros.
@@ -141,66 +123,54 @@ pub fn queue_form(s: &[u8], at: usize, n: usize) -> bool
     requires { at + entry_size * n ≤ 0x100000000 }
     ensures { result ≡ queue_form s.now at n }
 {
-    let mut place = at;
-    let mut left = n;
-    while 0 < left {
+    for k in 0..n {
+        let place = at + state::ENTRY * k;
         if wire::byte_at(s, place) == 0 {
-            return all_zero(s, place, state::ENTRY * left);
+            return all_zero(s, place, state::ENTRY * (n - k));
         }
         if !entry_form(s, place) {
             return false;
         }
-        place += state::ENTRY;
-        left -= 1;
     }
     true
 }
 
 // A live slot's tree, of the length it says, and zeros.
+#[tactic(auto, unfolding(state::specs::Form::tree_form))]
 pub fn tree_form(s: &[u8], at: usize) -> bool
     requires { at + queue_place ≤ 0x100000000 }
     ensures { result ≡ tree_form s.now at }
 {
-    let size = wire::index(wire::u16_at(s, at + state::LENGTH));
-    if state::TREE_ROOM < size {
-        return false;
-    }
-    if !tree::is_session_tree(part(s, at + state::TREE, size)) {
-        return false;
-    }
-    all_zero(s, at + state::TREE + size, state::TREE_ROOM - size)
+    let size = usize::from(wire::u16_at(s, at + state::LENGTH));
+    size <= state::TREE_ROOM
+        && tree::is_session_tree(part(s, at + state::TREE, size))
+        && all_zero(s, at + state::TREE + size, state::TREE_ROOM - size)
 }
 
 // The head of a live slot.
+#[tactic(auto, unfolding(state::specs::Form::head_form))]
 fn head_form(s: &[u8], at: usize) -> bool
     requires { at + head_size ≤ 0x100000000 }
     ensures { result ≡ head_form s.now at }
 {
-    let flags = network_layout::both(wire::byte_at(s, at) == 1, wire::byte_at(s, at + 1) == 0);
-    network_layout::both(flags, all_zero(s, at + 8, 8))
+    wire::byte_at(s, at) == 1 && wire::byte_at(s, at + 1) == 0 && all_zero(s, at + 8, 8)
 }
 
 // A live slot.
+#[tactic(auto, unfolding(state::specs::Form::live_form))]
 pub fn live_form(s: &[u8], at: usize) -> bool
     requires { at + slot_size ≤ 0x100000000 }
     ensures { result ≡ live_form s.now at }
 {
-    if !head_form(s, at) {
-        return false;
-    }
-    if !tree_form(s, at) {
-        return false;
-    }
-    if !queue_form(s, at + state::QUEUE, 4) {
-        return false;
-    }
-    if !rows_form(s, at + state::ROWS, 256) {
-        return false;
-    }
-    all_zero(s, at + state::KEPT, state::KEPT_SIZE)
+    head_form(s, at)
+        && tree_form(s, at)
+        && queue_form(s, at + state::QUEUE, 4)
+        && rows_form(s, at + state::ROWS, 256)
+        && all_zero(s, at + state::KEPT, state::KEPT_SIZE)
 }
 
 // The slot that starts at `at`: free, or live.
+#[tactic(auto, unfolding(state::specs::Form::slot_form))]
 pub fn slot_form(s: &[u8], at: usize) -> bool
     requires { at + slot_size ≤ 0x100000000 }
     ensures { result ≡ slot_form s.now at }

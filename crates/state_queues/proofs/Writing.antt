@@ -1,116 +1,44 @@
 -- Bytes that are written one after another, at each of the ways out of the code.
 use mathlib.Core.Path.{◌≡◌, refl, sym, ap, ◌∙◌}
-use mathlib.Core.List.{List, [], ◌∷◌, ◌++◌}
+use mathlib.Core.List.{List, [], ◌∷◌, ◌++◌, append_assoc}
 use mathlib.Core.Bool.{Bool}
-use mathlib.Core.Logic.{inr}
 use Prim.Native.Nat.{ℕ, ◌+◌, ◌-◌, ◌*◌, ◌≤◌, ◌<◌}
-use native.Mathlib.Numerals.{add-one}
-use native.Mathlib.Nat.{add-zero}
 use native.Mathlib.Omega.{arith}
-use lib.ListN.{get_or, set, length, take, drop, take-append-drop, length-set}
-use lib.Seq.{take-suc, take_all, get_or-take, get_or-drop, length-take-le}
+use lib.ListN.{length, take, drop, replicate, length-take, length-drop}
+use lib.Seq.{drop-drop, paste}
+use borrow.Rule.Slice.PartMut.{put_mid}
 use borrow.Author.Tests.{lt-ltb, le-ltb}
 use Rattle.basics.specs.Choice.{pick}
-use Rattle.wire.specs.Wire.{byte_at, put_u16, part, with_part}
-use Rattle.wire.specs.WireLaws.{length_part, length-with_part, agree-byte, with_part-outside, parts_next, put-8, put-16}
+use Rattle.wire.specs.Wire.{put_u16, part, with_part}
+use Rattle.wire.specs.WireLaws.{length_part, length-with_part, parts_next, put-16}
 use Rattle.state.specs.Places.{slot_size, message_room, entry_size, entry_start}
 use Rattle.network_syntax.specs.Syntax.{Optional}
 use Rattle.state.specs.Session.{Destination}
 use Rattle.state.specs.Bytes.{zeros, padded, reply_kind, reply_bytes, read_session}
 use Rattle.wire.specs.Wire.{u16_bytes}
-use Rattle.state.proofs.PartLaws.{length-zeros, byte-zeros}
+use Rattle.state.proofs.FreshLaws.{replicate-zeros}
+use Rattle.state.proofs.PartLaws.{length-zeros}
 use Rattle.state.proofs.SizeLaws.{reply-size}
-use Rattle.state_destinations.specs.declared.ReplyTo.{ReplyTo}
 use Rattle.state_destinations.specs.Meaning.{reply_of}
+use Rattle.state_destinations.specs.declared.Destination as coded
 use Rattle.state_queues.specs.Queue.{removed, entry_head, entry_of, pushed}
+use Rattle.std.specs.Prelude.{Option}
 
--- ---- one after another
+-- ---- a part that is lent comes back
 
-module _ (s : List ℕ) (at : ℕ) where
-  pub written_none : s ≡ with_part s at []
-  written_none = sym (ap (λ (i : ℕ). take at s ++ drop i s) (add-zero at) ∙ take-append-drop at s)
+put-part : (s l m : List ℕ) (at k : ℕ) → l ≡ m → length m ≡ k → put_mid at k s l ≡ with_part s at m
+put-part s l m at k f e = rw (f, drop-drop k at s, e) refl
 
-  -- One more byte.
-  written_next : {s₁ : List ℕ} (l : List ℕ) (i x : ℕ) → length l ≡ i → at + i < length s → s₁ ≡ with_part s at l
-      → set s₁ (at + i) x ≡ with_part s at (l ++ (x ∷ []))
-  written_next {s₁} l i x e h w =
-      let n : length s₁ ≡ length s = ap length w ∙ length-with_part s at l (omega (arith, e, h)) in
-      parts_next s at l (x ∷ []) i (at + i) (omega (arith, h)) e refl w (put-8 s₁ (at + i) x (omega (arith, n, h)))
-
--- What a loop has written after i bytes of l.
-pub record WrittenUpTo (s s₁ : List ℕ) (at i : ℕ) (l : List ℕ) : Type 0 where
-  pub same : length s₁ ≡ length s
-  pub bytes : s₁ ≡ with_part s at (take i l)
-
-module _ (s : List ℕ) (at : ℕ) (l : List ℕ) (fits : at + length l ≤ length s) where
-  pub up_to-none : WrittenUpTo s s at 0 l
-  up_to-none = record { same = refl; bytes = written_none s at }
-
-  pub up_to-more : {s₁ : List ℕ} (i x : ℕ) → i < length l → x ≡ get_or l i 0 → WrittenUpTo s s₁ at i l → WrittenUpTo s (set s₁ (at + i) x) at (i + 1) l
-  up_to-more {s₁} i x h e w = record {
-    same = length-set s₁ (at + i) x ∙ w.same;
-    bytes = written_next s at (take i l) i x (length-take-le i l (omega (arith, h))) (omega (arith, h, fits)) w.bytes
-        ∙ (ap (λ (y : ℕ). with_part s at (take i l ++ (y ∷ []))) e
-        ∙ (ap (with_part s at) (sym (take-suc l i 0 h)) ∙ ap (λ (j : ℕ). with_part s at (take j l)) (sym (add-one i))));
-  }
-
-  pub up_to-all : {s₁ : List ℕ} (i : ℕ) → length l ≤ i → WrittenUpTo s s₁ at i l → s₁ ≡ with_part s at l
-  up_to-all i h w = w.bytes ∙ ap (with_part s at) (take_all i l h)
-
-  -- What stands further on is not written yet.
-  pub up_to-later : {s₁ : List ℕ} (i k : ℕ) → i ≤ length l → at + i ≤ k → WrittenUpTo s s₁ at i l → byte_at s₁ k ≡ byte_at s k
-  up_to-later {s₁} i k h j w =
-      let e : length (take i l) ≡ i = length-take-le i l h in
-      ap (λ (z : List ℕ). byte_at z k) w.bytes
-      ∙ agree-byte (with_part-outside s at (take i l) (omega (arith, e, fits, h)) k 1 (inr (omega (arith, e, j))))
-
--- ---- the loops
-
-zeros-byte : (n i : ℕ) → 0 ≡ get_or (zeros n) i 0
-zeros-byte n i = sym (byte-zeros n i)
-
-module _ (s : List ℕ) (at n : ℕ) (fits : at + n ≤ length s) where
-  zeros-fit : at + length (zeros n) ≤ length s
-  zeros-fit = omega (arith, length-zeros n, fits)
-
-  pub clear_none : WrittenUpTo s s at 0 (zeros n)
-  clear_none = up_to-none s at (zeros n) zeros-fit
-
-  pub clear-more : {s₁ : List ℕ} (i : ℕ) → i < n → WrittenUpTo s s₁ at i (zeros n) → WrittenUpTo s (set s₁ (at + i) 0) at (i + 1) (zeros n)
-  clear-more i h w = up_to-more s at (zeros n) zeros-fit i 0 (omega (arith, length-zeros n, h)) (zeros-byte n i) w
-
-  pub clear-all : {s₁ : List ℕ} (i : ℕ) → n ≤ i → WrittenUpTo s s₁ at i (zeros n) → s₁ ≡ with_part s at (zeros n)
-  clear-all i h w = up_to-all s at (zeros n) zeros-fit i (omega (arith, length-zeros n, h)) w
-
--- A byte of a part.
-part-byte : (s : List ℕ) (start n i : ℕ) → i < n → byte_at s (start + i) ≡ get_or (part s start n) i 0
-part-byte s start n i h = sym (get_or-take n (drop start s) i 0 h ∙ get_or-drop start s i 0)
-
-module _ (s : List ℕ) (at : ℕ) (src : List ℕ) (start n : ℕ) (fits : at + n ≤ length s) (within : start + n ≤ length src) where
-  part-fits : at + length (part src start n) ≤ length s
-  part-fits = omega (arith, length_part src start n within, fits)
-
-  pub copy-none : WrittenUpTo s s at 0 (part src start n)
-  copy-none = up_to-none s at (part src start n) part-fits
-
-  pub copy_more : {s₁ : List ℕ} (i : ℕ) → i < n → WrittenUpTo s s₁ at i (part src start n)
-      → WrittenUpTo s (set s₁ (at + i) (get_or src (start + i) 0)) at (i + 1) (part src start n)
-  copy_more i h w = up_to-more s at (part src start n) part-fits i _ (omega (arith, length_part src start n within, h)) (part-byte src start n i h) w
-
-  pub copy-all : {s₁ : List ℕ} (i : ℕ) → n ≤ i → WrittenUpTo s s₁ at i (part src start n) → s₁ ≡ with_part s at (part src start n)
-  copy-all i h w = up_to-all s at (part src start n) part-fits i (omega (arith, length_part src start n within, h)) w
-
-pub move-more : (s : List ℕ) (at by n : ℕ) → at + by + n ≤ length s → {s₁ : List ℕ} (i : ℕ) → i < n → WrittenUpTo s s₁ at i (part s (at + by) n)
-    → WrittenUpTo s (set s₁ (at + i) (get_or s₁ (at + by + i) 0)) at (i + 1) (part s (at + by) n)
-move-more s at by n fits i h w =
-    let e = length_part s (at + by) n fits in
-    let f : at + length (part s (at + by) n) ≤ length s = omega (arith, e, fits) in
-    up_to-more s at (part s (at + by) n) f i _ (omega (arith, e, h))
-    (up_to-later s at (part s (at + by) n) f i (at + by + i) (omega (arith, e, h)) (omega arith) w ∙ part-byte s (at + by) n i h) w
+put-zeros : (s l : List ℕ) (at n e : ℕ) → at + n ≡ e → e ≤ length s → l ≡ replicate (length (take (e - at) (drop at s))) 0
+    → put_mid at (e - at) s l ≡ with_part s at (zeros n)
+put-zeros s l at n e f h g =
+    let left : length (take (e - at) (drop at s)) ≡ n = simp (length-take, length-drop) (omega arith) in
+    let same : l ≡ replicate n 0 = rw left at g in
+    put-part s l (zeros n) at (e - at) (same ∙ replicate-zeros n) (omega (arith, length-zeros n))
 
 -- ---- an entry
 
-pub head-written : (s : List ℕ) (at w : ℕ) (to : ReplyTo) (len : ℕ) {kind : ℕ} {s₁ s₂ s₃ s₄ : List ℕ} → at + 8 ≤ length s
+pub head-written : (s : List ℕ) (at w : ℕ) (to : Option coded.Destination) (len : ℕ) {kind : ℕ} {s₁ s₂ s₃ s₄ : List ℕ} → at + 8 ≤ length s
     → s₁ ≡ with_part s at ((w + 1) ∷ []) → kind ≡ reply_kind (reply_of to) → s₂ ≡ with_part s₁ (at + 1) (kind ∷ []) → s₃ ≡ put_u16 s₂ (at + 2) len → s₄ ≡ with_part s₃ (at + 4) (reply_bytes (reply_of to)) → s₄ ≡ with_part s at (entry_head w (reply_of to) len)
 unfolding entry_head
 head-written s at w to len {kind} {s₁} {s₂} {s₃} h a k b d e =
@@ -127,16 +55,31 @@ head-size : (w : ℕ) (to : Optional Destination) (n : ℕ) → length (entry_he
 unfolding entry_head
 head-size w to n = omega (arith, reply-size to)
 
-pub message-written : (s : List ℕ) (at : ℕ) (message : List ℕ) (start len : ℕ) {s₁ s₂ : List ℕ} → at + message_room ≤ length s → start + len ≤ length message
+message-written : (s : List ℕ) (at : ℕ) (message : List ℕ) (start len : ℕ) {s₁ s₂ : List ℕ} → at + message_room ≤ length s → start + len ≤ length message
     → s₁ ≡ with_part s at (part message start len) → s₂ ≡ with_part s₁ (at + len) (zeros (message_room - len)) → s₂ ≡ with_part s at (padded message_room (part message start len))
 message-written s at message start len h i a b =
     let m = part message start len in
     let l : length m ≡ len = length_part message start len i in
     parts_next s at m (zeros (message_room - len)) len (at + len) (omega (arith, h)) l refl a b ∙ ap (λ (j : ℕ). with_part s at (m ++ zeros (message_room - j))) (sym l)
 
+-- The same where the parts are lent.
+pub message-stored : (s : List ℕ) (at : ℕ) (message : List ℕ) (start len : ℕ) {l z : List ℕ} → at + message_room ≤ length s
+    → start + len ≤ length message → len ≤ message_room → l ≡ take (start + len - start) (drop start message)
+    → z ≡ replicate (length (take (at + message_room - (at + len)) (drop (at + len) (put_mid at (at + len - at) s l)))) 0
+    → put_mid (at + len) (at + message_room - (at + len)) (put_mid at (at + len - at) s l) z ≡ with_part s at (padded message_room (part message start len))
+message-stored s at message start len {l} {z} h i j e f =
+    let m = part message start len in
+    let p = put_mid at (at + len - at) s l in
+    let x : start + len - start ≡ len = omega arith in
+    let n : length m ≡ len = length_part message start len i in
+    let a : p ≡ with_part s at m = put-part s l m at (at + len - at) (rw x at e) (omega (arith, n)) in
+    let size : length p ≡ length s = ap length a ∙ length-with_part s at m (omega (arith, n, h)) in
+    message-written s at message start len h i a
+    (put-zeros p z (at + len) (message_room - len) (at + message_room) (omega arith) (omega (arith, size)) f)
+
 -- ---- taking one out, and one more
 
-pub removed-is : (s : List ℕ) (slot k : ℕ) {at : ℕ} {s₁ s₂ : List ℕ} → slot + slot_size ≤ length s → k < 4 → at ≡ entry_start slot k
+removed-is : (s : List ℕ) (slot k : ℕ) {at : ℕ} {s₁ s₂ : List ℕ} → slot + slot_size ≤ length s → k < 4 → at ≡ entry_start slot k
     → s₁ ≡ with_part s at (part s (at + entry_size) (entry_size * (3 - k))) → s₂ ≡ with_part s₁ (at + entry_size * (3 - k)) (zeros entry_size) → s₂ ≡ removed s slot k
 unfolding removed
 removed-is s slot k {at} h i f a b =
@@ -145,7 +88,24 @@ removed-is s slot k {at} h i f a b =
     parts_next s at (part s (at + entry_size) n) (zeros entry_size) n (at + n) (omega (arith, h, i, f)) l refl a b
     ∙ ap (λ (j : ℕ). with_part s j (part s (j + entry_size) n ++ zeros entry_size)) f
 
-module _ (s : List ℕ) (slot w : ℕ) (to : ReplyTo) (message : List ℕ) (start len : ℕ) {k : ℕ} where
+-- The same where the last part is lent.
+pub removed-moved : (s : List ℕ) (slot k : ℕ) {at : ℕ} {p z : List ℕ} → slot + slot_size ≤ length s → k < 4 → at ≡ entry_start slot k
+    → p ≡ paste s at (drop (at + entry_size) s) (at + entry_size * (3 - k) + entry_size - (at + entry_size))
+    → z ≡ replicate (length (take (at + entry_size * (3 - k) + entry_size - (at + entry_size * (3 - k))) (drop (at + entry_size * (3 - k)) p))) 0
+    → put_mid (at + entry_size * (3 - k)) (at + entry_size * (3 - k) + entry_size - (at + entry_size * (3 - k))) p z ≡ removed s slot k
+removed-moved s slot k {at} {p} {z} h i f e g =
+    let n = entry_size * (3 - k) in
+    let m = part s (at + entry_size) n in
+    let x : at + n + entry_size - (at + entry_size) ≡ n = omega arith in
+    let l : length m ≡ n = length_part s (at + entry_size) n (omega (arith, h, i, f)) in
+    let moved : p ≡ paste s at (drop (at + entry_size) s) n = rw x at e in
+    let a : p ≡ with_part s at m = moved ∙ (append_assoc (take at s) m (drop (at + n) s)
+    ∙ ap (λ (j : ℕ). take at s ++ (m ++ drop (at + j) s)) (sym l)) in
+    let size : length p ≡ length s = ap length a ∙ length-with_part s at m (omega (arith, l, h, i, f)) in
+    removed-is s slot k h i f a
+    (put-zeros p z (at + n) entry_size (at + n + entry_size) refl (omega (arith, size, h, i, f)) g)
+
+module _ (s : List ℕ) (slot w : ℕ) (to : Option coded.Destination) (message : List ℕ) (start len : ℕ) {k : ℕ} where
   pub push-full : (k ≡ length (read_session s slot).queue) × (k ≤ 4) → 4 ≤ k → s ≡ pushed s slot w (reply_of to) (part message start len)
   unfolding pushed
   push-full h i =

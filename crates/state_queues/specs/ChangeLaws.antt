@@ -28,10 +28,9 @@ use Rattle.state.proofs.ReadLaws.{read-entry, holds-entry, slot-parts, read-sess
 use Rattle.state.proofs.ChangeLaws.{set-bytes, change-queue, append-bytes, remove-bytes}
 use Rattle.state.proofs.KeepLaws.{append-messages, remove-messages, made-queue}
 use Rattle.state.specs.Queue.{nothing, message, oldest}
-use Rattle.state_queues.specs.declared.OldestEntry.{OldestEntry}
-use Rattle.state_queues.specs.declared.OldestEntry.TheVariants.{Nothing, Entry}
 use Rattle.state_queues.specs.ReadLaws.{oldest-nothing, oldest-below, oldest-message}
 use Rattle.state_queues.specs.Queue.{message_span, oldest_in, without, removed, entry_head, entry_of, pushed}
+use Rattle.std.specs.Prelude.{Option, Some, None}
 
 -- ---- a message of the queue and those before and after it
 
@@ -157,14 +156,14 @@ module _ {s : List ℕ} {slot : ℕ} {S : Session} (made : WellMade S) (holds : 
       entry-stands x.here w.1 (subst (λ (i : ℕ). HoldsAt s (entry_start slot i) (entry_bytes x.here)) x.index e)
       (omega (arith, slot-inside, h, made.up_to_four))
 
-  module _ (w : ℕ) {r : OldestEntry} (is : r ≡ oldest_in w (read_session s slot).queue) where
-    pub live-nothing : r ≡ Nothing → oldest w S.queue ≡ nothing
+  module _ (w : ℕ) {r : Option ℕ} (is : r ≡ oldest_in w (read_session s slot).queue) where
+    pub live-nothing : r ≡ None → oldest w S.queue ≡ nothing
     live-nothing e = ap (oldest w) (sym live-queue) ∙ oldest-nothing s slot w is e
 
-    pub live_below : (k : ℕ) → r ≡ Entry k → k < length S.queue
+    pub live_below : (k : ℕ) → r ≡ Some k → k < length S.queue
     live_below k e = omega (arith, ap length live-queue, oldest-below s slot w is k e)
 
-    pub live-oldest : (k : ℕ) → r ≡ Entry k → oldest w S.queue ≡ message (read_entry s (entry_start slot k)) (without k S.queue)
+    pub live-oldest : (k : ℕ) → r ≡ Some k → oldest w S.queue ≡ message (read_entry s (entry_start slot k)) (without k S.queue)
     live-oldest k e =
         ap (oldest w) (sym live-queue)
         ∙ (oldest-message s slot w is k e ∙ ap (λ (l : List Queued). message (read_entry s (entry_start slot k)) (without k l)) live-queue)

@@ -1,34 +1,28 @@
 -- The queue of a session in the bytes of a state, for a slot that starts at a place: what is read of it, and the bytes once a message is
 -- taken out or one more is queued. 01, Moves: "a queue of up to four messages"; receive "takes the oldest queued message of its operation";
 -- send: "queued at a live one". All of it is total on any bytes.
-use Rattle.std.specs.Prelude.{◌≡◌, List, [], ◌∷◌, ◌++◌, ℕ, zero, suc, ◌+◌, ◌-◌, ◌*◌, ◌≤◌, eqb, ltb, length}
+use Rattle.std.specs.Prelude.{List, [], ◌∷◌, ◌++◌, ℕ, zero, suc, ◌+◌, ◌-◌, ◌*◌, eqb, ltb, length}
 use Rattle.basics.specs.Choice.{pick}
 use Rattle.wire.specs.Wire.{u16_at, part, with_part}
 use Rattle.state.specs.Places.{message_room, entry_size, entry_start}
 use Rattle.network_syntax.specs.Syntax.{Optional}
 use Rattle.state.specs.Session.{Destination, Queued}
-use Rattle.state.specs.Bytes.{zeros, padded, reply_kind, reply_bytes, read_queue, read_session}
+use Rattle.state.specs.Bytes.{zeros, padded, reply_kind, reply_bytes, read_session}
 use Rattle.wire.specs.Wire.{u16_bytes}
 use Rattle.state.specs.Queue.{QueueSplit, nothing, message, keeping}
-use Rattle.state_queues.specs.declared.OldestEntry.{OldestEntry}
-use Rattle.state_queues.specs.declared.OldestEntry.TheVariants.{Nothing, Entry}
 use Rattle.state_queues.specs.declared.Span.{Span}
+use Rattle.std.specs.Prelude.{Option, Some, None}
 
 -- The place and the length of the message's bytes in the entry k.
 unfoldable pub message_span : List ℕ → ℕ → ℕ → Span
 message_span s slot k = record { start = entry_start slot k + 8; len = u16_at s (entry_start slot k + 2) }
 
--- r is how many of the n entries from `at` on are used.
-pub record Counted (s : List ℕ) (n at r : ℕ) : Type 0 where
-  pub used : r ≡ length (read_queue s n at)
-  pub bounded : r ≤ n
-
 -- "the oldest queued message of its operation": the index, counted from k, of the first message of the O row w.
-unfoldable pub oldest_from : ℕ → ℕ → List Queued → OldestEntry
-oldest_from k w [] = Nothing
-oldest_from k w (m ∷ l) = pick (eqb m.operation w) (Entry k) (oldest_from (suc k) w l)
+unfoldable pub oldest_from : ℕ → ℕ → List Queued → Option ℕ
+oldest_from k w [] = None
+oldest_from k w (m ∷ l) = pick (eqb m.operation w) (Some k) (oldest_from (suc k) w l)
 
-abbrev pub oldest_in : ℕ → List Queued → OldestEntry
+abbrev pub oldest_in : ℕ → List Queued → Option ℕ
 oldest_in w l = oldest_from 0 w l
 
 -- The message at an index and the others in their order; nothing where there is none.
@@ -38,9 +32,9 @@ taken_at zero (m ∷ l) = message m l
 taken_at (suc k) (m ∷ l) = keeping m (taken_at k l)
 
 -- What a receive takes where the oldest is at that index (ReadLaws, `oldest-taken`).
-abbrev pub taken_of : OldestEntry → List Queued → QueueSplit
-taken_of Nothing l = nothing
-taken_of (Entry k) l = taken_at k l
+abbrev pub taken_of : Option ℕ → List Queued → QueueSplit
+taken_of None l = nothing
+taken_of (Some k) l = taken_at k l
 
 -- The queue without the message at an index; the others keep their order.
 unfoldable pub without : ℕ → List Queued → List Queued

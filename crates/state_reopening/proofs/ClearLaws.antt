@@ -1,36 +1,30 @@
 -- Laws of rows set to undone: one for each way out of the functions.
 use Prim.Native.Nat.{ℕ, ◌+◌, ◌-◌, ◌/◌, ◌<◌, ◌≤◌}
-use mathlib.Core.Path.{◌≡◌, refl, sym, ◌∙◌, ap, subst}
+use mathlib.Core.Path.{◌≡◌, refl, sym, ◌∙◌, ap}
 use mathlib.Core.List.{List}
-use mathlib.Core.Bool.{Bool, true, false, ◌&&◌, ◌||◌}
+use mathlib.Core.Bool.{Bool, true, false, not, ◌&&◌, ◌||◌}
 use mathlib.Core.Logic.{inl, inr}
 use native.Mathlib.Omega.{arith}
 use native.Mathlib.Nat.{add-zero}
-use native.Mathlib.Numerals.{add-one}
 use native.Mathlib.Decide.{dec_lt}
 use lib.Dec.{eqb, leb, ltb}
-use lib.ListN.{length}
+use lib.ListN.{length, get_or}
 use borrow.Author.Tests.{eq-eqb, ne_eqb, lt-ltb, le-ltb, le-leb, lt-leb}
+use Rattle.tree_forest.specs.Compare.{Compare, lt, eq, gt, compare}
 use Rattle.wire.specs.Wire.{byte_at, with_part}
 use Rattle.wire.specs.WireLaws.{with_part-inside, with_part-outside, length-with_part}
 use Rattle.basics.specs.Choice.{pick}
 use Rattle.basics.specs.TestLaws.{and-false, or-false}
 use Rattle.network_syntax.specs.Rows.{has_row}
-use Rattle.network.specs.Layout.{behaviour_count, behaviour_at}
-use Rattle.network.specs.Rows.{field_a, field_b}
-use Rattle.network.specs.Decode.{behaviour_to, behaviour_of}
-use Rattle.network_rows.specs.declared.BranchRow.{BranchRow}
-use Rattle.network_rows.specs.Readers.{BranchAt}
-use Rattle.network_row_parts.specs.declared.Subs.{Subs}
-use Rattle.network_row_parts.specs.Parts.{subs_of}
-use Rattle.network_row_parts.specs.RowSets.{itself_row, rows_to, branch_rows, one_branch_rows, sub_rows}
-use Rattle.network_row_parts.specs.RowSetLaws.{rows-by, row-sets-none, branches-none, branches-one, branches-more}
+use Rattle.network.specs.Decode.{behaviour_of}
+use Rattle.network_row_parts.specs.RowSets.{itself_row}
 use Rattle.state.specs.Places.{slot_size, row_size, rows_place, kept_place, row_start}
 use Rattle.state.specs.Bytes.{zeros, progress_bytes}
 use Rattle.state.proofs.PartLaws.{length-zeros, byte-zeros}
 use Rattle.state_progress.specs.declared.Progress.TheVariants.{Undone}
 use Rattle.state_progress.specs.Meaning.{meaning}
-use Rattle.state_reopening.specs.Reopening.{in_rows, with_undone, rows_below, Clears, ClearsBranches}
+use Rattle.state_rows.specs.Marks.{mark_for, RowsOf}
+use Rattle.state_reopening.specs.Reopening.{in_rows, with_undone, rows_below, Clears}
 use Rattle.state_reopening.specs.ReopeningLaws.{cleared-are}
 
 -- ---- one after another
@@ -94,20 +88,6 @@ inside-row r slot k h l m =
     let e : (k - (slot + rows_place)) / row_size ≡ r = omega arith in
     rw (le-leb (slot + rows_place) k (omega arith), lt-ltb k (slot + kept_place) (omega arith), eq-eqb ((k - (slot + rows_place)) / row_size) r e) refl
 
-past-slot : (r slot k : ℕ) → slot + kept_place ≤ k → in_rows (itself_row r) slot k ≡ false
-unfolding in_rows
-past-slot r slot k h = rw (le-ltb k (slot + kept_place) h, and-false (leb (slot + rows_place) k)) refl
-
-past-rows : (r slot k : ℕ) → 256 ≤ r → in_rows (itself_row r) slot k ≡ false
-past-rows r slot k h = by (dec_lt k (slot + kept_place))
-  where
-    by : Dec (k < slot + kept_place) → in_rows (itself_row r) slot k ≡ false
-    by (yes m) = before-row r slot k (omega arith)
-    by (no m) = past-slot r slot k (omega arith)
-
-pub clear-past : (slot r : ℕ) (s : List ℕ) → 256 ≤ r → Clears (itself_row r) slot s s
-clear-past slot r s h = record { long = refl; bytes = λ k. rw (past-rows r slot k h) refl }
-
 six-zeros : progress_bytes (meaning Undone) ≡ zeros row_size
 unfolding progress_bytes
 six-zeros = refl
@@ -143,99 +123,83 @@ clear-put slot r s o {i} h l f e =
         let g = (with_part-outside s at (zeros row_size) (omega arith) k 1 (inr (omega arith))).bytes 0 (omega arith) in
         rw (after-row r slot k (omega arith)) (rw (add-zero k) at g)
 
-pub ruleset clear-laws = (clear-past, clear-put)
+-- ---- the marked rows
 
--- ---- behaviours
+-- The rows below k that are marked.
+abbrev pub marked_below : List ℕ → ℕ → ℕ → Bool
+marked_below marks k j = ltb j k && not (eqb (get_or marks j 0) 0)
 
-pub row-alone : (s : List ℕ) (slot x r left : ℕ) (a b : List ℕ) → x ≡ r → Clears (itself_row x) slot a b → left ≡ 0 → Clears (rows_to s left r) slot a b
-row-alone s slot x r left a b e c z =
-    clears-as (itself_row x) (rows_to s left r) (λ i. ap (λ (y : ℕ). itself_row y i) e ∙ row-sets-none s r i ∙ ap (λ (y : ℕ). rows_to s y r i) (sym z)) c
+marked-next : (marks : List ℕ) (k : ℕ) → (get_or marks k 0 ≡ 0 → ⊥) → (j : ℕ) → marked_below marks (k + 1) j ≡ marked_below marks k j || itself_row k j
+unfolding itself_row
+marked-next marks k h j = by (compare j k)
+  where
+    by : Compare j k → marked_below marks (k + 1) j ≡ marked_below marks k j || eqb j k
+    by (lt l) = rw (lt-ltb j (k + 1) (omega arith), lt-ltb j k l, ne_eqb j k (λ e. omega arith)) (or-false (not (eqb (get_or marks j 0) 0)))
+    by (eq e) =
+        rw (lt-ltb j (k + 1) (omega arith), le-ltb j k (omega arith), eq-eqb j k e, ne_eqb (get_or marks j 0) 0 (λ z. h (ap (λ (i : ℕ). get_or marks i 0) (sym e) ∙ z))) refl
+    by (gt l) = rw (le-ltb j (k + 1) (omega arith), le-ltb j k (omega arith), ne_eqb j k (λ e. omega arith)) refl
 
-module _ (s : List ℕ) (slot x r left : ℕ) (a b : List ℕ) (e : x ≡ r) (c : Clears (itself_row x) slot a b) (h : left ≡ 0 → ⊥) {v : Subs} (f : v ≡ subs_of s r) where
-  own-rows : {y : Subs} → v ≡ y → (i : ℕ) → rows_to s left r i ≡ itself_row x i || sub_rows s (left - 1) y i
-  own-rows {y} g i = rows-by s left r h f g i ∙ ap (λ (z : ℕ). itself_row z i || sub_rows s (left - 1) y i) (sym e)
+marked-same : (marks : List ℕ) (k : ℕ) → get_or marks k 0 ≡ 0 → (j : ℕ) → marked_below marks k j ≡ marked_below marks (k + 1) j
+marked-same marks k h j = by (compare j k)
+  where
+    by : Compare j k → marked_below marks k j ≡ marked_below marks (k + 1) j
+    by (lt l) = rw (lt-ltb j (k + 1) (omega arith), lt-ltb j k l) refl
+    by (eq e) = rw (lt-ltb j (k + 1) (omega arith), le-ltb j k (omega arith), eq-eqb (get_or marks j 0) 0 (ap (λ (i : ℕ). get_or marks i 0) e ∙ h)) refl
+    by (gt l) = rw (le-ltb j (k + 1) (omega arith), le-ltb j k (omega arith)) refl
 
-  pub row-single : v ≡ Subs.Nothing → Clears (rows_to s left r) slot a b
-  unfolding sub_rows
-  row-single g = clears-as (itself_row x) (rows_to s left r) (λ i. or-false (itself_row x i) ∙ sym (own-rows g i)) c
+-- The marked rows below k are undone, and nothing else is changed.
+pub record Reopened (marks : List ℕ) (slot : ℕ) (s t : List ℕ) (k : ℕ) : Type 0 where
+  pub clears : Clears (marked_below marks k) slot s t
 
-  pub row_one : {j : ℕ} (o : List ℕ) → v ≡ Subs.One j → Clears (rows_to s (left - 1) j) slot b o → Clears (rows_to s left r) slot a o
-  unfolding sub_rows
-  row_one {j} o g d = clears-both (itself_row x) (rows_to s (left - 1) j) (rows_to s left r) c d (own-rows g)
-
-  pub row-two : {j k : ℕ} (m o : List ℕ) → v ≡ Subs.Two j k → Clears (rows_to s (left - 1) j) slot b m → Clears (rows_to s (left - 1) k) slot m o
-      → Clears (rows_to s left r) slot a o
-  unfolding sub_rows
-  row-two {j} {k} m o g d t =
-      clears-both (itself_row x) (λ i. rows_to s (left - 1) j i || rows_to s (left - 1) k i) (rows_to s left r) c
-      (clears-both (rows_to s (left - 1) j) (rows_to s (left - 1) k)
-      (λ i. rows_to s (left - 1) j i || rows_to s (left - 1) k i) d t (λ i. refl))
-      (own-rows g)
-
-  pub row-run : {first n : ℕ} (o : List ℕ) {at y : ℕ} → v ≡ Subs.Run first n → at ≡ behaviour_at s first → y ≡ first
-      → ClearsBranches s slot y at n (left - 1) b o → Clears (rows_to s left r) slot a o
-  unfolding sub_rows
-  row-run {first} {n} o {at} {y} g p q d =
-      clears-both (itself_row x) (branch_rows s (left - 1) first n) (rows_to s left r) c
-      ((subst (λ (z : ℕ). ClearsBranches s slot z at n (left - 1) b o) q d).clears p) (own-rows g)
-
-pub ruleset row_laws = (row-alone, row-single, row_one, row-two, row-run)
-
--- ---- branches
-
-next-at : (s : List ℕ) (r : ℕ) → behaviour_at s r + 10 ≡ behaviour_at s (r + 1)
-unfolding behaviour_at
-next-at s r = omega arith
-
-pub no-branches : (s : List ℕ) (slot r at n left : ℕ) (a b : List ℕ) → Clears (itself_row r) slot a b → n ≡ 0 → ClearsBranches s slot r at n left a b
-no-branches s slot r at n left a b c z = record {
-  clears = λ e. clears-as (itself_row r) (branch_rows s left r n) (λ i. branches-none s left r i ∙ ap (λ (m : ℕ). branch_rows s left r m i) (sym z)) c;
+pub reopened-none : (marks : List ℕ) (slot : ℕ) (s : List ℕ) → Reopened marks slot s s 0
+unfolding in_rows
+reopened-none marks slot s = record {
+  clears = record {
+    long = refl;
+    bytes = λ k.
+        let j = (k - (slot + rows_place)) / row_size in
+        rw (le-ltb j 0 (omega arith), and-false (ltb k (slot + kept_place)), and-false (leb (slot + rows_place) k)) refl;
+  };
 }
 
-module _ (s : List ℕ) (slot r at n left : ℕ) (a b m o : List ℕ) (c : Clears (itself_row r) slot a b) {f : BranchRow} (p : BranchAt s at f)
-    (d : Clears (rows_to s left f.input) slot b m) (t : Clears (rows_to s left f.follow) slot m o) where
-  abbrev both-rows : ℕ → Bool
-  both-rows i = rows_to s left f.input i || rows_to s left f.follow i
-
-  -- The rows of the first branch.
-  abbrev first_rows : ℕ → Bool
-  first_rows i = itself_row r i || both-rows i
-
-  first-clears : Clears first_rows slot a o
-  first-clears =
-      clears-both (itself_row r) both-rows first_rows c
-      (clears-both (rows_to s left f.input) (rows_to s left f.follow) both-rows d t (λ i. refl)) (λ i. refl)
-
-  input-is : at ≡ behaviour_at s r → field_a s (behaviour_at s r) ≡ f.input
-  input-is e = sym (p.input ∙ ap (field_a s) e)
-
-  follow-is : at ≡ behaviour_at s r → field_b s (behaviour_at s r) ≡ f.follow
-  follow-is e = sym (p.follow ∙ ap (field_b s) e)
-
-  first-is : at ≡ behaviour_at s r → (i : ℕ) → one_branch_rows s left r i ≡ first_rows i
-  first-is e i = rw (input-is e, follow-is e) refl
-
-  pub last-branch : n ≡ 1 → ClearsBranches s slot r at n left a o
-  last-branch z = record {
-    clears = λ e.
-        clears-as first_rows (branch_rows s left r n)
-        (λ i. sym (first-is e i) ∙ (branches-one s left r i ∙ ap (λ (m : ℕ). branch_rows s left r m i) (sym z))) first-clears;
+module _ (marks : List ℕ) (slot k : ℕ) (s t : List ℕ) (c : Reopened marks slot s t k) where
+  pub reopened-next : {o : List ℕ} {i : ℕ} → k < 256 → slot + slot_size ≤ length t → (get_or marks k 0 ≡ 0 → ⊥) → i ≡ row_start slot k
+      → o ≡ with_part t i (progress_bytes (meaning Undone)) → Reopened marks slot s o (k + 1)
+  reopened-next {o} l z h f e = record {
+    clears = clears-both (marked_below marks k) (itself_row k) (marked_below marks (k + 1)) c.clears (clear-put slot k t o l z f e) (marked-next marks k h);
   }
 
-  pub more-branches : (w : List ℕ) → (n ≡ 0 → ⊥) → (n ≡ 1 → ⊥) → ClearsBranches s slot (r + 1) (at + 10) (n - 1) left o w
-      → ClearsBranches s slot r at n left a w
-  more-branches w y z v = record {
-    clears = λ e.
-        clears-both first_rows (branch_rows s left (r + 1) (n - 1)) (branch_rows s left r n) first-clears
-        (v.clears (ap (λ (y : ℕ). y + 10) e ∙ next-at s r)) (λ i. branches-more s left r n i y z ∙ rw (first-is e i, add-one r) refl);
-  }
-
-pub ruleset branches-laws = (no-branches, last-branch, more-branches)
+  pub reopened-same : get_or marks k 0 ≡ 0 → Reopened marks slot s t (k + 1)
+  reopened-same h = record { clears = clears-as (marked_below marks k) (marked_below marks (k + 1)) (marked-same marks k h) c.clears }
 
 -- ---- the whole
 
-pub reopened : (s : List ℕ) (slot r n : ℕ) (a b : List ℕ) → n ≡ behaviour_count s → Clears (rows_to s n r) slot a b → b ≡ with_undone (rows_below s r) slot a
-unfolding rows_to behaviour_of
-reopened s slot r n a b e c = cleared-are (clears-as (rows_to s n r) (rows_below s r) (λ i. ap (λ (d : ℕ). has_row i (behaviour_to s d r)) e) c)
+-- Only what f says of the rows 0 to 255 counts.
+in-below : (f g : ℕ → Bool) (slot k : ℕ) → ((i : ℕ) → i < 256 → f i ≡ g i) → in_rows f slot k ≡ in_rows g slot k
+unfolding in_rows
+in-below f g slot k e = by (dec_lt k (slot + rows_place)) (dec_lt k (slot + kept_place))
+  where
+    j : ℕ
+    j = (k - (slot + rows_place)) / row_size
 
-pub ruleset reopen-laws = (reopened)
+    by : Dec (k < slot + rows_place) → Dec (k < slot + kept_place)
+        → leb (slot + rows_place) k && (ltb k (slot + kept_place) && f ((k - (slot + rows_place)) / row_size))
+        ≡ leb (slot + rows_place) k && (ltb k (slot + kept_place) && g ((k - (slot + rows_place)) / row_size))
+    by (yes l) m = rw (lt-leb (slot + rows_place) k l) refl
+    by (no l) (yes m) =
+        ap (λ (x : Bool). leb (slot + rows_place) k && (ltb k (slot + kept_place) && x)) (e ((k - (slot + rows_place)) / row_size) (omega arith))
+    by (no l) (no m) = rw (le-ltb k (slot + kept_place) (omega arith)) refl
+
+mark-back : (t : Bool) → not (eqb (mark_for t) 0) ≡ t
+mark-back true = refl
+mark-back false = refl
+
+pub reopened-all : (file marks : List ℕ) (slot r k : ℕ) (s t : List ℕ) → RowsOf file r marks → 256 ≤ k → k ≤ 256 → Reopened marks slot s t k
+    → t ≡ with_undone (rows_below file r) slot s
+reopened-all file marks slot r k s t m l h c =
+    let same : (i : ℕ) → i < 256 → marked_below marks k i ≡ rows_below file r i =
+    λ i u. rw (lt-ltb i k (omega arith), m.rows i u) (mark-back (has_row i (behaviour_of file r))) in
+    cleared-are (record {
+      long = c.clears.long;
+      bytes = λ p. c.clears.bytes p ∙ ap (λ (x : Bool). pick x 0 (byte_at s p)) (in-below (marked_below marks k) (rows_below file r) slot p same);
+    })

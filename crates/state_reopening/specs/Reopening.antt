@@ -4,9 +4,7 @@ use Rattle.std.specs.Prelude.{◌≡◌, List, [], ◌∷◌, Bool, ◌&&◌, �
 use Rattle.wire.specs.Wire.{byte_at}
 use Rattle.basics.specs.Choice.{pick}
 use Rattle.network_syntax.specs.Rows.{has_row}
-use Rattle.network.specs.Layout.{behaviour_at}
 use Rattle.network.specs.Decode.{behaviour_of}
-use Rattle.network_row_parts.specs.RowSets.{branch_rows}
 use Rattle.state.specs.Places.{row_size, rows_place, kept_place}
 
 -- Does the place k belong to the progress of a row of which f holds, in the slot that starts at `slot`? "2,416 to 3,951: the progress of B rows
@@ -31,7 +29,3 @@ rows_below file r i = has_row i (behaviour_of file r)
 pub record Clears (f : ℕ → Bool) (slot : ℕ) (before after : List ℕ) : Type 0 where
   pub long : length after ≡ length before
   pub bytes : (k : ℕ) → byte_at after k ≡ pick (in_rows f slot k) 0 (byte_at before k)
-
--- The same for the n branches from row r on, which stands at `at`.
-pub record ClearsBranches (s : List ℕ) (slot r at n d : ℕ) (before after : List ℕ) : Type 0 where
-  pub clears : at ≡ behaviour_at s r → Clears (branch_rows s d r n) slot before after

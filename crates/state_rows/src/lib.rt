@@ -41,27 +41,18 @@ fn mark(marks: &mut [u8; 256], r: usize)
 fn mark_row(s: &[u8], marks: &mut [u8; 256], r: u16, left: u16)
     ensures { Adds (rows_to s.now left r) marks.old marks.new }
 {
-    mark(marks, wire::index(r));
+    mark(marks, usize::from(r));
     if left == 0 {
         return;
     }
     match network_row_parts::subs_of(s, r) {
-        Subs::Nothing => {
-            return;
-        }
-        Subs::One(a) => {
-            mark_row(s, marks, a, left - 1);
-            return;
-        }
+        Subs::Nothing => (),
+        Subs::One(a) => mark_row(s, marks, a, left - 1),
         Subs::Two(a, b) => {
             mark_row(s, marks, a, left - 1);
             mark_row(s, marks, b, left - 1);
-            return;
         }
-        Subs::Run(first, n) => {
-            mark_branches(s, marks, wire::index(first), n, left - 1);
-            return;
-        }
+        Subs::Run(first, n) => mark_branches(s, marks, usize::from(first), n, left - 1),
     }
 }
 
@@ -97,10 +88,10 @@ fn allowing(done: bool, waits: bool, received: bool, parts: u16) -> Allowed
     ensures { result ≡ allowing done waits received parts }
 {
     Allowed {
-        done: done,
-        waits: waits,
-        received: received,
-        parts: parts,
+        done,
+        waits,
+        received,
+        parts,
     }
 }
 
@@ -109,28 +100,25 @@ fn allowed_by(row: BehaviourRow) -> Allowed
     ensures { result ≡ allowed_by row }
 {
     match row {
-        BehaviourRow::Nil => allowing(false, false, false, 0),
-        BehaviourRow::OneWay(_, _) => allowing(true, false, false, 0),
-        BehaviourRow::RequestResponse(_, _, _, _) => allowing(true, false, true, 0),
-        BehaviourRow::Notification(_, _) => allowing(true, false, false, 0),
-        BehaviourRow::SolicitResponse(_, _, _) => allowing(true, true, false, 0),
-        BehaviourRow::If(_, _, _) => allowing(false, false, false, 2),
-        BehaviourRow::While(_, _) => allowing(true, false, false, 1),
-        BehaviourRow::Sequence(_, _) => allowing(false, false, false, 0),
-        BehaviourRow::Parallel(_, _) => allowing(false, false, false, 0),
-        BehaviourRow::Assign(_, _) => allowing(true, false, false, 0),
+        BehaviourRow::OneWay(..) | BehaviourRow::Notification(..) | BehaviourRow::Assign(..) => {
+            allowing(true, false, false, 0)
+        }
+        BehaviourRow::RequestResponse(..) => allowing(true, false, true, 0),
+        BehaviourRow::SolicitResponse(..) => allowing(true, true, false, 0),
+        BehaviourRow::If(..) => allowing(false, false, false, 2),
+        BehaviourRow::While(..) => allowing(true, false, false, 1),
         BehaviourRow::Choice(_, n) => allowing(false, false, false, n),
-        BehaviourRow::Branch(_, _) => allowing(false, false, false, 0),
-        BehaviourRow::Unknown => allowing(false, false, false, 0),
+        _ => allowing(false, false, false, 0),
     }
 }
 
 // What progress row i can have in a session that runs the marked rows.
+#[tactic(auto, unfolding(crate::specs::Allowed::allowed_at, crate::specs::Marks::marked))]
 fn allowed_at(file: &[u8], marks: &[u8; 256], i: u16) -> Allowed
     requires { i < 256 }
     ensures { result ≡ allowed_at file.now marks.now i }
 {
-    let k = wire::index(i);
+    let k = usize::from(i);
     if marks[k] == 0 {
         return allowing(false, false, false, 0);
     }
@@ -138,20 +126,22 @@ fn allowed_at(file: &[u8], marks: &[u8; 256], i: u16) -> Allowed
 }
 
 // Is it a destination of replies in this file?
+#[tactic(auto, using(crate::proofs::SuitLaws::service_lengths))]
 pub fn is_destination(file: &[u8], d: Destination) -> bool
     ensures { result ≡ is_destination (network_of file.now) (behaviour_count file.now) (destination_of d) }
 {
     match d {
-        Destination::Outsider(_number) => true,
+        Destination::Outsider(_) => true,
         Destination::WaitingRow(q, n, r) => {
-            let service = wire::byte_to_u16(q) < network_layout::service_count(file);
-            let row = r < network_layout::behaviour_count(file);
-            network_layout::both(service, network_layout::both(n <= 3, row))
+            u16::from(q) < network_layout::service_count(file)
+                && n <= 3
+                && r < network_layout::behaviour_count(file)
         }
     }
 }
 
 // Is the progress that stands at `at` one of those?
+#[tactic(auto, unfolding(crate::specs::Allowed::allows))]
 fn permits(file: &[u8], s: &[u8], a: Allowed, at: usize) -> bool
     requires { at + row_size ≤ 0x100000000 }
     ensures { result ≡ allows (network_of file.now) (behaviour_count file.now) a (read_progress s.now at) }
@@ -160,22 +150,20 @@ fn permits(file: &[u8], s: &[u8], a: Allowed, at: usize) -> bool
         Progress::Undone => true,
         Progress::Done => a.done,
         Progress::Waits => a.waits,
-        Progress::Taken(k) => wire::byte_to_u16(k) < a.parts,
-        Progress::Received(d) => network_layout::both(a.received, is_destination(file, d)),
+        Progress::Taken(k) => u16::from(k) < a.parts,
+        Progress::Received(d) => a.received && is_destination(file, d),
     }
 }
 
 // Does the progress of row i suit a session that runs the marked rows?
+#[tactic(auto, unfolding(crate::specs::Allowed::allows, state::specs::Bytes::read_progress))]
 fn row_suits(file: &[u8], s: &[u8], marks: &[u8; 256], at: usize, i: u16) -> bool
     requires { (i < 256) × (at + rows_size ≤ 0x100000000) }
     ensures { result ≡ allows (network_of file.now) (behaviour_count file.now)
         (allowed_at file.now marks.now i) (read_progress s.now (at + row_size * i)) }
 {
-    let place = at + state::ROW * wire::index(i);
-    if wire::byte_at(s, place) == 0 {
-        return true;
-    }
-    permits(file, s, allowed_at(file, marks, i), place)
+    let place = at + state::ROW * usize::from(i);
+    wire::byte_at(s, place) == 0 || permits(file, s, allowed_at(file, marks, i), place)
 }
 
 // Does the progress of each row suit a session that runs the marked rows? The rows' progress starts at `at`.
@@ -183,9 +171,7 @@ pub fn rows_suit(file: &[u8], s: &[u8], marks: &[u8; 256], at: usize) -> bool
     requires { at + rows_size ≤ 0x100000000 }
     ensures { result ≡ permitted file.now marks.now s.now at 256 }
 {
-    let mut i: u16 = 256;
-    while 0 < i {
-        i -= 1;
+    for i in (0u16..256).rev() {
         if !row_suits(file, s, marks, at, i) {
             return false;
         }

@@ -2,7 +2,7 @@
 use mathlib.Core.Path.{◌≡◌, refl, sym, ap, ◌∙◌}
 use mathlib.Core.List.{List}
 use mathlib.Core.Bool.{Bool, true, false, not, ◌&&◌, ◌||◌}
-use Prim.Native.Nat.{ℕ, zero, suc, ◌+◌, ◌-◌, ◌*◌, ◌/◌, ◌%◌, ◌≤◌, ◌<◌}
+use Prim.Native.Nat.{ℕ, zero, suc, ◌+◌, ◌-◌, ◌≤◌, ◌<◌}
 use native.Mathlib.Nat.{add-zero, zero-add}
 use native.Mathlib.Omega.{arith}
 use lib.ListN.{length}
@@ -12,17 +12,16 @@ use Rattle.basics.specs.Choice.{pick}
 use Rattle.basics.specs.TestLaws.{and_left}
 use Rattle.network_syntax.specs.Rows.{entry}
 use Rattle.network_syntax.specs.Syntax.{Optional, none, some, Behaviour, Service}
-use Rattle.wire.specs.Wire.{byte_at}
 use Rattle.tree.specs.Encode.{Octets}
 use Rattle.network.specs.Layout.{behaviour_count, service_count}
 use Rattle.network.specs.Rows.{kind_at, is_branch_kind, is_choice_kind, starter_row, client_row, no_row, starter_fits, client_fits}
 use Rattle.network.specs.Form.{WellFormed}
 use Rattle.network.specs.Decode.{service_of, rows_from, network_of, behaviour_of, optional_behaviour}
 use Rattle.network.proofs.RowLaws.{service-kept}
-use Rattle.state.specs.Places.{slot_size, queue_place, rows_place}
-use Rattle.state.specs.Bytes.{read_queue, read_session, read_slot, read_state}
+use Rattle.state.specs.Places.{queue_place, rows_place}
+use Rattle.state.specs.Bytes.{read_queue, read_session, read_state}
 use Rattle.state.specs.Shape.{service_of_row, behaviour_in, suits, quiet_elsewhere, suits_queue, suits_behaviour, suits_all_keys, decode_state}
-use Rattle.state.specs.Form.{slot_form, slots_stand}
+use Rattle.state.specs.Form.{slots_stand}
 use Rattle.state.proofs.FormLaws.{decode-slots}
 use Rattle.state_rows.specs.Marks.{RowsOf}
 use Rattle.state_rows.specs.Allowed.{permitted}
@@ -119,25 +118,6 @@ module _ (file s : List ℕ) (q n at v r : ℕ) (t : TopRow file v n r) (e : v �
     }
 
 pub ruleset session-laws = (session-none, session-queue, session-rows)
-
--- ---- a slot
-
-module _ (file s : List ℕ) (k v : ℕ) (e : v ≡ k) (f : Bool) (g : f ≡ slot_form s (slot_size * v)) where
-  pub slot-formless : not f ≡ true → SlotTells file s k false
-  slot-formless h = record { tells = λ w. rw (sym e, sym g ∙ not-true f h) }
-
-  module _ (h : not f ≡ false) (b : ℕ) (i : b ≡ byte_at s (slot_size * v)) where
-    pub slot-is-free : b ≡ 0 → SlotTells file s k true
-    unfolding read_slot
-    slot-is-free j = record { tells = λ w. rw (sym e, sym g ∙ not-false f h, sym i ∙ j) }
-
-    pub slot-is-live : (x : Bool) → (b ≡ 0 → ⊥) → SessionTells file s (k / 4) (k % 4) (slot_size * v) x → SlotTells file s k x
-    unfolding read_slot
-    slot-is-live x j t = record {
-      tells = λ w. t.tells w ∙ rw (sym e, sym g ∙ not-false f h, sym i, ne_eqb b 0 j);
-    }
-
-pub ruleset slot_laws = (slot-formless, slot-is-free, slot-is-live)
 
 -- ---- the whole
 

@@ -11,35 +11,30 @@ ghost use Rattle.state.specs.Shape.{suits_reply, suits_queue, has_no_key, keys_d
 ghost use Rattle.state_destinations.specs.Meaning.{reply_of};
 ghost use Rattle.state_shape.specs.Stands.{suits_entry, TopRow, SessionTells, SlotTells, Tells};
 
-use state_destinations::ReplyTo;
+use state_destinations::Destination;
 
 // Has a message a destination of this file exactly if its operation is two-way?
-fn reply_suits(file: &[u8], twoway: bool, to: ReplyTo) -> bool
+fn reply_suits(file: &[u8], twoway: bool, to: Option<Destination>) -> bool
     ensures { result ≡ suits_reply (network_of file.now) (behaviour_count file.now) twoway (reply_of to) }
 {
     match to {
-        ReplyTo::Nobody => !twoway,
-        ReplyTo::To(d) => network_layout::both(twoway, state_rows::is_destination(file, d)),
+        None => !twoway,
+        Some(d) => twoway && state_rows::is_destination(file, d),
     }
 }
 
 // Is a queued message, whose entry starts at `at`, of an input of the service q, with a destination exactly if that is two-way?
 // `row` is the O row of its operation.
+#[tactic(auto, using(crate::proofs::QueueLaws::entry_laws))]
 fn entry_suits(file: &[u8], s: &[u8], q: u8, row: u16, at: usize) -> bool
     requires { at + 8 ≤ 0x100000000 }
     ensures { result ≡ suits_entry file.now s.now q row at }
 {
-    if network_layout::operation_count(file) <= row {
-        return false;
-    }
-    if network_rows::operation_service(file, row) != q {
-        return false;
-    }
-    if network_rows::operation_direction(file, row) != 0 {
-        return false;
-    }
     let to = state_destinations::read_reply(s, wire::byte_at(s, at + 1), at + 4);
-    reply_suits(file, network_rows::operation_two_way(file, row) == 1, to)
+    row < network_layout::operation_count(file)
+        && network_rows::operation_service(file, row) == q
+        && network_rows::operation_direction(file, row) == 0
+        && reply_suits(file, network_rows::operation_two_way(file, row) == 1, to)
 }
 
 // Do the queued messages, of up to n entries from `at` on, suit the service q?
@@ -47,18 +42,15 @@ fn queue_suits(file: &[u8], s: &[u8], q: u8, at: usize, n: usize) -> bool
     requires { at + entry_size * n ≤ 0x100000000 }
     ensures { result ≡ suits_queue (network_of file.now) (behaviour_count file.now) q (read_queue s.now n at) }
 {
-    let mut place = at;
-    let mut left = n;
-    while 0 < left {
+    for k in 0..n {
+        let place = at + state::ENTRY * k;
         let code = wire::byte_at(s, place);
         if code == 0 {
             return true;
         }
-        if !entry_suits(file, s, q, wire::byte_to_u16(code) - 1, place) {
+        if !entry_suits(file, s, q, u16::from(code) - 1, place) {
             return false;
         }
-        place += state::ENTRY;
-        left -= 1;
     }
     true
 }
@@ -82,7 +74,7 @@ fn session_suits(file: &[u8], s: &[u8], q: u8, n: u8, at: usize) -> bool
     requires { (n ≤ 3) × (at + slot_size ≤ 0x100000000) }
     ensures { SessionTells file.now s.now q n at result }
 {
-    let r = top_row(file, wire::byte_to_u16(q), n);
+    let r = top_row(file, u16::from(q), n);
     if r == 65535 {
         return false;
     }
@@ -94,46 +86,37 @@ fn session_suits(file: &[u8], s: &[u8], q: u8, n: u8, at: usize) -> bool
 }
 
 // Is the slot k in the form of a slot, and free or live with what suits the file?
+#[tactic(auto, unfolding(state::specs::Bytes::read_slot))]
 fn slot_stands(file: &[u8], s: &[u8], k: u8) -> bool
     requires { k < 16 }
     ensures { SlotTells file.now s.now k result }
 {
-    let at = state::SLOT * wire::wide(k);
-    if !state_form::slot_form(s, at) {
-        return false;
-    }
-    if wire::byte_at(s, at) == 0 {
-        return true;
-    }
-    session_suits(file, s, k / 4, k % 4, at)
+    let at = state::SLOT * usize::from(k);
+    state_form::slot_form(s, at)
+        && (wire::byte_at(s, at) == 0 || session_suits(file, s, k / 4, k % 4, at))
 }
 
 // Has session n of service q, if it is live, no key?
+#[tactic(auto, unfolding(state::specs::Bytes::read_state, state::specs::Bytes::read_slot, state::specs::Bytes::read_session))]
 fn no_key(s: &[u8], q: u16, n: u16) -> bool
     requires { (q < 4) × (n < 4) }
     ensures { result ≡ has_no_key (read_state s.now q n) }
 {
     let at = state::slot_start(q, n);
-    if wire::byte_at(s, at) == 0 {
-        return true;
-    }
-    wire::u32_at(s, at + state::KEY) == 0
+    wire::byte_at(s, at) == 0 || wire::u32_at(s, at + state::KEY) == 0
 }
 
 // Have the sessions n and m of service q, if both are live, different keys?
+#[tactic(auto, unfolding(state::specs::Bytes::read_state, state::specs::Bytes::read_slot, state::specs::Bytes::read_session))]
 fn keys_differ(s: &[u8], q: u16, n: u16, m: u16) -> bool
     requires { (q < 4) × (n < 4) × (m < 4) }
     ensures { result ≡ keys_differ (read_state s.now q n) (read_state s.now q m) }
 {
     let at = state::slot_start(q, n);
     let to = state::slot_start(q, m);
-    if wire::byte_at(s, at) == 0 {
-        return true;
-    }
-    if wire::byte_at(s, to) == 0 {
-        return true;
-    }
-    wire::u32_at(s, at + state::KEY) != wire::u32_at(s, to + state::KEY)
+    wire::byte_at(s, at) == 0
+        || wire::byte_at(s, to) == 0
+        || wire::u32_at(s, at + state::KEY) != wire::u32_at(s, to + state::KEY)
 }
 
 // 02: "no two live sessions of a service hold one key": of the keyed service q, whose session 0 has none.
@@ -141,16 +124,7 @@ fn keys_apart(s: &[u8], q: u16) -> bool
     requires { q < 4 }
     ensures { result ≡ suits_keys true (read_state s.now q) }
 {
-    if !no_key(s, q, 0) {
-        return false;
-    }
-    if !keys_differ(s, q, 1, 2) {
-        return false;
-    }
-    if !keys_differ(s, q, 1, 3) {
-        return false;
-    }
-    keys_differ(s, q, 2, 3)
+    no_key(s, q, 0) && keys_differ(s, q, 1, 2) && keys_differ(s, q, 1, 3) && keys_differ(s, q, 2, 3)
 }
 
 // Have the sessions of the service q, which is not keyed, no keys?
@@ -158,26 +132,15 @@ fn no_keys(s: &[u8], q: u16) -> bool
     requires { q < 4 }
     ensures { result ≡ suits_keys false (read_state s.now q) }
 {
-    if !no_key(s, q, 0) {
-        return false;
-    }
-    if !no_key(s, q, 1) {
-        return false;
-    }
-    if !no_key(s, q, 2) {
-        return false;
-    }
-    no_key(s, q, 3)
+    no_key(s, q, 0) && no_key(s, q, 1) && no_key(s, q, 2) && no_key(s, q, 3)
 }
 
 // Is the service q keyed? One that the file does not have is not.
+#[tactic(auto, using(crate::proofs::KeyLaws::keyed_laws))]
 fn is_keyed(file: &[u8], q: u16) -> bool
     ensures { result ≡ is_keyed (network_of file.now) q }
 {
-    if network_layout::service_count(file) <= q {
-        return false;
-    }
-    network_rows::service_key(file, q) != 0
+    q < network_layout::service_count(file) && network_rows::service_key(file, q) != 0
 }
 
 // Do the keys of the sessions of service q suit it?
@@ -195,9 +158,7 @@ fn keys_suit(file: &[u8], s: &[u8], q: u16) -> bool
 fn all_keys_suit(file: &[u8], s: &[u8]) -> bool
     ensures { result ≡ suits_all_keys (network_of file.now) (read_state s.now) 4 }
 {
-    let mut q: u16 = 4;
-    while 0 < q {
-        q -= 1;
+    for q in (0u16..4).rev() {
         if !keys_suit(file, s, q) {
             return false;
         }
@@ -213,9 +174,7 @@ pub fn stands(file: &[u8], state: &[u8]) -> bool
     if state.len() != 65536 {
         return false;
     }
-    let mut k: u8 = 16;
-    while 0 < k {
-        k -= 1;
+    for k in (0u8..16).rev() {
         if !slot_stands(file, state, k) {
             return false;
         }

@@ -7,13 +7,14 @@ ghost use Rattle.state.specs.Places.{slot_size, tree_room};
 ghost use Rattle.state_slots.specs.Slots.{tree_in, begun, tree_stored, key_stored, freed};
 
 // Makes a new session of the free slot that starts at `slot`: live, with an empty tree.
+#[tactic(auto, unfolding(crate::specs::Slots::begun))]
 pub fn begin(state: &mut [u8], slot: usize)
     requires { slot + slot_size ≤ length state.old }
     ensures { state.new ≡ begun state.old slot }
 {
-    wire::put_u8(state, slot, 1);
-    wire::put_u8(state, slot + state::LENGTH, 5);
-    wire::put_u8(state, slot + state::TREE + 2, scalar::VOID);
+    state[slot] = 1;
+    state[slot + state::LENGTH] = 5;
+    state[slot + state::TREE + 2] = scalar::VOID;
 }
 
 // Frees the slot.
@@ -21,7 +22,7 @@ pub fn release(state: &mut [u8], slot: usize)
     requires { slot + slot_size ≤ length state.old }
     ensures { state.new ≡ freed state.old slot }
 {
-    tree_edit::store(state, slot, state::SLOT, &[], 0);
+    state[slot..slot + state::SLOT].fill(0);
 }
 
 // Sets the tree to the first n bytes of `tree`.
@@ -35,7 +36,7 @@ pub fn put_tree(state: &mut [u8], slot: usize, tree: &[u8], n: u16)
         slot + state::TREE,
         state::TREE_ROOM,
         tree,
-        wire::index(n),
+        usize::from(n),
     );
 }
 
@@ -52,11 +53,10 @@ pub fn tree_of(state: &[u8], slot: usize) -> &[u8]
     requires { slot + slot_size ≤ length state.now }
     ensures { result.now ≡ tree_in state.now slot }
 {
-    let n = wire::index(wire::u16_at(state, slot + state::LENGTH));
+    let n = usize::from(wire::u16_at(state, slot + state::LENGTH));
     if state::TREE_ROOM < n {
-        return &state[0..0];
+        return &[];
     }
     let start = slot + state::TREE;
-    let end = start + n;
-    &state[start..end]
+    &state[start..start + n]
 }

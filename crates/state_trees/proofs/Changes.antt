@@ -2,7 +2,7 @@
 use mathlib.Core.Path.{◌≡◌, refl, sym, ap, subst, ◌∙◌}
 use mathlib.Core.Bool.{Bool, true, false, not, ◌&&◌}
 use mathlib.Core.List.{List}
-use Prim.Native.Nat.{ℕ, ◌≤◌, ◌<◌}
+use Prim.Native.Nat.{ℕ, ◌≤◌}
 use native.Mathlib.Omega.{arith}
 use lib.ListN.{length, take}
 use lib.Dec.{leb}
@@ -10,7 +10,7 @@ use borrow.Author.Tests.{le-leb}
 use Rattle.tree_forest.specs.Forest.{Forest, end, Tree, tree, Lookup, nodes, levels}
 use Rattle.tree_forest.specs.Path.{Path, replace_at, set_payload_at}
 use Rattle.scalar.specs.Value.{Value}
-use Rattle.basics.specs.TestLaws.{unequal}
+use Rattle.basics.specs.TestLaws.{unequal, both_true, of_le}
 use Rattle.tree.specs.Encode.{Encodes, empty}
 use Rattle.tree_forest.specs.Limits.{message_levels_below, message_nodes_below, session_levels, session_nodes}
 use Rattle.tree.specs.Decode.{is_tree}
@@ -18,7 +18,6 @@ use Rattle.tree_forest.specs.Forest.{is_present}
 use Rattle.tree.specs.DecodeLaws.{decode-complete, encodes-up}
 use Rattle.tree.specs.Ids.{is_path, path_from_ids}
 use Rattle.tree_edit.specs.Limited as limited
-use Rattle.tree_edit.specs.declared.Grown.{Grown}
 use Rattle.network_rows.specs.Readers.{path_ids}
 use Rattle.network_row_parts.specs.PathLaws.{ids-path, path-is}
 use Rattle.state.specs.Places.{tree_room}
@@ -29,19 +28,14 @@ use Rattle.scalar.specs.Value.{void_value}
 use Rattle.state_slots.specs.Slots.{tree_in}
 use Rattle.state_slots.specs.SlotLaws.{living-tree}
 use Rattle.state_slots.specs.Living.{Living}
-use Rattle.state_trees.specs.declared.Change.{Change}
 use Rattle.state_trees.specs.Changing.{ChangedTo, kept_bytes, Replaces, ReplacesAt, SetsLeaf, change_of, KeptAs}
+use Rattle.std.specs.Prelude.{Option, Some, None}
+use Rattle.std.specs.Prelude.{Result, Ok, Err}
 
--- ---- the writer's answer
+-- ---- what is tested before a change
 
-pub grown-long : {v : Grown} {n : ℕ} → v ≡ Grown.Within n → 1024 < n → KeptAs v Change.TooLarge
-grown-long {v} {n} e l = record { tells = subst (λ (y : Grown). change_of y Change.TooLarge) (sym e) l }
-
-pub grown-within : {v : Grown} {n k : ℕ} → v ≡ Grown.Within n → n ≤ 1024 → k ≡ n → KeptAs v (Change.Kept k)
-grown-within {v} {n} {k} e l h = record { tells = subst (λ (y : Grown). change_of y (Change.Kept k)) (sym e) (h, l) }
-
-pub grown-past : {v : Grown} {n : ℕ} → v ≡ Grown.Past n → KeptAs v Change.TooLarge
-grown-past {v} e = record { tells = subst (λ (y : Grown). change_of y Change.TooLarge) (sym e) tt }
+abbrev changeable : List ℕ → List ℕ → List ℕ → ℕ → ℕ → Bool
+changeable s ids m deep many = leb (length s) 1024 && (leb (length m) 1024 && (is_path ids && (is_tree 6 48 s && is_tree deep many m)))
 
 -- ---- what is known of the tree in the slot
 
@@ -71,11 +65,11 @@ swapped true false e = refl
 swapped false true e = refl
 swapped false false e = refl
 
-changed : (o o' : List ℕ) (v : Grown) (x : Change) (F : Forest Value) → KeptAs v x → limited.Outcome o o' v (tree empty F) → ChangedTo o' x F
+changed : (o o' : List ℕ) (v : Result ℕ ℕ) (x : Option ℕ) (F : Forest Value) → KeptAs v x → limited.Outcome o o' v (tree empty F) → ChangedTo o' x F
 changed o o' v x F k h = by v x k.tells h
   where
-    by : (v : Grown) (x : Change) → change_of v x → limited.Outcome o o' v (tree empty F) → ChangedTo o' x F
-    by (Grown.Within r) (Change.Kept n) e h =
+    by : (v : Result ℕ ℕ) (x : Option ℕ) → change_of v x → limited.Outcome o o' v (tree empty F) → ChangedTo o' x F
+    by (Ok r) (Some n) e h =
         let w = h.encodes.good in
         let z : r ≡ length (tree_bytes F) = sym h.wrote.size in
         let l = session-tree-size F w in
@@ -87,38 +81,34 @@ changed o o' v x F k h = by v x k.tells h
           made = w;
           fits = ap (λ (b : Bool). b && leb (levels F) 6) (le-leb (nodes F) 48 w.few) ∙ le-leb (levels F) 6 w.shallow;
         }
-    by (Grown.Within r) Change.TooLarge e h =
+    by (Ok r) None e h =
         let z : r ≡ length (tree_bytes F) = sym h.wrote.size in
         absurd (omega (arith, e, z, session-tree-size F h.encodes.good))
-    by (Grown.Past r) (Change.Kept n) e h = absurd e
-    by (Grown.Past r) Change.TooLarge e h = swapped (leb (levels F) session_levels) (leb (nodes F) session_nodes) h.large
+    by (Err r) (Some n) e h = absurd e
+    by (Err r) None e h = swapped (leb (levels F) session_levels) (leb (nodes F) session_nodes) h.large
 
 -- There is room for it.
-kept_small : (v : Grown) (x : Change) → change_of v x → kept_bytes x ≤ tree_room
-kept_small (Grown.Within r) (Change.Kept n) e = omega (arith, e.0, e.1)
-kept_small (Grown.Within r) Change.TooLarge e = omega arith
-kept_small (Grown.Past r) (Change.Kept n) e = absurd e
-kept_small (Grown.Past r) Change.TooLarge e = omega arith
+kept_small : (v : Result ℕ ℕ) (x : Option ℕ) → change_of v x → kept_bytes x ≤ tree_room
+kept_small (Ok r) (Some n) e = omega (arith, e.0, e.1)
+kept_small (Ok r) None e = omega arith
+kept_small (Err r) (Some n) e = absurd e
+kept_small (Err r) None e = omega arith
 
 -- ---- `replace`
 
 module _ (s : List ℕ) (slot : ℕ) (ids m : List ℕ) {t : List ℕ} (e : t ≡ tree_in s slot) where
-  pub replace-long : {o : List ℕ} → 1024 < length t → Replaces s slot ids m o Change.TooLarge
-  replace-long l = record { tells = λ S u h p c. absurd (omega (arith, l, session-short e h)); small = omega arith }
+  pub replace-refused : {o : List ℕ} {b : Bool} → b ≡ changeable t ids m 6 48 → not b ≡ true → Replaces s slot ids m o None
+  replace-refused k n = record {
+    tells = λ S u h p c.
+        let l = session-short e h in
+        let v = message-short m u c in
+        unequal
+        (k ∙ both_true (of_le (length t) 1024 (omega arith)) (both_true (of_le (length m) 1024 (omega arith))
+        (both_true p (both_true (is-tree session_levels session_nodes t _ (session-encodes e h)) (is-tree session_levels session_nodes m u (message-tree m u c)))))) n;
+    small = omega arith;
+  }
 
-  pub replace-message : {o : List ℕ} → 1024 < length m → Replaces s slot ids m o Change.TooLarge
-  replace-message l = record { tells = λ S u h p c. absurd (omega (arith, l, message-short m u c)); small = omega arith }
-
-  pub replace-path : {o : List ℕ} {b : Bool} → b ≡ is_path ids → not b ≡ true → Replaces s slot ids m o Change.TooLarge
-  replace-path k n = record { tells = λ S u h p c. unequal (k ∙ p) n; small = omega arith }
-
-  pub replace-tree : {o : List ℕ} {b : Bool} → b ≡ is_tree 6 48 t → not b ≡ true → Replaces s slot ids m o Change.TooLarge
-  replace-tree k n = record { tells = λ S u h p c. unequal (k ∙ is-tree session_levels session_nodes t _ (session-encodes e h)) n; small = omega arith }
-
-  pub replace-no-message : {o : List ℕ} {b : Bool} → b ≡ is_tree 6 48 m → not b ≡ true → Replaces s slot ids m o Change.TooLarge
-  replace-no-message k n = record { tells = λ S u h p c. unequal (k ∙ is-tree session_levels session_nodes m u (message-tree m u c)) n; small = omega arith }
-
-  pub replace-done : {o o' : List ℕ} {v : Grown} {x : Change} → limited.PutOutcome false ids t m o o' v → KeptAs v x → Replaces s slot ids m o' x
+  pub replace-done : {o o' : List ℕ} {v : Result ℕ ℕ} {x : Option ℕ} → limited.PutOutcome false ids t m o o' v → KeptAs v x → Replaces s slot ids m o' x
   replace-done {o} {o'} {v} {x} w k = record {
     tells = λ S u h p c.
         changed o o' v x (replace_at void_value (path_from_ids ids) u S.tree) k
@@ -128,22 +118,17 @@ module _ (s : List ℕ) (slot : ℕ) (ids m : List ℕ) {t : List ℕ} (e : t �
 
   -- ---- `assign`
 
-  pub assign-long : {o : List ℕ} → 1024 < length t → SetsLeaf s slot ids m o Change.TooLarge
-  assign-long l = record { tells = λ S u h p c. absurd (omega (arith, l, session-short e h)) }
+  pub assign-refused : {o : List ℕ} {b : Bool} → b ≡ changeable t ids m 0 0 → not b ≡ true → SetsLeaf s slot ids m o None
+  assign-refused k n = record {
+    tells = λ S u h p c.
+        let l = session-short e h in
+        let v = message-short m (tree u end) (leaf-message m (tree u end) c) in
+        unequal
+        (k ∙ both_true (of_le (length t) 1024 (omega arith)) (both_true (of_le (length m) 1024 (omega arith))
+        (both_true p (both_true (is-tree session_levels session_nodes t _ (session-encodes e h)) (is-tree 0 0 m (tree u end) c))))) n;
+  }
 
-  pub assign-value : {o : List ℕ} → 1024 < length m → SetsLeaf s slot ids m o Change.TooLarge
-  assign-value l = record { tells = λ S u h p c. absurd (omega (arith, l, message-short m (tree u end) (leaf-message m (tree u end) c))) }
-
-  pub assign-path : {o : List ℕ} {b : Bool} → b ≡ is_path ids → not b ≡ true → SetsLeaf s slot ids m o Change.TooLarge
-  assign-path k n = record { tells = λ S u h p c. unequal (k ∙ p) n }
-
-  pub assign-tree : {o : List ℕ} {b : Bool} → b ≡ is_tree 6 48 t → not b ≡ true → SetsLeaf s slot ids m o Change.TooLarge
-  assign-tree k n = record { tells = λ S u h p c. unequal (k ∙ is-tree session_levels session_nodes t _ (session-encodes e h)) n }
-
-  pub assign-no-value : {o : List ℕ} {b : Bool} → b ≡ is_tree 0 0 m → not b ≡ true → SetsLeaf s slot ids m o Change.TooLarge
-  assign-no-value k n = record { tells = λ S u h p c. unequal (k ∙ is-tree 0 0 m (tree u end) c) n }
-
-  pub assign-done : {o o' : List ℕ} {v : Grown} {x : Change} → limited.SetOutcome ids t m o o' v → KeptAs v x → SetsLeaf s slot ids m o' x
+  pub assign-done : {o o' : List ℕ} {v : Result ℕ ℕ} {x : Option ℕ} → limited.SetOutcome ids t m o o' v → KeptAs v x → SetsLeaf s slot ids m o' x
   assign-done {o} {o'} {v} {x} w k = record {
     tells = λ S u h p c.
         changed o o' v x (set_payload_at void_value (path_from_ids ids) u S.tree) k
@@ -152,7 +137,7 @@ module _ (s : List ℕ) (slot : ℕ) (ids m : List ℕ) {t : List ℕ} (e : t �
 
 -- ---- `replace_at`
 
-pub replaced-at : {file : List ℕ} {p : ℕ} {s is m o : List ℕ} {slot : ℕ} {x : Change} → is ≡ path_ids file p → Replaces s slot is m o x
+pub replaced-at : {file : List ℕ} {p : ℕ} {s is m o : List ℕ} {slot : ℕ} {x : Option ℕ} → is ≡ path_ids file p → Replaces s slot is m o x
     → ReplacesAt file p s slot m o x
 replaced-at {file} {p} {o = o} {x = x} d h = record {
   tells = λ w l S t i g.
@@ -160,9 +145,3 @@ replaced-at {file} {p} {o = o} {x = x} d h = record {
       (h.tells S t i (ap is_path d ∙ ids-path file w p l) g);
   small = h.small;
 }
-
-pub ruleset grown-laws = (grown-long, grown-within, grown-past)
-
-pub ruleset replace-laws = (replace-long, replace-message, replace-path, replace-tree, replace-no-message, replace-done)
-
-pub ruleset assign-laws = (assign-long, assign-value, assign-path, assign-tree, assign-no-value, assign-done)

@@ -7,7 +7,6 @@ use Rattle.scalar.specs.Value.{Value}
 use Rattle.tree.specs.Encode.{WellFormedTree, Encodes, Message, empty}
 use Rattle.tree_forest.specs.Limits.{message_levels_below, message_nodes_below, session_levels, session_nodes}
 use Rattle.tree.specs.Ids.{is_path, path_from_ids}
-use Rattle.tree_edit.specs.declared.Grown.{Grown}
 use Rattle.network.specs.Form as form
 use Rattle.network.specs.Decode as network
 use Rattle.network.specs.Layout.{path_count}
@@ -17,7 +16,8 @@ use Rattle.state.specs.Session.{Session}
 use Rattle.state.specs.Bytes.{tree_bytes}
 use Rattle.scalar.specs.Value.{void_value}
 use Rattle.state_slots.specs.Living.{Living}
-use Rattle.state_trees.specs.declared.Change.{Change}
+use Rattle.std.specs.Prelude.{Option, Some, None}
+use Rattle.std.specs.Prelude.{Result, Ok, Err}
 
 -- The first n bytes are those of the tree F, which keeps to its limits.
 pub record KeptTree (o : List ℕ) (n : ℕ) (F : Forest Value) : Type 0 where
@@ -28,38 +28,38 @@ pub record KeptTree (o : List ℕ) (n : ℕ) (F : Forest Value) : Type 0 where
   pub made : WellFormedTree session_levels session_nodes (tree empty F)
   pub fits : within F ≡ true
 
-abbrev pub ChangedTo : List ℕ → Change → Forest Value → Type 0
-ChangedTo o (Change.Kept n) F = KeptTree o n F
-ChangedTo o Change.TooLarge F = within F ≡ false
+abbrev pub ChangedTo : List ℕ → Option ℕ → Forest Value → Type 0
+ChangedTo o (Some n) F = KeptTree o n F
+ChangedTo o None F = within F ≡ false
 
 -- How many bytes a kept tree takes: there is room for them in a slot.
-abbrev pub kept_bytes : Change → ℕ
-kept_bytes (Change.Kept n) = n
-kept_bytes Change.TooLarge = 0
+abbrev pub kept_bytes : Option ℕ → ℕ
+kept_bytes (Some n) = n
+kept_bytes None = 0
 
 -- The subtree at the path replaced by the message m.
-pub record Replaces (s : List ℕ) (slot : ℕ) (ids m o : List ℕ) (x : Change) : Type 0 where
+pub record Replaces (s : List ℕ) (slot : ℕ) (ids m o : List ℕ) (x : Option ℕ) : Type 0 where
   pub tells : (S : Session) (t : Tree Value) → Living s slot S → is_path ids ≡ true → Encodes message_levels_below message_nodes_below m t
       → ChangedTo o x (replace_at void_value (path_from_ids ids) t S.tree)
   pub small : kept_bytes x ≤ tree_room
 
 -- The same at the path of P row p.
-pub record ReplacesAt (file : List ℕ) (p : ℕ) (s : List ℕ) (slot : ℕ) (m o : List ℕ) (x : Change) : Type 0 where
+pub record ReplacesAt (file : List ℕ) (p : ℕ) (s : List ℕ) (slot : ℕ) (m o : List ℕ) (x : Option ℕ) : Type 0 where
   pub tells : form.WellFormed file → p < path_count file → (S : Session) (t : Tree Value) → Living s slot S → Message m t
       → ChangedTo o x (replace_at void_value (network.path_of file p) t S.tree)
   pub small : kept_bytes x ≤ tree_room
 
 -- The value of the leaf m set at the path.
-pub record SetsLeaf (s : List ℕ) (slot : ℕ) (ids m o : List ℕ) (x : Change) : Type 0 where
+pub record SetsLeaf (s : List ℕ) (slot : ℕ) (ids m o : List ℕ) (x : Option ℕ) : Type 0 where
   pub tells : (S : Session) (b : Value) → Living s slot S → is_path ids ≡ true → Encodes 0 0 m (tree b end)
       → ChangedTo o x (set_payload_at void_value (path_from_ids ids) b S.tree)
 
 -- What is made of a writer's answer.
-abbrev pub change_of : Grown → Change → Type 0
-change_of (Grown.Within n) (Change.Kept k) = (k ≡ n) × (n ≤ tree_room)
-change_of (Grown.Within n) Change.TooLarge = 1025 ≤ n
-change_of (Grown.Past n) (Change.Kept k) = ⊥
-change_of (Grown.Past n) Change.TooLarge = Unit {0}
+abbrev pub change_of : Result ℕ ℕ → Option ℕ → Type 0
+change_of (Ok n) (Some k) = (k ≡ n) × (n ≤ tree_room)
+change_of (Ok n) None = 1025 ≤ n
+change_of (Err n) (Some k) = ⊥
+change_of (Err n) None = Unit {0}
 
-pub record KeptAs (v : Grown) (x : Change) : Type 0 where
+pub record KeptAs (v : Result ℕ ℕ) (x : Option ℕ) : Type 0 where
   pub tells : change_of v x

@@ -2,54 +2,43 @@
 // children. Writing makes missing steps void."; receive "replaces the subtree"; 18: "would take a tree past 48 nodes or 6 levels".
 #![tactic(auto)]
 
-ghost use Rattle.std.specs.Prelude.{◌+◌, ◌≤◌, length};
+ghost use Rattle.std.specs.Prelude.{◌≡◌, ◌&&◌, ◌+◌, ◌≤◌, length, leb};
+ghost use Rattle.tree.specs.Decode.{is_tree};
+ghost use Rattle.tree.specs.Ids.{is_path};
 ghost use Rattle.state_trees.specs.Changing.{Replaces, ReplacesAt, SetsLeaf, KeptAs};
 ghost use Rattle.state.specs.Places.{slot_size};
 
-use tree_edit::Grown;
-
-// The changed tree's length in the scratch buffer, or that it passes the limits.
-#[derive(Clone, Copy)]
-pub enum Change {
-    Kept(u16),
-    TooLarge,
-}
-
 // The answer of a tree's writer.
-fn grown(v: Grown) -> Change
+fn grown(v: Result<usize, usize>) -> Option<u16>
     ensures { KeptAs v result }
 {
-    match v {
-        Grown::Within(n) => {
-            if 1024 < n {
-                return Change::TooLarge;
-            }
-            Change::Kept(n as u16)
-        }
-        Grown::Past(_) => Change::TooLarge,
+    let n = v.ok()?;
+    if 1024 < n {
+        return None;
     }
+    Some(n as u16)
+}
+
+// Can the tree s be changed at the path by the tree m of at most `levels` levels and `nodes` nodes?
+fn changeable(s: &[u8], ids: [u16; 4], m: &[u8], levels: u8, nodes: u8) -> bool
+    ensures { result ≡ (leb (length s.now) 1024 && (leb (length m.now) 1024 &&
+        (is_path ids && (is_tree 6 48 s.now && is_tree levels nodes m.now)))) }
+{
+    s.len() <= 1024
+        && m.len() <= 1024
+        && tree::path_ok(ids)
+        && tree::is_tree(s, 6, 48)
+        && tree::is_tree(m, levels, nodes)
 }
 
 // The tree of the session in the slot with the subtree at the path replaced by the tree of m.
-pub fn replace(out: &mut [u8], state: &[u8], slot: usize, ids: [u16; 4], m: &[u8]) -> Change
+pub fn replace(out: &mut [u8], state: &[u8], slot: usize, ids: [u16; 4], m: &[u8]) -> Option<u16>
     requires { (slot + slot_size ≤ length state.now) × (2304 ≤ length out.old) }
     ensures { Replaces state.now slot ids m.now out.new result }
 {
     let s = state_slots::tree_of(state, slot);
-    if 1024 < s.len() {
-        return Change::TooLarge;
-    }
-    if 1024 < m.len() {
-        return Change::TooLarge;
-    }
-    if !tree::path_ok(ids) {
-        return Change::TooLarge;
-    }
-    if !tree::is_tree(s, 6, 48) {
-        return Change::TooLarge;
-    }
-    if !tree::is_tree(m, 6, 48) {
-        return Change::TooLarge;
+    if !changeable(s, ids, m, 6, 48) {
+        return None;
     }
     grown(tree_edit::put_within(out, s, ids, m, false))
 }
@@ -62,7 +51,7 @@ pub fn replace_at(
     state: &[u8],
     slot: usize,
     m: &[u8],
-) -> Change
+) -> Option<u16>
     requires { (slot + slot_size ≤ length state.now) × (2304 ≤ length out.old) }
     ensures { ReplacesAt file.now p state.now slot m.now out.new result }
 {
@@ -70,25 +59,13 @@ pub fn replace_at(
 }
 
 // The tree of the session in the slot with the value of the leaf m set at the path.
-pub fn assign(out: &mut [u8], state: &[u8], slot: usize, ids: [u16; 4], m: &[u8]) -> Change
+pub fn assign(out: &mut [u8], state: &[u8], slot: usize, ids: [u16; 4], m: &[u8]) -> Option<u16>
     requires { (slot + slot_size ≤ length state.now) × (2304 ≤ length out.old) }
     ensures { SetsLeaf state.now slot ids m.now out.new result }
 {
     let s = state_slots::tree_of(state, slot);
-    if 1024 < s.len() {
-        return Change::TooLarge;
-    }
-    if 1024 < m.len() {
-        return Change::TooLarge;
-    }
-    if !tree::path_ok(ids) {
-        return Change::TooLarge;
-    }
-    if !tree::is_tree(s, 6, 48) {
-        return Change::TooLarge;
-    }
-    if !tree::is_tree(m, 0, 0) {
-        return Change::TooLarge;
+    if !changeable(s, ids, m, 0, 0) {
+        return None;
     }
     grown(tree_edit::set_within(out, s, ids, m))
 }

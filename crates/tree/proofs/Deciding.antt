@@ -1,13 +1,13 @@
 -- What `is_tree`, `is_session_tree` and `within` find, one law for each way out.
 use mathlib.Core.Path.{◌≡◌, refl, ap, sym, subst, ◌∙◌}
 use mathlib.Core.List.{List, ◌++◌}
-use mathlib.Core.Bool.{Bool, true, false, not, ◌&&◌}
+use mathlib.Core.Bool.{Bool, true, false, ◌&&◌}
 use Prim.Native.Nat.{ℕ, ◌+◌, ◌-◌, ◌≤◌, ◌<◌}
 use native.Mathlib.Omega.{arith}
 use native.Mathlib.Decide.{dec_lt}
 use lib.ListN.{length, get_or, drop}
 use lib.Dec.{eqb, leb}
-use borrow.Author.Tests.{eq-eqb, ne_eqb, le-leb, lt-leb, not-true, not-false}
+use borrow.Author.Tests.{eq-eqb, ne_eqb, le-leb, lt-leb}
 use Rattle.tree_forest.specs.Forest.{Forest, end, node, Tree, tree, Lookup, absent, present, Rising, nodes, levels}
 use Rattle.scalar.specs.Basic.{void}
 use Rattle.scalar.specs.Value.{Value, value}
@@ -20,28 +20,27 @@ use Rattle.tree.specs.Standing.{Within}
 use Rattle.tree.specs.EncodeLaws.{got, fault, Fields, node-fields, encode-node, parse-complete, parse-sound, scanned, unscanned, good_of, of-good, sound-above, unique}
 use Rattle.tree.specs.StandingLaws.{no-fault, no-bad}
 use Rattle.tree.specs.declared.Head.{Head}
-use Rattle.tree.specs.declared.Head.TheVariants.{Node, Fault}
-use Rattle.tree.specs.declared.Scan.{Scan}
-use Rattle.tree.specs.declared.Scan.TheVariants.{Past, Bad}
+use Rattle.std.specs.Prelude.{Option, Some, None}
+use Rattle.std.specs.Option.{is_some}
 
-module _ (deep many : ℕ) (s : List ℕ) (h : Head) (p : h ≡ head_at s 0) where
-  pub tree-fault : h ≡ Fault → false ≡ is_tree deep many s
+module _ (deep many : ℕ) (s : List ℕ) (h : Option Head) (p : h ≡ head_at s 0) where
+  pub tree-fault : h ≡ None → false ≡ is_tree deep many s
   unfolding decode
   tree-fault q = rw (fault s 0 p q) refl
 
-  module _ (i b c m : ℕ) (q : h ≡ Node i b c m) where
-    pub tree-id : (i ≡ 0 → ⊥) → false ≡ is_tree deep many s
+  module _ (x : Head) (q : h ≡ Some x) where
+    pub tree-id : (x.id ≡ 0 → ⊥) → false ≡ is_tree deep many s
     unfolding decode
     tree-id f = let g = got p q in rw (g.ok, ne_eqb (id_at s 0) 0 (λ e. f (g.id ∙ e))) refl
 
-    pub tree-bad : (y : Scan) → i ≡ 0 → y ≡ scan s deep c 0 many m → y ≡ Bad → false ≡ is_tree deep many s
+    pub tree-bad : (y : Option (ℕ × ℕ)) → x.id ≡ 0 → y ≡ scan s deep x.count 0 many x.start → y ≡ None → false ≡ is_tree deep many s
     unfolding decode
     tree-bad y z u v =
         let g = got p q in
-        let b = rw (g.count, g.next) at (unscanned s deep c 0 many m (sym u ∙ v)) in
+        let b = rw (g.count, g.next) at (unscanned s deep x.count 0 many x.start (sym u ∙ v)) in
         rw (g.ok, eq-eqb (id_at s 0) 0 (sym g.id ∙ z), b) refl
 
-    pub tree-past : (y : Scan) (e l : ℕ) → i ≡ 0 → y ≡ scan s deep c 0 many m → y ≡ Past e l → eqb e (length s) ≡ is_tree deep many s
+    pub tree-past : (y : Option (ℕ × ℕ)) (e l : ℕ) → x.id ≡ 0 → y ≡ scan s deep x.count 0 many x.start → y ≡ Some (e, l) → eqb e (length s) ≡ is_tree deep many s
     unfolding decode
     tree-past y e l z u v =
         let g = got p q in
@@ -68,13 +67,13 @@ none-empty : (l : Lookup Value) → is_present l ≡ false → false ≡ empty_r
 none-empty absent e = refl
 none-empty (present t) e = absurd (let z : ◌≡◌ {A = ℕ} 0 1 = cc in omega arith)
 
-pub session-none : (s : List ℕ) (b : Bool) → b ≡ is_tree 6 48 s → not b ≡ true → false ≡ is_session_tree s
+pub session-none : (s : List ℕ) (b : Bool) → b ≡ is_tree 6 48 s → b ≡ false → b ≡ is_session_tree s
 unfolding is_session_tree
-session-none s b p q = none-empty (decode 6 48 s) (sym p ∙ not-true b q)
+session-none s b p q = q ∙ none-empty (decode 6 48 s) (sym p ∙ q)
 
-pub session-root : (s : List ℕ) (b : Bool) (x : ℕ) → b ≡ is_tree 6 48 s → not b ≡ false → x ≡ get_or s 2 0 → eqb x 6 ≡ is_session_tree s
+pub session-root : (s : List ℕ) (b : Bool) (x : ℕ) → b ≡ is_tree 6 48 s → b ≡ true → x ≡ get_or s 2 0 → eqb x 6 ≡ is_session_tree s
 unfolding is_session_tree decode
-session-root s b x p q e = ap (λ (y : ℕ). eqb y 6) e ∙ whole-empty s (test (head_ok s 0) (test (eqb (id_at s 0) 0) (parse s 6 (count_at s 0) 0 48 (next_at s 0)))) (sym p ∙ not-false b q)
+session-root s b x p q e = ap (λ (y : ℕ). eqb y 6) e ∙ whole-empty s (test (head_ok s 0) (test (eqb (id_at s 0) 0) (parse s 6 (count_at s 0) 0 48 (next_at s 0)))) (sym p ∙ q)
 
 pub ruleset session-laws = (session-none, session-root)
 
@@ -96,11 +95,11 @@ module _ (deep many : ℕ) (s : List ℕ) (c : ℕ) (w : List ℕ) (f : Forest V
   unfolding encode
   at-root = node-fields s 0 0 c (root_count f) w (encode f ++ rest) (e ∙ encode-node 0 c w f end rest) ok.valid
 
-  passes : (n m : ℕ) → n ≡ root_count f → m ≡ 5 + length w → Rising f → SoundValues f → levels f ≤ deep → nodes f ≤ many → scan s deep n 0 many m ≡ Past (5 + length w + length (encode f)) (many - nodes f)
+  passes : (n m : ℕ) → n ≡ root_count f → m ≡ 5 + length w → Rising f → SoundValues f → levels f ≤ deep → nodes f ≤ many → scan s deep n 0 many m ≡ Some ((5 + length w + length (encode f)), (many - nodes f))
   unfolding scan
   passes n m p q x o l z = let k = parse-complete f s deep 0 many (5 + length w) rest at-root.after (good_of f deep 0 (sound-above f o) x o l) z in rw (p, q, k) refl
 
-  kept : Octets s → (n m a b : ℕ) → n ≡ root_count f → m ≡ 5 + length w → Rising f → SoundValues f → scan s deep n 0 many m ≡ Past a b → (levels f ≤ deep) × (nodes f ≤ many)
+  kept : Octets s → (n m a b : ℕ) → n ≡ root_count f → m ≡ 5 + length w → Rising f → SoundValues f → scan s deep n 0 many m ≡ Some (a, b) → (levels f ≤ deep) × (nodes f ≤ many)
   kept bs n m a b p q x o h =
       let k = scanned s deep n 0 many m a b h in
       let st = parse-sound s bs deep n 0 many m k.0 a b k.1 in
@@ -109,34 +108,39 @@ module _ (deep many : ℕ) (s : List ℕ) (c : ℕ) (w : List ℕ) (f : Forest V
       let u = unique s (5 + length w) (levels f) deep 0 0 f k.0 rest (drop a s) at-root.after by (good_of f (levels f) 0 (sound-above f o) x o (omega arith)) st.good (sym (st.many ∙ p)) in
       rw u (og.shallow, omega (arith, st.used))
 
-module _ (deep many : ℕ) (s : List ℕ) (h : Head) (p : h ≡ head_at s 0) where
-  pub within-fault : h ≡ Fault → Within deep many s false
+module _ (deep many : ℕ) (s : List ℕ) (h : Option Head) (p : h ≡ head_at s 0) where
+  pub within-fault : h ≡ None → Within deep many s false
   within-fault q = record { tells = go }
     where
       go : (t : Tree Value) (after : List ℕ) → s ≡ encode (rooted t) ++ after → Proper (payload t) → SoundValues (children t) → Rising (children t) →
           false ≡ (leb (levels (children t)) deep && leb (nodes (children t)) many)
       go (tree (value c w) f) rest e ok o x = no-fault (at-root deep many s c w f rest e ok).ok (fault s 0 p q)
 
-  module _ (i b n m : ℕ) (q : h ≡ Node i b n m) (y : Scan) (yp : y ≡ scan s deep n 0 many m) where
-    pub within-bad : y ≡ Bad → Within deep many s false
+  module _ (x : Head) (q : h ≡ Some x) (y : Option (ℕ × ℕ)) (yp : y ≡ scan s deep x.count 0 many x.start) where
+    pub within-bad : y ≡ None → Within deep many s false
     within-bad yq = record { tells = go }
       where
         go : (t : Tree Value) (after : List ℕ) → s ≡ encode (rooted t) ++ after → Proper (payload t) → SoundValues (children t) → Rising (children t) →
             false ≡ (leb (levels (children t)) deep && leb (nodes (children t)) many)
-        go (tree (value c w) f) rest e ok o x =
+        go (tree (value c w) f) rest e ok o up =
             let g = got p q in
             let r = at-root deep many s c w f rest e ok in
-            sym (fits_not (levels f) (nodes f) deep many (λ l z. no-bad (sym (passes deep many s c w f rest e ok n m (g.count ∙ r.count) (g.next ∙ r.next) x o l z) ∙ sym yp ∙ yq)))
+            sym (fits_not (levels f) (nodes f) deep many (λ l z. no-bad (sym (passes deep many s c w f rest e ok x.count x.start (g.count ∙ r.count) (g.next ∙ r.next) up o l z) ∙ sym yp ∙ yq)))
 
-    pub within-past : (a d : ℕ) → Octets s → y ≡ Past a d → Within deep many s true
+    pub within-past : (a d : ℕ) → Octets s → y ≡ Some (a, d) → Within deep many s true
     within-past a d bs yq = record { tells = go }
       where
         go : (t : Tree Value) (after : List ℕ) → s ≡ encode (rooted t) ++ after → Proper (payload t) → SoundValues (children t) → Rising (children t) →
             true ≡ (leb (levels (children t)) deep && leb (nodes (children t)) many)
-        go (tree (value c w) f) rest e ok o x =
+        go (tree (value c w) f) rest e ok o up =
             let g = got p q in
             let r = at-root deep many s c w f rest e ok in
-            let k = kept deep many s c w f rest e ok bs n m a d (g.count ∙ r.count) (g.next ∙ r.next) x o (sym yp ∙ yq) in
+            let k = kept deep many s c w f rest e ok bs x.count x.start a d (g.count ∙ r.count) (g.next ∙ r.next) up o (sym yp ∙ yq) in
             sym (both_true (le-leb (levels f) deep k.0) (le-leb (nodes f) many k.1))
 
-pub ruleset within-laws = (within-fault, within-bad, within-past)
+    pub within-by : Octets s → Within deep many s (is_some y)
+    within-by bs = by y refl
+      where
+        by : (z : Option (ℕ × ℕ)) → y ≡ z → Within deep many s (is_some z)
+        by None e = within-bad e
+        by (Some z) e = within-past z.0 z.1 bs e

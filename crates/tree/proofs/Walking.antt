@@ -20,47 +20,45 @@ use Rattle.tree.specs.IdsLaws.{steps-stop, steps_on}
 use Rattle.tree.specs.Standing.{Row, Root, Stood, Spot, Ended, Sought, Below, Followed}
 use Rattle.tree.specs.StandingLaws.{row-root, row-rest, root-kids, seen, unseen, root-seen, root-unseen}
 use Rattle.tree.specs.declared.Head.{Head}
-use Rattle.tree.specs.declared.Head.TheVariants.{Node, Fault}
-use Rattle.tree.specs.declared.Found.{Found}
-use Rattle.tree.specs.declared.Found.TheVariants.{At, Nothing}
+use Rattle.std.specs.Prelude.{Option, Some, None}
 
 -- the sibling with an id
-pub seek-none : (s : List ℕ) (at n id : ℕ) → n ≡ 0 → Sought s at n id Nothing
+pub seek-none : (s : List ℕ) (at n id : ℕ) → n ≡ 0 → Sought s at n id None
 seek-none s at n id z = record { tells = go }
   where
     go : (f : Forest Value) → Row s at f → root_count f ≡ n → find id f ≡ absent
     go end w e = unfold find in refl
     go (node i a ks rest) w e = absurd (unfold root_count in omega arith)
 
-module _ (s : List ℕ) (at n id : ℕ) (z : n ≡ 0 → ⊥) (h : Head) (p : h ≡ head_at s at) where
+module _ (s : List ℕ) (at n id : ℕ) (z : n ≡ 0 → ⊥) (h : Option Head) (p : h ≡ head_at s at) where
   none : {A : Type 0} → root_count {A = Value} end ≡ n → A
   none e = absurd (z (sym (unfold root_count in e)))
 
-  pub seek-fault : h ≡ Fault → Sought s at n id Nothing
+  pub seek-fault : h ≡ None → Sought s at n id None
   seek-fault q = record { tells = go }
     where
       go : (f : Forest Value) → Row s at f → root_count f ≡ n → find id f ≡ absent
       go end w e = none e
       go (node i (value b v) ks rest) w e = unseen s at i b v ks rest w h p q
 
-  module _ (j b c m : ℕ) (q : h ≡ Node j b c m) where
-    pub seek-gap : id < j → Sought s at n id Nothing
+  module _ (y : Head) (q : h ≡ Some y) where
+    pub seek-gap : id < y.id → Sought s at n id None
     seek-gap l = record { tells = go }
       where
         go : (f : Forest Value) → Row s at f → root_count f ≡ n → find id f ≡ absent
         go end w e = none e
         go (node i (value d v) ks rest) w e =
-            let u = seen s at i d v ks rest w h j b c m p q in
+            let u = seen s at i d v ks rest w h y.id y.basic y.count y.start p q in
             unfold find in find-lt (compare id i) (omega (arith, u.id)) (tree (value d v) ks) (find id rest)
 
-    pub seek-here : j ≡ id → Sought s at n id (At at)
+    pub seek-here : y.id ≡ id → Sought s at n id (Some at)
     unfolding find
     seek-here l = record { tells = go }
       where
         go : (f : Forest Value) → Row s at f → root_count f ≡ n → Stood s at id (find id f)
         go end w e = none e
         go (node i (value d v) ks rest) w e =
-            let u = seen s at i d v ks rest w h j b c m p q in
+            let u = seen s at i d v ks rest w h y.id y.basic y.count y.start p q in
             let o : i ≡ id = sym u.id ∙ l in
             record {
               there = tree (value d v) ks;
@@ -68,32 +66,32 @@ module _ (s : List ℕ) (at n id : ℕ) (z : n ≡ 0 → ⊥) (h : Head) (p : h 
               root = subst (λ (x : ℕ). Root s at x (tree (value d v) ks)) o (row-root s at i d v ks rest w);
             }
 
-    pub seek-next : (x : ℕ) (r : Found) → j ≤ id → (j ≡ id → ⊥) → Ended s at x → Sought s x (n - 1) id r → Sought s at n id r
-    seek-next x r l o y k = record { tells = go }
+    pub seek-next : (x : ℕ) (r : Option ℕ) → y.id ≤ id → (y.id ≡ id → ⊥) → Ended s at x → Sought s x (n - 1) id r → Sought s at n id r
+    seek-next x r l o t k = record { tells = go }
       where
         go : (f : Forest Value) → Row s at f → root_count f ≡ n → Spot s id r (find id f)
         go end w e = none e
         go (node i (value d v) ks rest) w e =
-            let u = seen s at i d v ks rest w h j b c m p q in
+            let u = seen s at i d v ks rest w h y.id y.basic y.count y.start p q in
             let g : i < id = omega (arith, u.id, o) in
             let f : find id (node i (value d v) ks rest) ≡ find id rest = unfold find in find-gt (compare id i) g (tree (value d v) ks) (find id rest) in
-            let ex : x ≡ at + length (encode (node i (value d v) ks end)) = y.ends i (tree (value d v) ks) (row-root s at i d v ks rest w) in
+            let ex : x ≡ at + length (encode (node i (value d v) ks end)) = t.ends i (tree (value d v) ks) (row-root s at i d v ks rest w) in
             let less : root_count rest ≡ n - 1 = unfold root_count in omega arith in
             subst (Spot s id r) (sym f) (k.tells rest (subst (λ (q : ℕ). Row s q rest) (sym ex) (row-rest s at i d v ks rest w)) less)
 
 pub ruleset seek-laws = (seek-none, seek-fault, seek-gap, seek-here, seek-next)
 
 -- the child with an id
-module _ (s : List ℕ) (at id : ℕ) (h : Head) (p : h ≡ head_at s at) where
-  pub down-fault : h ≡ Fault → Below s at id Nothing
+module _ (s : List ℕ) (at id : ℕ) (h : Option Head) (p : h ≡ head_at s at) where
+  pub down-fault : h ≡ None → Below s at id None
   down-fault q = record { tells = λ i t w. root-unseen s at i t w h p q }
 
-  pub down-next : (j b c m : ℕ) (r : Found) → h ≡ Node j b c m → Sought s m c id r → Below s at id r
-  down-next j b c m r q k = record { tells = go }
+  pub down-next : (y : Head) (r : Option ℕ) → h ≡ Some y → Sought s y.start y.count id r → Below s at id r
+  down-next y r q k = record { tells = go }
     where
       go : (i : ℕ) (t : Tree Value) → Root s at i t → Spot s id r (find id (children t))
       go i (tree (value d v) ks) w =
-          let u = root-seen s at i d v ks w h j b c m p q in
+          let u = root-seen s at i d v ks w h y.id y.basic y.count y.start p q in
           k.tells ks (subst (λ (x : ℕ). Row s x ks) (sym u.next) (root-kids s at i d v ks w)) (sym u.count)
 
 pub ruleset down-laws = (down-fault, down-next)
@@ -137,7 +135,7 @@ path-last (j ∷ is) i e = by (eqb j 0) e
     by true e = cc
     by false e = refl
 
-arrived : (s ids : List ℕ) (at k : ℕ) → Reached s ids at k → steps (drop k ids) ≡ [] → Followed s ids (At at)
+arrived : (s ids : List ℕ) (at k : ℕ) → Reached s ids at k → steps (drop k ids) ≡ [] → Followed s ids (Some at)
 unfolding read_steps last_of
 arrived s ids at k h e = record { tells = go }
   where
@@ -161,34 +159,34 @@ turn_last : (ids : List ℕ) (k i : ℕ) → steps (drop k ids) ≡ get_or ids k
 unfolding last_of
 turn_last ids k i e = rw e refl
 
-pub follow-stop : (s ids : List ℕ) (at k : ℕ) → length ids ≡ 4 → k < 4 → Reached s ids at k → get_or ids k 0 ≡ 0 → Followed s ids (At at)
+pub follow-stop : (s ids : List ℕ) (at k : ℕ) → length ids ≡ 4 → k < 4 → Reached s ids at k → get_or ids k 0 ≡ 0 → Followed s ids (Some at)
 follow-stop s ids at k four n h z = arrived s ids at k h (steps-stop ids k (omega arith) z)
 
-pub follow-end : (s ids : List ℕ) (at k : ℕ) → length ids ≡ 4 → 4 ≤ k → Reached s ids at k → Followed s ids (At at)
+pub follow-end : (s ids : List ℕ) (at k : ℕ) → length ids ≡ 4 → 4 ≤ k → Reached s ids at k → Followed s ids (Some at)
 unfolding steps
 follow-end s ids at k four e h = arrived s ids at k h (rw (drop_of_length-le ids {i = k} (omega arith)) refl)
 
-below_as : (s : List ℕ) (at id : ℕ) (r r' : Found) → r ≡ r' → Below s at id r → Below s at id r'
+below_as : (s : List ℕ) (at id : ℕ) (r r' : Option ℕ) → r ≡ r' → Below s at id r → Below s at id r'
 below_as s at id r r' e b = subst (Below s at id) e b
 
-pub follow-gone : (s ids : List ℕ) (at k : ℕ) (r : Found) → length ids ≡ 4 → k < 4 → Reached s ids at k → (get_or ids k 0 ≡ 0 → ⊥) → Below s at (get_or ids k 0) r → r ≡ Nothing → Followed s ids Nothing
+pub follow-gone : (s ids : List ℕ) (at k : ℕ) (r : Option ℕ) → length ids ≡ 4 → k < 4 → Reached s ids at k → (get_or ids k 0 ≡ 0 → ⊥) → Below s at (get_or ids k 0) r → r ≡ None → Followed s ids None
 follow-gone s ids at k r four n h z d v = record { tells = go }
   where
     go : (i : ℕ) (t : Tree Value) → Root s 0 i t → is_path ids ≡ true → read (path_from_ids ids) (children t) ≡ absent
     go i t w ok =
         let q = h.tells i t w in
         let e = steps_on ids k (omega arith) z in
-        let gone : find (get_or ids k 0) (children q.there) ≡ absent = (below_as s at (get_or ids k 0) r Nothing v d).tells q.id q.there q.root in
+        let gone : find (get_or ids k 0) (children q.there) ≡ absent = (below_as s at (get_or ids k 0) r None v d).tells q.id q.there q.root in
         sym (path-read ids t ok) ∙ q.rest ∙ turn ids k q.there e ∙ ap (read_steps (steps (drop (k + 1) ids))) gone ∙ read-absent (steps (drop (k + 1) ids))
 
-pub follow-on : (s ids : List ℕ) (at k x : ℕ) (r : Found) → length ids ≡ 4 → k < 4 → Reached s ids at k → (get_or ids k 0 ≡ 0 → ⊥) → Below s at (get_or ids k 0) r → r ≡ At x → Reached s ids x (k + 1)
+pub follow-on : (s ids : List ℕ) (at k x : ℕ) (r : Option ℕ) → length ids ≡ 4 → k < 4 → Reached s ids at k → (get_or ids k 0 ≡ 0 → ⊥) → Below s at (get_or ids k 0) r → r ≡ Some x → Reached s ids x (k + 1)
 follow-on s ids at k x r four n h z d v = record { tells = go }
   where
     go : (i : ℕ) (t : Tree Value) → Root s 0 i t → Reach s x ids (k + 1) i t
     go i t w =
         let q = h.tells i t w in
         let e = steps_on ids k (omega arith) z in
-        let u : Stood s x (get_or ids k 0) (find (get_or ids k 0) (children q.there)) = (below_as s at (get_or ids k 0) r (At x) v d).tells q.id q.there q.root in
+        let u : Stood s x (get_or ids k 0) (find (get_or ids k 0) (children q.there)) = (below_as s at (get_or ids k 0) r (Some x) v d).tells q.id q.there q.root in
         record {
           id = get_or ids k 0;
           there = u.there;

@@ -9,9 +9,7 @@ use Rattle.basics.specs.Choice.{pick}
 use Rattle.scalar.specs.Basic.{void}
 use Rattle.tree_forest.specs.Limits.{message_levels_below, message_nodes_below, session_levels, session_nodes}
 use Rattle.tree.specs.declared.Head.{Head}
-use Rattle.tree.specs.declared.Head.TheVariants.{Node, Fault}
-use Rattle.tree.specs.declared.Scan.{Scan}
-use Rattle.tree.specs.declared.Scan.TheVariants.{Past, Bad}
+use Rattle.std.specs.Prelude.{Option, Some, None}
 
 -- The fields of a node that starts at `at`: "id u16 .., basic u8, child count u8, length u8, value, then its children".
 abbrev pub id_at : List ℕ → ℕ → ℕ
@@ -36,9 +34,12 @@ next_at s at = at + 5 + len_at s at
 unfoldable pub head_ok : List ℕ → ℕ → Bool
 head_ok s at = leb (at + 5) (length s) && (leb (next_at s at) (length s) && is_value (basic_at s at) (value_at s at))
 
+abbrev pub header : ℕ → ℕ → ℕ → ℕ → Head
+header i b c m = record { id = i; basic = b; count = c; start = m }
+
 -- The header of the node at `at`: id, basic type, child count and where the children start; or a fault.
-unfoldable pub head_at : List ℕ → ℕ → Head
-head_at s at = pick (head_ok s at) (Node (id_at s at) (basic_at s at) (count_at s at) (next_at s at)) Fault
+unfoldable pub head_at : List ℕ → ℕ → Option Head
+head_at s at = pick (head_ok s at) (Some (header (id_at s at) (basic_at s at) (count_at s at) (next_at s at))) None
 
 -- What reading siblings gives: the forest, the position past it and how many more nodes are allowed; or nothing.
 pub data Parse : Type 0 where
@@ -78,11 +79,11 @@ parse s zero = childless
 parse s (suc d) = parse_siblings s (parse s d)
 
 -- The same without the forest, as the code answers it.
-abbrev pub erase : Parse → Scan
-erase bad = Bad
-erase (past f e l) = Past e l
+abbrev pub erase : Parse → Option (ℕ × ℕ)
+erase bad = None
+erase (past f e l) = Some (e, l)
 
-unfoldable pub scan : List ℕ → ℕ → ℕ → ℕ → ℕ → ℕ → Scan
+unfoldable pub scan : List ℕ → ℕ → ℕ → ℕ → ℕ → ℕ → Option (ℕ × ℕ)
 scan s d n last left at = erase (parse s d n last left at)
 
 -- The tree, if all of s was read: "nothing after it".

@@ -17,8 +17,8 @@ use Rattle.tree.specs.Decode.{id_at, basic_at, count_at, len_at, value_at, next_
 use Rattle.tree.specs.Decode.{parse, erase, scan}
 use Rattle.tree.specs.Standing.{Good}
 use Rattle.tree.specs.declared.Head.{Head}
-use Rattle.tree.specs.declared.Head.TheVariants.{Node, Fault}
-use Rattle.tree.specs.declared.Scan.TheVariants.{Past, Bad}
+use Rattle.std.specs.Prelude.{Option, Some, None}
+use Rattle.tree.specs.Decode.{header}
 
 pub part_length : (s : List ℕ) (at n : ℕ) → at + n ≤ length s → length (take n (drop at s)) ≡ n
 part_length s at n h = simp (length-take, length-drop) (omega arith)
@@ -58,19 +58,21 @@ pub record Got (s : List ℕ) (at i b c m : ℕ) : Type 0 where
   pub next : m ≡ next_at s at
 
 got-by : (s : List ℕ) (at i b c m : ℕ) (t : Bool) → head_ok s at ≡ t →
-    pick t (Node (id_at s at) (basic_at s at) (count_at s at) (next_at s at)) Fault ≡ Node i b c m → Got s at i b c m
-got-by s at i b c m true h e = record { ok = h; id = cc; basic = cc; count = cc; next = cc }
-got-by s at i b c m false h e = let z : ◌≡◌ {A = ℕ} 0 1 = cc in record { ok = cc; id = cc; basic = cc; count = cc; next = cc }
+    pick t (Some (header (id_at s at) (basic_at s at) (count_at s at) (next_at s at))) None ≡ Some (header i b c m) → Got s at i b c m
+got-by s at i b c m true h e =
+    let q : header i b c m ≡ header (id_at s at) (basic_at s at) (count_at s at) (next_at s at) = cc in
+    record { ok = h; id = ap (λ (x : Head). x.id) q; basic = ap (λ (x : Head). x.basic) q; count = ap (λ (x : Head). x.count) q; next = ap (λ (x : Head). x.start) q }
+got-by s at i b c m false h e = absurd cc
 
-pub got : {s : List ℕ} {at i b c m : ℕ} {h : Head} → h ≡ head_at s at → h ≡ Node i b c m → Got s at i b c m
+pub got : {s : List ℕ} {at i b c m : ℕ} {h : Option Head} → h ≡ head_at s at → h ≡ Some (header i b c m) → Got s at i b c m
 unfolding head_at
 got {s} {at} {i} {b} {c} {m} {h} p q = got-by s at i b c m (head_ok s at) refl (sym p ∙ q)
 
-fault-by : (t : Bool) (i b c m : ℕ) → pick t (Node i b c m) Fault ≡ Fault → t ≡ false
+fault-by : (t : Bool) (i b c m : ℕ) → pick t (Some (header i b c m)) None ≡ None → t ≡ false
 fault-by true i b c m e = cc
 fault-by false i b c m e = refl
 
-pub fault : (s : List ℕ) (at : ℕ) {h : Head} → h ≡ head_at s at → h ≡ Fault → head_ok s at ≡ false
+pub fault : (s : List ℕ) (at : ℕ) {h : Option Head} → h ≡ head_at s at → h ≡ None → head_ok s at ≡ false
 unfolding head_at
 fault s at p q = fault-by (head_ok s at) _ _ _ _ (sym p ∙ q)
 
@@ -190,9 +192,9 @@ pub record ForestStands (s : List ℕ) (d n last left at : ℕ) (f : Forest Valu
 next-byte : (s : List ℕ) (at k : ℕ) → at + k < length s → drop (at + k) s ≡ get_or s (at + k) 0 ∷ drop (at + suc k) s
 next-byte s at k h = rw add-suc (drop-cons s (at + k) 0 h)
 
-header : (s : List ℕ) (at : ℕ) → at + 5 ≤ length s →
+first-five : (s : List ℕ) (at : ℕ) → at + 5 ≤ length s →
     drop at s ≡ get_or s at 0 ∷ get_or s (at + 1) 0 ∷ get_or s (at + 2) 0 ∷ get_or s (at + 3) 0 ∷ get_or s (at + 4) 0 ∷ drop (at + 5) s
-header s at h =
+first-five s at h =
     let e0 : drop at s ≡ get_or s at 0 ∷ drop (at + 1) s = rw add-zero at (next-byte s at 0 (omega arith)) in
     e0 ∙ rw (next-byte s at 1 (omega arith), next-byte s at 2 (omega arith), next-byte s at 3 (omega arith), next-byte s at 4 (omega arith)) refl
 
@@ -208,7 +210,7 @@ node-bytes s at m e ks rest bs h c p q =
     let e2 : id_at s at / 256 ≡ get_or s (at + 1) 0 = omega arith in
     let e3 : drop (at + 5) s ≡ value_at s at ++ (encode ks ++ (encode rest ++ drop e s)) =
     sym (take-append-drop (len_at s at) (drop (at + 5) s)) ∙ rw (drop-drop (len_at s at) (at + 5) s, p, q) refl in
-    header s at h.header ∙ sym (encode-node (id_at s at) (basic_at s at) (value_at s at) ks rest (drop e s) ∙ rw (e1, e2, len, c, ← e3) refl)
+    first-five s at h.header ∙ sym (encode-node (id_at s at) (basic_at s at) (value_at s at) ks rest (drop e s) ∙ rw (e1, e2, len, c, ← e3) refl)
 
 pub proper-at : (s : List ℕ) (at : ℕ) → Octets s → NodeSized s at → Proper (value (basic_at s at) (value_at s at))
 proper-at s at bs h = record { valid = h.valid; bytes = octets-part s (at + 5) (len_at s at) bs }
@@ -305,19 +307,23 @@ parse-sound s bs zero n = childless-stand s n
 parse-sound s bs (suc d) n = siblings-stand s bs d (parse-sound s bs d) n
 
 -- a scan that ends found a forest
-past_by : (p : Parse) (e l : ℕ) → erase p ≡ Past e l → (ks : Forest Value) × (p ≡ past ks e l)
+past_by : (p : Parse) (e l : ℕ) → erase p ≡ Some (e, l) → (ks : Forest Value) × (p ≡ past ks e l)
 past_by bad e l h = (end, cc)
-past_by (past ks e' l') e l h = (ks, cc)
+past_by (past ks e' l') e l h =
+    let q : ◌≡◌ {A = ℕ × ℕ} (e', l') (e, l) = cc in
+    let a : e' ≡ e = ap (λ (x : ℕ × ℕ). x.0) q in
+    let b : l' ≡ l = ap (λ (x : ℕ × ℕ). x.1) q in
+    (ks, cc)
 
-pub scanned : (s : List ℕ) (d n last left at e l : ℕ) → scan s d n last left at ≡ Past e l → (ks : Forest Value) × (parse s d n last left at ≡ past ks e l)
+pub scanned : (s : List ℕ) (d n last left at e l : ℕ) → scan s d n last left at ≡ Some (e, l) → (ks : Forest Value) × (parse s d n last left at ≡ past ks e l)
 unfolding scan
 scanned s d n last left at e l h = past_by (parse s d n last left at) e l h
 
-bad-by : (p : Parse) → erase p ≡ Bad → p ≡ bad
+bad-by : (p : Parse) → erase p ≡ None → p ≡ bad
 bad-by bad h = refl
 bad-by (past ks e l) h = cc
 
-pub unscanned : (s : List ℕ) (d n last left at : ℕ) → scan s d n last left at ≡ Bad → parse s d n last left at ≡ bad
+pub unscanned : (s : List ℕ) (d n last left at : ℕ) → scan s d n last left at ≡ None → parse s d n last left at ≡ bad
 unfolding scan
 unscanned s d n last left at h = bad-by (parse s d n last left at) h
 

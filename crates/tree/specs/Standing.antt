@@ -7,8 +7,7 @@ use Rattle.scalar.specs.Value.{Value}
 use Rattle.tree.specs.Encode.{root_count, payload, children, encode, rooted, Proper, SoundValues}
 use Rattle.tree_forest.specs.Limits.{session_levels, session_nodes}
 use Rattle.tree.specs.Ids.{is_path, path_from_ids, last_id}
-use Rattle.tree.specs.declared.Found.{Found}
-use Rattle.tree.specs.declared.Found.TheVariants.{At, Nothing}
+use Rattle.std.specs.Prelude.{Option, Some, None}
 
 -- At most d levels; ids rise strictly, are above `last` and fit u16; every value is one of its basic type. EncodeLaws (`Good-of`, `of-good`)
 -- prove that this is `SoundValues`, `Rising` and at most d levels.
@@ -40,24 +39,24 @@ pub record Stood (s : List ℕ) (p i : ℕ) (l : Lookup Value) : Type 0 where
   pub root : Root s p i there
 
 -- The answer says where what was looked up stands, or that there is none.
-abbrev pub Spot : List ℕ → ℕ → Found → Lookup Value → Type 0
-Spot s i (At p) l = Stood s p i l
-Spot s i Nothing l = l ≡ absent
+abbrev pub Spot : List ℕ → ℕ → Option ℕ → Lookup Value → Type 0
+Spot s i (Some p) l = Stood s p i l
+Spot s i None l = l ≡ absent
 
 -- The tree that stands at `at`, if one does, ends at e.
 pub record Ended (s : List ℕ) (at e : ℕ) : Type 0 where
   pub ends : (i : ℕ) (t : Tree Value) → Root s at i t → e ≡ at + length (encode (node_of i t end))
 
 -- r says where the sibling with the id stands among the n siblings at `at`, if siblings stand there.
-pub record Sought (s : List ℕ) (at n id : ℕ) (r : Found) : Type 0 where
+pub record Sought (s : List ℕ) (at n id : ℕ) (r : Option ℕ) : Type 0 where
   pub tells : (f : Forest Value) → Row s at f → root_count f ≡ n → Spot s id r (find id f)
 
 -- r says where the child with the id stands below the tree at `at`, if one stands there.
-pub record Below (s : List ℕ) (at id : ℕ) (r : Found) : Type 0 where
+pub record Below (s : List ℕ) (at id : ℕ) (r : Option ℕ) : Type 0 where
   pub tells : (i : ℕ) (t : Tree Value) → Root s at i t → Spot s id r (find id (children t))
 
 -- r says where the path leads from the tree at the start, if one stands there.
-pub record Followed (s ids : List ℕ) (r : Found) : Type 0 where
+pub record Followed (s ids : List ℕ) (r : Option ℕ) : Type 0 where
   pub tells : (i : ℕ) (t : Tree Value) → Root s 0 i t → is_path ids ≡ true → Spot s (last_id (path_from_ids ids)) r (read (path_from_ids ids) (children t))
 
 -- b says whether the tree at the start of s, if a sound one stands there, keeps to the limits.

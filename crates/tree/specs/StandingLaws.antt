@@ -13,13 +13,13 @@ use Rattle.tree.specs.Standing.{Good, Row, Root, Ended}
 use Rattle.tree.specs.EncodeLaws.{Got, got, fault, Fine, of-good, Fields, node-fields, encode-node, length-node, split-node, later, parse-complete}
 use Rattle.tree.specs.EncodeLaws.{good_of, good-up, sound-above}
 use Rattle.tree.specs.declared.Head.{Head}
-use Rattle.tree.specs.declared.Head.TheVariants.{Node, Fault}
-use Rattle.tree.specs.declared.Scan.TheVariants.{Past, Bad}
+use Rattle.std.specs.Prelude.{Option, Some, None}
+use Rattle.tree.specs.Decode.{header}
 
 pub no-fault : {b : Bool} {A : Type 0} → b ≡ true → b ≡ false → A
 no-fault h k = let z : ◌≡◌ {A = ℕ} 0 1 = cc in absurd (omega arith)
 
-pub no-bad : {e l : ℕ} {A : Type 0} → Past e l ≡ Bad → A
+pub no-bad : {e l : ℕ} {A : Type 0} → ◌≡◌ {A = Option (ℕ × ℕ)} (Some (e, l)) None → A
 no-bad h = let z : ◌≡◌ {A = ℕ} 0 1 = cc in absurd (omega arith)
 
 -- what the first node of a row is read as
@@ -88,35 +88,35 @@ seen_by : (s : List ℕ) (at x d : ℕ) (v t : List ℕ) (ks : Forest Value) (i 
     Seen at x d v ks i b c m
 seen_by s at x d v t ks i b c m w g = record { id = g.id ∙ w.id; basic = g.basic ∙ w.basic; count = g.count ∙ w.count; next = g.next ∙ w.next }
 
-pub seen : (s : List ℕ) (at x d : ℕ) (v : List ℕ) (ks rest : Forest Value) → Row s at (node x (value d v) ks rest) → (h : Head) (i b c m : ℕ) →
-    h ≡ head_at s at → h ≡ Node i b c m →
+pub seen : (s : List ℕ) (at x d : ℕ) (v : List ℕ) (ks rest : Forest Value) → Row s at (node x (value d v) ks rest) → (h : Option Head) (i b c m : ℕ) →
+    h ≡ head_at s at → h ≡ Some (header i b c m) →
     Seen at x d v ks i b c m
 seen s at x d v ks rest w h i b c m p q = seen_by s at x d v _ ks i b c m (row-fields s at x d v ks rest w) (got p q)
 
-pub unseen : {A : Type 0} (s : List ℕ) (at x d : ℕ) (v : List ℕ) (ks rest : Forest Value) → Row s at (node x (value d v) ks rest) → (h : Head) →
-    h ≡ head_at s at → h ≡ Fault → A
+pub unseen : {A : Type 0} (s : List ℕ) (at x d : ℕ) (v : List ℕ) (ks rest : Forest Value) → Row s at (node x (value d v) ks rest) → (h : Option Head) →
+    h ≡ head_at s at → h ≡ None → A
 unseen s at x d v ks rest w h p q = no-fault (row-fields s at x d v ks rest w).ok (fault s at p q)
 
 -- the same at the root of a tree
-pub root-seen : (s : List ℕ) (at x d : ℕ) (v : List ℕ) (ks : Forest Value) → Root s at x (tree (value d v) ks) → (h : Head) (i b c m : ℕ) →
-    h ≡ head_at s at → h ≡ Node i b c m →
+pub root-seen : (s : List ℕ) (at x d : ℕ) (v : List ℕ) (ks : Forest Value) → Root s at x (tree (value d v) ks) → (h : Option Head) (i b c m : ℕ) →
+    h ≡ head_at s at → h ≡ Some (header i b c m) →
     Seen at x d v ks i b c m
 root-seen s at x d v ks w h i b c m p q = seen_by s at x d v _ ks i b c m (root-fields s at x d v ks w) (got p q)
 
-pub root-unseen : {A : Type 0} (s : List ℕ) (at i : ℕ) (t : Tree Value) → Root s at i t → (h : Head) → h ≡ head_at s at → h ≡ Fault → A
+pub root-unseen : {A : Type 0} (s : List ℕ) (at i : ℕ) (t : Tree Value) → Root s at i t → (h : Option Head) → h ≡ head_at s at → h ≡ None → A
 root-unseen s at i (tree (value b v) ks) w h p q = no-fault (root-fields s at i b v ks w).ok (fault s at p q)
 
 -- the children of a tree are scanned to its end
-pub root-scan : (s : List ℕ) (at x d : ℕ) (v : List ℕ) (ks : Forest Value) → Root s at x (tree (value d v) ks) → (h : Head) (i b c m : ℕ) →
-    h ≡ head_at s at → h ≡ Node i b c m →
-    scan s session_levels c 0 session_nodes m ≡ Past (at + length (encode (node x (value d v) ks end))) (session_nodes - nodes ks)
+pub root-scan : (s : List ℕ) (at x d : ℕ) (v : List ℕ) (ks : Forest Value) → Root s at x (tree (value d v) ks) → (h : Option Head) (i b c m : ℕ) →
+    h ≡ head_at s at → h ≡ Some (header i b c m) →
+    scan s session_levels c 0 session_nodes m ≡ Some ((at + length (encode (node x (value d v) ks end))), (session_nodes - nodes ks))
 unfolding scan encode
 root-scan s at x d v ks w h i b c m p q =
     let u = root-seen s at x d v ks w h i b c m p q in
     let k = parse-complete ks s session_levels 0 session_nodes (at + 5 + length v) w.after (root-fields s at x d v ks w).after w.good w.small in
     let l = length-node x d v ks end in
     let e : at + 5 + length v + length (encode ks) ≡ at + length (encode (node x (value d v) ks end)) = omega (arith, l) in
-    rw (u.count, u.next, k) (ap (λ (z : ℕ). Past z (session_nodes - nodes ks)) e)
+    rw (u.count, u.next, k) (ap (λ (z : ℕ). Some (z, (session_nodes - nodes ks))) e)
 
 -- a tree lies within the bytes
 pub root-inside : (s : List ℕ) (at i : ℕ) (t : Tree Value) → Root s at i t → at + length (encode (node_of i t end)) ≤ length s
@@ -188,16 +188,16 @@ first-node s at n x d v ks rest w e i b c m p q r u = record {
   next = λ e z. subst (λ (y : ℕ). Row s y rest) (sym (z.ends x (tree (value d v) ks) (row-root s at x d v ks rest w))) (row-rest s at x d v ks rest w);
 }
 
-pub first : (s : List ℕ) (at n : ℕ) (f : Forest Value) → Row s at f → root_count f ≡ n → (n ≡ 0 → ⊥) → (h : Head) (i b c m : ℕ) → h ≡ head_at s at →
-    h ≡ Node i b c m → First s at n f i b c m
+pub first : (s : List ℕ) (at n : ℕ) (f : Forest Value) → Row s at f → root_count f ≡ n → (n ≡ 0 → ⊥) → (h : Option Head) (i b c m : ℕ) → h ≡ head_at s at →
+    h ≡ Some (header i b c m) → First s at n f i b c m
 first s at n end w e z h i b c m p q = absurd (z (sym (unfold root_count in e)))
 first s at n (node x (value d v) ks rest) w e z h i b c m p q =
     let u = seen s at x d v ks rest w h i b c m p q in
     first-node s at n x d v ks rest w e i b c m u.id u.basic u.count u.next
 
 -- where siblings stand there is a header
-pub no-first : {A : Type 0} (s : List ℕ) (at n : ℕ) (f : Forest Value) → Row s at f → root_count f ≡ n → (n ≡ 0 → ⊥) → (h : Head) → h ≡ head_at s at
-    → h ≡ Fault → A
+pub no-first : {A : Type 0} (s : List ℕ) (at n : ℕ) (f : Forest Value) → Row s at f → root_count f ≡ n → (n ≡ 0 → ⊥) → (h : Option Head) → h ≡ head_at s at
+    → h ≡ None → A
 no-first s at n end w e z h p q = absurd (z (sym (unfold root_count in e)))
 no-first s at n (node x (value d v) ks rest) w e z h p q = unseen s at x d v ks rest w h p q
 

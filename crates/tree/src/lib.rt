@@ -1,76 +1,49 @@
 // Trees in bytes: messages, session trees and environments; validity and walking.
 #![tactic(auto)]
 
-ghost use Rattle.std.specs.Prelude.{◌≡◌, ◌&&◌, ◌+◌, ◌<◌, ltb, drop, get_or};
+ghost use Rattle.std.specs.Prelude.{◌≡◌, ◌+◌, ◌<◌, drop, get_or};
 ghost use Rattle.tree.specs.Encode.{Octets};
 ghost use Rattle.tree.specs.Decode.{head_at, scan, is_tree, is_message, is_session_tree, value_at};
 ghost use Rattle.tree.specs.Ids.{is_path, steps, is_none, Words};
 ghost use Rattle.tree.specs.Standing.{Ended, Sought, Below, Followed, Within};
 
-// What reading siblings finds: the position past them and the nodes still allowed, or a fault.
-#[derive(Clone, Copy)]
-pub enum Scan {
-    Past(usize, u8),
-    Bad,
-}
-
 // The header of a node: its id, its basic type, its child count and where its children start; or a fault.
 #[derive(Clone, Copy)]
-pub enum Head {
-    Node(u16, u8, u8, usize),
-    Fault,
+pub struct Head {
+    pub id: u16,
+    pub basic: u8,
+    pub count: u8,
+    pub start: usize,
 }
-
-// Where a node starts, or that there is none.
-#[derive(Clone, Copy)]
-pub enum Found {
-    At(usize),
-    Nothing,
-}
-
-// Reads nothing.
-fn touch(s: &[u8]) {}
 
 // Every byte is below 256, as a fact that callers can cite.
 pub fn octets(s: &[u8])
     ensures { Octets s.now }
-{
-    touch(s);
-}
+{}
 
 // The header of the node at `at`, where it and a value of its basic type stand there.
-pub fn head_at(s: &[u8], at: usize) -> Head
+#[tactic(auto, unfolding(crate::specs::Decode::head_at, crate::specs::Decode::head_ok))]
+pub fn head_at(s: &[u8], at: usize) -> Option<Head>
     ensures { result ≡ head_at s.now at }
 {
-    if s.len() < 5 {
-        return Head::Fault;
+    if s.len() < 5 || s.len() - 5 < at {
+        return None;
     }
-    if s.len() - 5 < at {
-        return Head::Fault;
+    let len = usize::from(s[at + 4]);
+    if s.len() - 5 - at < len || !scalar::value_ok(s, at + 5, s[at + 2], len) {
+        return None;
     }
-    let len = wire::wide(s[at + 4]);
-    if s.len() - 5 - at < len {
-        return Head::Fault;
-    }
-    if !scalar::value_ok(s, at + 5, s[at + 2], len) {
-        return Head::Fault;
-    }
-    Head::Node(wire::u16_at(s, at), s[at + 2], s[at + 3], at + 5 + len)
-}
-
-// Are a level and a node left?
-fn spare(levels: u8, left: u8) -> bool
-    ensures { result ≡ ltb 0 levels && ltb 0 left }
-{
-    if levels == 0 {
-        return false;
-    }
-    0 < left
+    Some(Head {
+        id: wire::u16_at(s, at),
+        basic: s[at + 2],
+        count: s[at + 3],
+        start: at + 5 + len,
+    })
 }
 
 // n siblings at `at` of at most `levels` levels, with ids above `last`, of at most `left` nodes. The loop goes on to a last sibling's
 // children; those of another one are read by a call.
-pub fn kids(s: &[u8], at: usize, n: u8, last: u16, levels: u8, left: u8) -> Scan
+pub fn kids(s: &[u8], at: usize, n: u8, last: u16, levels: u8, left: u8) -> Option<(usize, u8)>
     ensures { result ≡ scan s.now levels n last left at }
 {
     let mut p = at;
@@ -79,47 +52,43 @@ pub fn kids(s: &[u8], at: usize, n: u8, last: u16, levels: u8, left: u8) -> Scan
     let mut deep = levels;
     let mut room = left;
     while 0 < more {
-        if !spare(deep, room) {
-            return Scan::Bad;
+        if deep == 0 || room == 0 {
+            return None;
         }
-        let Head::Node(id, _, count, mid) = head_at(s, p) else {
-            return Scan::Bad;
-        };
-        if id <= before {
-            return Scan::Bad;
+        let node = head_at(s, p)?;
+        if node.id <= before {
+            return None;
         }
-        p = mid;
-        more = more - 1;
-        before = id;
-        room = room - 1;
-        if 0 < count {
+        p = node.start;
+        more -= 1;
+        before = node.id;
+        room -= 1;
+        if 0 < node.count {
             if more == 0 {
-                more = count;
+                more = node.count;
                 before = 0;
-                deep = deep - 1;
+                deep -= 1;
             } else {
-                let Scan::Past(next, rest) = kids(s, mid, count, 0, deep - 1, room) else {
-                    return Scan::Bad;
-                };
+                let (next, rest) = kids(s, p, node.count, 0, deep - 1, room)?;
                 p = next;
                 room = rest;
             }
         }
     }
-    Scan::Past(p, room)
+    Some((p, room))
 }
 
 // Are the bytes a tree of at most `levels` levels and `nodes` nodes below its root?
 pub fn is_tree(s: &[u8], levels: u8, nodes: u8) -> bool
     ensures { result ≡ is_tree levels nodes s.now }
 {
-    let Head::Node(id, _, count, mid) = head_at(s, 0) else {
+    let Some(root) = head_at(s, 0) else {
         return false;
     };
-    if id != 0 {
+    if root.id != 0 {
         return false;
     }
-    let Scan::Past(end, _) = kids(s, mid, count, 0, levels, nodes) else {
+    let Some((end, _)) = kids(s, root.start, root.count, 0, levels, nodes) else {
         return false;
     };
     end == s.len()
@@ -136,24 +105,17 @@ pub fn is_message(s: &[u8]) -> bool
 pub fn is_session_tree(s: &[u8]) -> bool
     ensures { result ≡ is_session_tree s.now }
 {
-    if !is_tree(s, 6, 48) {
-        return false;
-    }
-    wire::byte_at(s, 2) == scalar::VOID
+    is_tree(s, 6, 48) && wire::byte_at(s, 2) == scalar::VOID
 }
 
 // Does the tree at the start of the bytes keep to the limits?
 pub fn within(s: &[u8], levels: u8, nodes: u8) -> bool
     ensures { Within levels nodes s.now result }
 {
-    octets(s);
-    let Head::Node(_, _, count, mid) = head_at(s, 0) else {
+    let Some(root) = head_at(s, 0) else {
         return false;
     };
-    let Scan::Past(_, _) = kids(s, mid, count, 0, levels, nodes) else {
-        return false;
-    };
-    true
+    kids(s, root.start, root.count, 0, levels, nodes).is_some()
 }
 
 // Where the tree at `at` ends. Its nodes are passed one by one, with how many trees are still to come side by side.
@@ -163,20 +125,14 @@ pub fn extent(s: &[u8], at: usize) -> usize
     let mut p = at;
     let mut left: usize = 1;
     while 0 < left {
-        if 255 < left {
+        if 255 < left || s.len() < 5 || s.len() - 5 < p {
             return at;
         }
-        if s.len() < 5 {
-            return at;
-        }
-        if s.len() - 5 < p {
-            return at;
-        }
-        let len = wire::wide(s[p + 4]);
+        let len = usize::from(s[p + 4]);
         if s.len() - 5 - p < len {
             return at;
         }
-        left = left - 1 + wire::wide(s[p + 3]);
+        left = left - 1 + usize::from(s[p + 3]);
         p = p + 5 + len;
     }
     p
@@ -186,88 +142,57 @@ pub fn extent(s: &[u8], at: usize) -> usize
 pub fn value_byte(s: &[u8], at: usize, k: usize) -> u8
     ensures { result ≡ get_or (value_at s.now at) k 0 }
 {
-    if s.len() < 5 {
-        return 0;
-    }
-    if s.len() - 5 < at {
-        return 0;
-    }
-    if wire::wide(s[at + 4]) <= k {
-        return 0;
-    }
-    if s.len() - 5 - at <= k {
+    if s.len() < 5 || s.len() - 5 < at || usize::from(s[at + 4]) <= k || s.len() - 5 - at <= k {
         return 0;
     }
     s[at + 5 + k]
 }
 
 // The sibling with the id among the n siblings at `at`. Ids rise, so the search stops at a larger one.
-pub fn seek(s: &[u8], at: usize, n: u8, id: u16) -> Found
+pub fn seek(s: &[u8], at: usize, n: u8, id: u16) -> Option<usize>
     ensures { Sought s.now at n id result }
 {
     if n == 0 {
-        return Found::Nothing;
+        return None;
     }
-    let Head::Node(j, _, _, _) = head_at(s, at) else {
-        return Found::Nothing;
-    };
-    if id < j {
-        return Found::Nothing;
+    let node = head_at(s, at)?;
+    if id < node.id {
+        return None;
     }
-    if j == id {
-        return Found::At(at);
+    if node.id == id {
+        return Some(at);
     }
     let end = extent(s, at);
     seek(s, end, n - 1, id)
 }
 
 // The child with the id of the tree at `at`.
-pub fn down(s: &[u8], at: usize, id: u16) -> Found
+pub fn down(s: &[u8], at: usize, id: u16) -> Option<usize>
     ensures { Below s.now at id result }
 {
-    let Head::Node(_, _, count, mid) = head_at(s, at) else {
-        return Found::Nothing;
-    };
-    seek(s, mid, count, id)
+    let root = head_at(s, at)?;
+    seek(s, root.start, root.count, id)
 }
 
 // The node at the end of a path below the tree at the start.
-pub fn follow(s: &[u8], ids: [u16; 4]) -> Found
+pub fn follow(s: &[u8], ids: [u16; 4]) -> Option<usize>
     ensures { Followed s.now ids result }
 {
     let mut at: usize = 0;
-    let mut k: usize = 0;
-    while k < 4 {
-        let id = ids[k];
+    for id in ids {
         if id == 0 {
-            return Found::At(at);
+            return Some(at);
         }
-        let Found::At(next) = down(s, at, id) else {
-            return Found::Nothing;
-        };
-        at = next;
-        k += 1;
+        at = down(s, at, id)?;
     }
-    Found::At(at)
+    Some(at)
 }
 
 // Is the first id not 0, and after a 0 only 0?
 pub fn path_ok(ids: [u16; 4]) -> bool
     ensures { result ≡ is_path ids }
 {
-    if ids[0] == 0 {
-        return false;
-    }
-    if ids[1] == 0 {
-        if ids[2] == 0 {
-            return ids[3] == 0;
-        }
-        return false;
-    }
-    if ids[2] == 0 {
-        return ids[3] == 0;
-    }
-    true
+    ids[0] != 0 && (ids[1] != 0 || ids[2] == 0) && (ids[2] != 0 || ids[3] == 0)
 }
 
 // Is the step k of a path its last?
@@ -275,18 +200,10 @@ pub fn is_last(ids: [u16; 4], k: usize) -> bool
     requires { k < 4 }
     ensures { result ≡ is_none (steps (drop (k + 1) ids)) }
 {
-    if k == 3 {
-        return true;
-    }
-    ids[k + 1] == 0
+    k == 3 || ids[k + 1] == 0
 }
 
 // Every id fits u16, as a fact that callers can cite.
 pub fn words(ids: [u16; 4])
     ensures { Words ids }
-{
-    let _a = wire::index(ids[0]);
-    let _b = wire::index(ids[1]);
-    let _c = wire::index(ids[2]);
-    let _d = wire::index(ids[3]);
-}
+{}

@@ -7,11 +7,10 @@ ghost use Rattle.tree_count.specs.Counted.{NodesBelow, LevelsBelow};
 pub fn node_count(s: &[u8]) -> u8
     ensures { NodesBelow s.now result }
 {
-    tree::octets(s);
-    let tree::Head::Node(_, _, count, mid) = tree::head_at(s, 0) else {
+    let Some(root) = tree::head_at(s, 0) else {
         return 0;
     };
-    let tree::Scan::Past(_, left) = tree::kids(s, mid, count, 0, 6, 48) else {
+    let Some((_, left)) = tree::kids(s, root.start, root.count, 0, 6, 48) else {
         return 0;
     };
     48 - left
@@ -21,16 +20,13 @@ pub fn node_count(s: &[u8]) -> u8
 pub fn level_count(s: &[u8]) -> u8
     ensures { LevelsBelow s.now result }
 {
-    tree::octets(s);
-    let tree::Head::Node(_, _, count, mid) = tree::head_at(s, 0) else {
+    let Some(root) = tree::head_at(s, 0) else {
         return 0;
     };
-    let mut levels: u8 = 0;
-    while levels <= 6 {
-        if let tree::Scan::Past(_, _) = tree::kids(s, mid, count, 0, levels, 48) {
+    for levels in 0..=6 {
+        if tree::kids(s, root.start, root.count, 0, levels, 48).is_some() {
             return levels;
         }
-        levels += 1;
     }
     0
 }

@@ -20,13 +20,13 @@ use Rattle.tree.specs.IdsLaws.{path-at, steps-length}
 use Rattle.tree.specs.Standing.{Row}
 use Rattle.tree.specs.StandingLaws.{root-seen, root-unseen, root-kids}
 use Rattle.tree.specs.declared.Head.{Head}
-use Rattle.tree.specs.declared.Head.TheVariants.{Node, Fault}
 use Rattle.tree_edit.specs.ForestWrite.{read-gap, read-on, read-hit, read-deep}
 use Rattle.tree_edit.specs.Plan.{plan_of, Led, Gap, Hit, ChildrenAt, Inside, Planned}
 use Rattle.tree_edit.specs.declared.Plan.{Plan}
 use Rattle.tree_edit.specs.declared.Plan.TheVariants.{Fail}
 use Rattle.tree_edit.proofs.Locating.{plan-gap, plan-on, plan-hit, plan-deep}
 use Rattle.tree_edit.proofs.Splicing.{read-end, plan-end, front, front-encode, edit-root}
+use Rattle.std.specs.Prelude.{Option, Some, None}
 
 module _ (s : List ℕ) where
   abbrev Safe : Forest Value → Type 0
@@ -120,24 +120,24 @@ planned s ids c w f r four dec es small led =
       right = λ missing g. rw (p, led) (edit-root missing g ids s c w f es);
     }
 
-routed : (s ids : List ℕ) (t : Tree Value) → Octets s → decode session_levels session_nodes s ≡ present t → length ids ≡ 4 → (h : Head) (i b c m : ℕ) (r : Plan) → h ≡ head_at s 0 → h ≡ Node i b c m →
-    Led s 0 (get_or ids 0 0) (steps (drop 1 ids)) 0 m c r → Planned s ids r
-routed s ids (tree (value d w) f) bs dec four h i b c m r p q ld =
+routed : (s ids : List ℕ) (t : Tree Value) → Octets s → decode session_levels session_nodes s ≡ present t → length ids ≡ 4 → (h : Option Head) (y : Head) (r : Plan) → h ≡ head_at s 0 → h ≡ Some y →
+    Led s 0 (get_or ids 0 0) (steps (drop 1 ids)) 0 y.start y.count r → Planned s ids r
+routed s ids (tree (value d w) f) bs dec four h y r p q ld =
     let x = decode-sound session_levels session_nodes s (tree (value d w) f) bs dec in
     let root = decoded-root s (tree (value d w) f) bs dec in
-    let u = root-seen s 0 0 d w f root h i b c m p q in
+    let u = root-seen s 0 0 d w f root h y.id y.basic y.count y.start p q in
     let rows = root-kids s 0 0 d w f root in
-    let row : Row s m f = subst (λ (z : ℕ). Row s z f) (sym u.next) rows in
+    let row : Row s y.start f = subst (λ (z : ℕ). Row s z f) (sym u.next) rows in
     let led = ld.leads f row (sym u.count) ∙ ap (plan_of 0 (get_or ids 0 0) (steps (drop 1 ids)) f 0) u.next in
     planned s ids d w f r four dec x.bytes x.good.few led
 
-module _ (s ids : List ℕ) (four : length ids ≡ 4) (ok : is_tree 6 48 s ≡ true) (bs : Octets s) (h : Head) (p : h ≡ head_at s 0) where
-  pub route-fault : h ≡ Fault → Planned s ids Fail
+module _ (s ids : List ℕ) (four : length ids ≡ 4) (ok : is_tree 6 48 s ≡ true) (bs : Octets s) (h : Option Head) (p : h ≡ head_at s 0) where
+  pub route-fault : h ≡ None → Planned s ids Fail
   route-fault q =
       let w = present-is (decode 6 48 s) ok in
       root-unseen s 0 0 w.0 (decoded-root s w.0 bs w.1) h p q
 
-  pub route-on : (i b c m : ℕ) (r : Plan) → h ≡ Node i b c m → Led s 0 (get_or ids 0 0) (steps (drop 1 ids)) 0 m c r → Planned s ids r
-  route-on i b c m r q ld = let w = present-is (decode 6 48 s) ok in routed s ids w.0 bs w.1 four h i b c m r p q ld
+  pub route-on : (y : Head) (r : Plan) → h ≡ Some y → Led s 0 (get_or ids 0 0) (steps (drop 1 ids)) 0 y.start y.count r → Planned s ids r
+  route-on y r q ld = let w = present-is (decode 6 48 s) ok in routed s ids w.0 bs w.1 four h y r p q ld
 
 pub ruleset route-laws = (route-fault, route-on)

@@ -16,8 +16,6 @@ use Rattle.tree.specs.DecodeLaws.{present-is, decode-sound, decoded-root}
 use Rattle.tree.specs.Ids.{is_path, path_from_ids, steps, last_id}
 use Rattle.tree.specs.Standing.{Root, Spot, Ended, Followed}
 use Rattle.tree.specs.StandingLaws.{root-inside}
-use Rattle.tree.specs.declared.Found.{Found}
-use Rattle.tree.specs.declared.Found.TheVariants.{At, Nothing}
 use Rattle.tree_edit.specs.Wrote.{Wrote}
 use Rattle.tree_edit.specs.WroteLaws.{wrote_as, wrote-more, wrote_none, wrote-all-of}
 use Rattle.tree_edit.specs.Change.{missing_value, replaced, assigned_bytes, alone, subtree_of}
@@ -25,6 +23,7 @@ use Rattle.tree_edit.specs.Plan.{body, prefix, spliced, Gap, Hit, Inside, Planne
 use Rattle.tree_edit.specs.declared.Plan.{Plan}
 use Rattle.tree_edit.specs.declared.Plan.TheVariants.{Insert, Replace, Fail}
 use Rattle.tree_edit.proofs.Splicing.{node-body}
+use Rattle.std.specs.Prelude.{Option, Some, None}
 
 -- a plan that is known
 inside-as : (s ids : List ℕ) (r q : Plan) → r ≡ q → (w : Planned s ids r) → Inside s (read (path_from_ids ids) w.kids) q
@@ -151,25 +150,25 @@ module _ (s m ids : List ℕ) (r : Plan) (bs : Octets m) (ok : is_tree 0 0 m ≡
 subtree-is : (x : Path) (l : Lookup Value) (t : Tree Value) → l ≡ present t → alone (read x (children t)) ≡ subtree_of x l
 subtree-is x l (tree a f) e = rw e refl
 
-module _ (s ids : List ℕ) (bs : Octets s) (ok : is_tree 6 48 s ≡ true) (good : is_path ids ≡ true) (r : Found) (f : Followed s ids r) where
-  record Came (r₁ : Found) : Type 0 where
+module _ (s ids : List ℕ) (bs : Octets s) (ok : is_tree 6 48 s ≡ true) (good : is_path ids ≡ true) (r : Option ℕ) (f : Followed s ids r) where
+  record Came (r₁ : Option ℕ) : Type 0 where
     there : Tree Value
     is : alone (read (path_from_ids ids) (children there)) ≡ subtree_of (path_from_ids ids) (decode 6 48 s)
     spot : Spot s (last_id (path_from_ids ids)) r₁ (read (path_from_ids ids) (children there))
 
-  came : (r' : Found) → r ≡ r' → Came r'
+  came : (r' : Option ℕ) → r ≡ r' → Came r'
   came r' e =
       let w = present-is (decode 6 48 s) ok in
       record {
         there = w.0;
         is = subtree-is (path_from_ids ids) (decode 6 48 s) w.0 w.1;
-        spot = subst (λ (z : Found). Spot s (last_id (path_from_ids ids)) z (read (path_from_ids ids) (children w.0))) e (f.tells 0 w.0 (decoded-root s w.0 bs w.1) good);
+        spot = subst (λ (z : Option ℕ). Spot s (last_id (path_from_ids ids)) z (read (path_from_ids ids) (children w.0))) e (f.tells 0 w.0 (decoded-root s w.0 bs w.1) good);
       }
 
-  pub subtree-none : (o : List ℕ) → r ≡ Nothing → Wrote o o 0 0 0 (subtree_of (path_from_ids ids) (decode 6 48 s))
-  subtree-none o e = let c = came Nothing e in wrote_as (sym (ap alone c.spot) ∙ c.is) refl (wrote_none o 0 (omega arith))
+  pub subtree-none : (o : List ℕ) → r ≡ None → Wrote o o 0 0 0 (subtree_of (path_from_ids ids) (decode 6 48 s))
+  subtree-none o e = let c = came None e in wrote_as (sym (ap alone c.spot) ∙ c.is) refl (wrote_none o 0 (omega arith))
 
-  module _ (at e : ℕ) (q : r ≡ At at) (n : Ended s at e) where
+  module _ (at e : ℕ) (q : r ≡ Some at) (n : Ended s at e) where
     record Sizes : Type 0 where
       pub header : at + 5 ≤ e
       pub inside : e ≤ length s
@@ -181,7 +180,7 @@ module _ (s ids : List ℕ) (bs : Octets s) (ok : is_tree 6 48 s ≡ true) (good
         record { header = omega (arith, z, length-node i b v ks end); inside = omega (arith, z, u) }
 
     pub subtree-sizes : (at + 5 ≤ e) × (e ≤ length s)
-    subtree-sizes = let c = came (At at) q in let z = sizes-by _ c.spot.there c.spot.root in (z.header, z.inside)
+    subtree-sizes = let c = came (Some at) q in let z = sizes-by _ c.spot.there c.spot.root in (z.header, z.inside)
 
     tail-by : (i : ℕ) (t : Tree Value) → Root s at i t → 0 ∷ 0 ∷ take (e - at - 2) (drop (at + 2) s) ≡ encode (rooted t)
     tail-by i (tree (value b v) ks) w =
@@ -197,5 +196,5 @@ module _ (s ids : List ℕ) (bs : Octets s) (ok : is_tree 6 48 s ≡ true) (good
 
     pub subtree-found : {o o₁ o₂ : List ℕ} {a c k : ℕ} → Wrote o o₁ 0 a 2 (0 ∷ 0 ∷ []) → Wrote o₁ o₂ a c k (take k (drop (at + 2) s)) → k ≡ e - at - 2 → Wrote o o₂ 0 c c (subtree_of (path_from_ids ids) (decode 6 48 s))
     subtree-found {k = k} x y h =
-        let c = came (At at) q in
+        let c = came (Some at) q in
         wrote-all-of (ap (λ (z : ℕ). 0 ∷ 0 ∷ take z (drop (at + 2) s)) h ∙ tail-by _ c.spot.there c.spot.root ∙ sym (ap alone c.spot.is) ∙ c.is) (wrote-more x y)

@@ -17,7 +17,7 @@ use Rattle.tree_edit.specs.WroteLaws.{wrote_as}
 use Rattle.tree_edit.specs.Change.{missing_value, replaced, assigned_bytes}
 use Rattle.tree_edit.specs.ChangeLaws.{replace-right, set-right, within-is, within-encodes}
 use Rattle.tree_edit.specs.Limited.{PutOutcome, SetOutcome}
-use Rattle.tree_edit.specs.declared.Grown.TheVariants.{Within, Past}
+use Rattle.std.specs.Prelude.{Ok, Err}
 
 replaced-of : (ty : Bool) (ids : List ℕ) (l k : Lookup Value) (a : Value) (f : Forest Value) (t : Tree Value) → k ≡ present (tree a f) → l ≡ present t →
     replaced ty (path_from_ids ids) l k ≡ encode (rooted (tree a (replace_at (missing_value ty) (path_from_ids ids) t f)))
@@ -30,7 +30,7 @@ assigned-of ids l k a f b p q = rw (p, q) refl
 module _ (ids s m : List ℕ) {o o' : List ℕ} {r : ℕ} (four : length ids ≡ 4) (ok : is_path ids ≡ true) (bs : Octets s) (bm : Octets m) (ws : Words ids)
     (b : Bool) (t : WithinLimits 6 48 o' b) where
   module _ (ty : Bool) (w : Wrote o o' 0 r r (replaced ty (path_from_ids ids) (decode 6 48 m) (decode 6 48 s))) where
-    pub put-kept : b ≡ true → PutOutcome ty ids s m o o' (Within r)
+    pub put-kept : b ≡ true → PutOutcome ty ids s m o o' (Ok r)
     put-kept e = record {
       tells = λ a f u p q.
           let x = decode-sound 6 48 m u bm q in
@@ -40,7 +40,7 @@ module _ (ids s m : List ℕ) {o o' : List ℕ} {r : ℕ} (four : length ids ≡
           record { wrote = v; encodes = within-encodes 6 48 a _ b v y.good.root h t e };
     }
 
-    pub put-passed : b ≡ false → PutOutcome ty ids s m o o' (Past r)
+    pub put-passed : b ≡ false → PutOutcome ty ids s m o o' (Err r)
     put-passed e = record {
       tells = λ a f u p q.
           let x = decode-sound 6 48 m u bm q in
@@ -51,7 +51,7 @@ module _ (ids s m : List ℕ) {o o' : List ℕ} {r : ℕ} (four : length ids ≡
     }
 
   module _ (w : Wrote o o' 0 r r (assigned_bytes (path_from_ids ids) (decode 0 0 m) (decode 6 48 s))) where
-    pub set-kept : b ≡ true → SetOutcome ids s m o o' (Within r)
+    pub set-kept : b ≡ true → SetOutcome ids s m o o' (Ok r)
     set-kept e = record {
       tells = λ a f u p q.
           let x = decode-sound 0 0 m (tree u end) bm q in
@@ -61,7 +61,7 @@ module _ (ids s m : List ℕ) {o o' : List ℕ} {r : ℕ} (four : length ids ≡
           record { wrote = v; encodes = within-encodes 6 48 a _ b v y.good.root h t e };
     }
 
-    pub set-passed : b ≡ false → SetOutcome ids s m o o' (Past r)
+    pub set-passed : b ≡ false → SetOutcome ids s m o o' (Err r)
     set-passed e = record {
       tells = λ a f u p q.
           let x = decode-sound 0 0 m (tree u end) bm q in

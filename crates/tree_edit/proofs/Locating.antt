@@ -15,10 +15,10 @@ use Rattle.tree.specs.IdsLaws.{none_is, steps_next}
 use Rattle.tree.specs.Standing.{Row, Ended}
 use Rattle.tree.specs.StandingLaws.{row-root, row-kids, row-rest, seen, unseen}
 use Rattle.tree.specs.declared.Head.{Head}
-use Rattle.tree.specs.declared.Head.TheVariants.{Node, Fault}
 use Rattle.tree_edit.specs.Plan.{plan_of, Led}
 use Rattle.tree_edit.specs.declared.Plan.{Plan}
 use Rattle.tree_edit.specs.declared.Plan.TheVariants.{Insert, Replace, Fail}
+use Rattle.std.specs.Prelude.{Option, Some, None}
 
 -- the cases of `plan_of` at a node
 module _ (k i : ℕ) (is : List ℕ) (up at x b : ℕ) (v : List ℕ) (ks rest : Forest Value) where
@@ -57,55 +57,55 @@ module _ (s : List ℕ) (k i : ℕ) (is : List ℕ) (up at n : ℕ) where
       go end w e = unfold plan_of in refl
       go (node j a ks rest) w e = absurd (unfold root_count in omega arith)
 
-  module _ (h : Head) (p : h ≡ head_at s at) (z : n ≡ 0 → ⊥) where
+  module _ (h : Option Head) (p : h ≡ head_at s at) (z : n ≡ 0 → ⊥) where
     none : {A : Type 0} → root_count {A = Value} end ≡ n → A
     none e = absurd (z (sym (unfold root_count in e)))
 
-    pub locate-fault : h ≡ Fault → Led s k i is up at n Fail
+    pub locate-fault : h ≡ None → Led s k i is up at n Fail
     locate-fault q = record { leads = go }
       where
         go : Leads Fail
         go end w e = none e
         go (node j (value b v) ks rest) w e = unseen s at j b v ks rest w h p q
 
-    module _ (j b c m : ℕ) (q : h ≡ Node j b c m) where
-      pub locate-gap : i < j → Led s k i is up at n (Insert up at k)
+    module _ (y : Head) (q : h ≡ Some y) where
+      pub locate-gap : i < y.id → Led s k i is up at n (Insert up at k)
       locate-gap l = record { leads = go }
         where
           go : Leads (Insert up at k)
           go end w e = none e
-          go (node x (value d v) ks rest) w e = sym (plan-gap k i is up at x d v ks rest (omega (arith, (seen s at x d v ks rest w h j b c m p q).id)))
+          go (node x (value d v) ks rest) w e = sym (plan-gap k i is up at x d v ks rest (omega (arith, (seen s at x d v ks rest w h y.id y.basic y.count y.start p q).id)))
 
-      pub locate-on : (e : ℕ) (r : Plan) → Ended s at e → j < i → Led s k i is up e (n - 1) r → Led s k i is up at n r
-      locate-on y r ex l ih = record { leads = go }
+      pub locate-on : (e : ℕ) (r : Plan) → Ended s at e → y.id < i → Led s k i is up e (n - 1) r → Led s k i is up at n r
+      locate-on e r ex l ih = record { leads = go }
         where
           go : Leads r
-          go end w e = none e
-          go (node x (value d v) ks rest) w e =
+          go end w o = none o
+          go (node x (value d v) ks rest) w o =
               let u = ex.ends x (tree (value d v) ks) (row-root s at x d v ks rest w) in
               let less : root_count rest ≡ n - 1 = unfold root_count in omega arith in
               ih.leads rest (subst (λ (z : ℕ). Row s z rest) (sym u) (row-rest s at x d v ks rest w)) less
-              ∙ ap (plan_of k i is rest up) u ∙ sym (plan-on k i is up at x d v ks rest (omega (arith, (seen s at x d v ks rest w h j b c m p q).id)))
+              ∙ ap (plan_of k i is rest up) u ∙ sym (plan-on k i is up at x d v ks rest (omega (arith, (seen s at x d v ks rest w h y.id y.basic y.count y.start p q).id)))
 
-      pub locate-hit : (e : ℕ) (y : Bool) → Ended s at e → j ≤ i → i ≤ j → y ≡ is_none is → y ≡ true → Led s k i is up at n (Replace at m e)
-      locate-hit e y ex l g o t = record { leads = go }
+      pub locate-hit : (e : ℕ) (b : Bool) → Ended s at e → y.id ≤ i → i ≤ y.id → b ≡ is_none is → b ≡ true → Led s k i is up at n (Replace at y.start e)
+      locate-hit e b ex l g o t = record { leads = go }
         where
-          go : Leads (Replace at m e)
+          go : Leads (Replace at y.start e)
           go end w f = none f
           go (node x (value d v) ks rest) w f =
-              let u = seen s at x d v ks rest w h j b c m p q in
+              let u = seen s at x d v ks rest w h y.id y.basic y.count y.start p q in
               let xi : x ≡ i = omega (arith, u.id) in
               rw (ex.ends x (tree (value d v) ks) (row-root s at x d v ks rest w), u.next, none_is is (sym o ∙ t), xi) (sym (plan-hit k i up at d v ks rest))
 
-pub locate-deep : (s ids : List ℕ) (k up at n : ℕ) (h : Head) (j b c m : ℕ) (y : Bool) (r : Plan) → length ids ≡ 4 → h ≡ head_at s at → (n ≡ 0 → ⊥) → h ≡ Node j b c m →
-    j ≤ get_or ids k 0 → get_or ids k 0 ≤ j → y ≡ is_none (steps (drop (k + 1) ids)) → y ≡ false →
-    Led s (k + 1) (get_or ids (k + 1) 0) (steps (drop (k + 1 + 1) ids)) at m c r → Led s k (get_or ids k 0) (steps (drop (k + 1) ids)) up at n r
-locate-deep s ids k up at n h j b c m y r four p z q l g o t ih = record { leads = go }
+pub locate-deep : (s ids : List ℕ) (k up at n : ℕ) (h : Option Head) (y : Head) (b : Bool) (r : Plan) → length ids ≡ 4 → h ≡ head_at s at → (n ≡ 0 → ⊥) → h ≡ Some y →
+    y.id ≤ get_or ids k 0 → get_or ids k 0 ≤ y.id → b ≡ is_none (steps (drop (k + 1) ids)) → b ≡ false →
+    Led s (k + 1) (get_or ids (k + 1) 0) (steps (drop (k + 1 + 1) ids)) at y.start y.count r → Led s k (get_or ids k 0) (steps (drop (k + 1) ids)) up at n r
+locate-deep s ids k up at n h y b r four p z q l g o t ih = record { leads = go }
   where
     go : (f : Forest Value) → Row s at f → root_count f ≡ n → r ≡ plan_of k (get_or ids k 0) (steps (drop (k + 1) ids)) f up at
     go end w e = absurd (z (sym (unfold root_count in e)))
     go (node x (value d v) ks rest) w e =
-        let u = seen s at x d v ks rest w h j b c m p q in
+        let u = seen s at x d v ks rest w h y.id y.basic y.count y.start p q in
         let xi : x ≡ get_or ids k 0 = omega (arith, u.id) in
         ih.leads ks (subst (λ (z : ℕ). Row s z ks) (sym u.next) (row-kids s at x d v ks rest w)) (sym u.count)
         ∙ rw (u.next, (steps_next ids k four (sym o ∙ t)).1, xi) (sym (plan-deep k (get_or ids k 0) (get_or ids (k + 1) 0) (steps (drop (k + 1 + 1) ids)) up at d v ks rest))

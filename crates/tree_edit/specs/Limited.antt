@@ -10,8 +10,7 @@ use Rattle.tree.specs.Decode.{decode}
 use Rattle.tree.specs.Ids.{path_from_ids}
 use Rattle.tree_edit.specs.Wrote.{Wrote}
 use Rattle.tree_edit.specs.Change.{missing_value}
-use Rattle.tree_edit.specs.declared.Grown.{Grown}
-use Rattle.tree_edit.specs.declared.Grown.TheVariants.{Within, Past}
+use Rattle.std.specs.Prelude.{Result, Ok, Err}
 
 -- "48 nodes", "6 levels", below the root.
 abbrev pub is_within_limits : Tree Value → Bool
@@ -26,16 +25,16 @@ pub record PastLimits (o o' : List ℕ) (r : ℕ) (t : Tree Value) : Type 0 wher
   pub wrote : Wrote o o' 0 r r (encode (rooted t))
   pub large : is_within_limits t ≡ false
 
-abbrev pub Outcome : List ℕ → List ℕ → Grown → Tree Value → Type 0
-Outcome o o' (Within r) t = KeptWithin o o' r t
-Outcome o o' (Past r) t = PastLimits o o' r t
+abbrev pub Outcome : List ℕ → List ℕ → Result ℕ ℕ → Tree Value → Type 0
+Outcome o o' (Ok r) t = KeptWithin o o' r t
+Outcome o o' (Err r) t = PastLimits o o' r t
 
 -- v is the outcome of replacing the subtree at the path of s by the tree of m.
-pub record PutOutcome (typed : Bool) (ids s m o o' : List ℕ) (v : Grown) : Type 0 where
+pub record PutOutcome (typed : Bool) (ids s m o o' : List ℕ) (v : Result ℕ ℕ) : Type 0 where
   pub tells : (a : Value) (f : Forest Value) (t : Tree Value) → decode session_levels session_nodes s ≡ present (tree a f)
       → decode session_levels session_nodes m ≡ present t → Outcome o o' v (tree a (replace_at (missing_value typed) (path_from_ids ids) t f))
 
 -- v is the outcome of setting the value of the leaf m at the path of s.
-pub record SetOutcome (ids s m o o' : List ℕ) (v : Grown) : Type 0 where
+pub record SetOutcome (ids s m o o' : List ℕ) (v : Result ℕ ℕ) : Type 0 where
   pub tells : (a : Value) (f : Forest Value) (b : Value) → decode session_levels session_nodes s ≡ present (tree a f) → decode 0 0 m ≡ present (tree b end) →
       Outcome o o' v (tree a (set_payload_at (missing_value false) (path_from_ids ids) b f))

@@ -7,7 +7,7 @@ ghost use Rattle.scalar.specs.Value.{value, basic_of, bytes_of};
 ghost use Rattle.tree.specs.Encode.{encode, rooted};
 ghost use Rattle.tree.specs.Decode.{decode, is_tree};
 ghost use Rattle.tree.specs.Ids.{is_path, path_from_ids, steps, is_none};
-ghost use Rattle.tree_edit.specs.Wrote.{Wrote, padded_with, stored};
+ghost use Rattle.tree_edit.specs.Wrote.{Wrote, stored};
 ghost use Rattle.tree_edit.specs.Change.{missing_value, replaced, assigned_bytes, subtree_of};
 ghost use Rattle.tree_edit.specs.Limited.{PutOutcome, SetOutcome};
 ghost use Rattle.tree_edit.specs.Plan.{prefix, spliced, Led, Gap, Hit, Planned};
@@ -21,24 +21,14 @@ pub enum Plan {
     Fail,
 }
 
-// A changed tree's length, within the limits or past them.
-#[derive(Clone, Copy)]
-pub enum Grown {
-    Within(usize),
-    Past(usize),
-}
-
 // Copies the n bytes of src from a on to out from w on, and gives the place past them.
 pub fn append(out: &mut [u8], w: usize, src: &[u8], a: usize, n: usize) -> usize
     requires { (a + n ≤ length src.now) × (w + n ≤ length out.old) }
     ensures { Wrote out.old out.new w result n (take n (drop a src.now)) }
 {
-    let mut k: usize = 0;
-    while k < n {
-        out[w + k] = src[a + k];
-        k += 1;
-    }
-    w + n
+    let end = w + n;
+    out[w..end].copy_from_slice(&src[a..a + n]);
+    end
 }
 
 // Writes one byte.
@@ -66,15 +56,9 @@ fn push_missing(out: &mut [u8], w: usize, typed: bool) -> usize
         (basic_of (missing_value typed) ∷ 1 ∷ length (bytes_of (missing_value typed)) ∷ bytes_of (missing_value typed)) }
 {
     if typed {
-        let a = push(out, w, scalar::RAW);
-        let b = push(out, a, 1);
-        let c = push(out, b, 2);
-        let d = push(out, c, 1);
-        return push(out, d, scalar::VOID);
+        return append(out, w, &[scalar::RAW, 1, 2, 1, scalar::VOID], 0, 5);
     }
-    let a = push(out, w, scalar::VOID);
-    let b = push(out, a, 1);
-    push(out, b, 0)
+    append(out, w, &[scalar::VOID, 1, 0], 0, 3)
 }
 
 // Writes missing steps for the ids from k on but the last, and the last one's id.
@@ -97,11 +81,8 @@ pub fn leaf(out: &mut [u8], w: usize, basic: u8, v: &[u8]) -> usize
     ensures { Wrote out.old out.new w result (5 + length v.now)
         (encode (rooted (tree (value basic v.now) end))) }
 {
-    let a = push_id(out, w, 0);
-    let b = push(out, a, basic);
-    let c = push(out, b, 0);
-    let d = push(out, c, v.len() as u8);
-    append(out, d, v, 0, v.len())
+    let a = append(out, w, &[0, 0, basic, 0, v.len() as u8], 0, 5);
+    append(out, a, v, 0, v.len())
 }
 
 // Where the steps from k on lead among the n siblings at `at`, the children of the node at `parent`.
@@ -112,21 +93,21 @@ fn locate(s: &[u8], ids: [u16; 4], k: usize, parent: usize, at: usize, n: u8) ->
     if n == 0 {
         return Plan::Insert(parent, at, k);
     }
-    let tree::Head::Node(j, _, count, mid) = tree::head_at(s, at) else {
+    let Some(node) = tree::head_at(s, at) else {
         return Plan::Fail;
     };
     let id = ids[k];
-    if id < j {
+    if id < node.id {
         return Plan::Insert(parent, at, k);
     }
     let end = tree::extent(s, at);
-    if j < id {
+    if node.id < id {
         return locate(s, ids, k, parent, end, n - 1);
     }
     if tree::is_last(ids, k) {
-        return Plan::Replace(at, mid, end);
+        return Plan::Replace(at, node.start, end);
     }
-    locate(s, ids, k + 1, at, mid, count)
+    locate(s, ids, k + 1, at, node.start, node.count)
 }
 
 // Where a change at the path of a tree goes.
@@ -134,11 +115,10 @@ fn route(s: &[u8], ids: [u16; 4]) -> Plan
     requires { is_tree 6 48 s.now ≡ true }
     ensures { Planned s.now ids result }
 {
-    tree::octets(s);
-    let tree::Head::Node(_, _, count, mid) = tree::head_at(s, 0) else {
+    let Some(root) = tree::head_at(s, 0) else {
         return Plan::Fail;
     };
-    locate(s, ids, 0, 0, mid, count)
+    locate(s, ids, 0, 0, root.start, root.count)
 }
 
 // Writes s to out with the node from p to q given the body of the message m, keeping its id.
@@ -184,7 +164,6 @@ pub fn put(out: &mut [u8], s: &[u8], ids: [u16; 4], m: &[u8], typed: bool) -> us
     ensures { Wrote out.old out.new 0 result result
         (replaced typed (path_from_ids ids) (decode 6 48 m.now) (decode 6 48 s.now)) }
 {
-    tree::octets(m);
     match route(s, ids) {
         Plan::Insert(up, p, k) => insert(out, s, up, p, ids, k, m, typed),
         Plan::Replace(p, _, q) => replace(out, s, p, q, m),
@@ -201,8 +180,8 @@ fn replace_value(out: &mut [u8], s: &[u8], p: usize, mid: usize, m: &[u8]) -> us
         (drop 4 m.now ++ drop mid s.now))) }
 {
     let a = append(out, 0, s, 0, p + 2);
-    let b = append(out, a, m, 2, 1);
-    let c = append(out, b, s, p + 3, 1);
+    let b = push(out, a, m[2]);
+    let c = push(out, b, s[p + 3]);
     let d = append(out, c, m, 4, m.len() - 4);
     append(out, d, s, mid, s.len() - mid)
 }
@@ -214,7 +193,6 @@ pub fn set_value(out: &mut [u8], s: &[u8], ids: [u16; 4], m: &[u8]) -> usize
     ensures { Wrote out.old out.new 0 result result
         (assigned_bytes (path_from_ids ids) (decode 0 0 m.now) (decode 6 48 s.now)) }
 {
-    tree::octets(m);
     match route(s, ids) {
         Plan::Insert(up, p, k) => insert(out, s, up, p, ids, k, m, false),
         Plan::Replace(p, mid, _) => replace_value(out, s, p, mid, m),
@@ -223,35 +201,37 @@ pub fn set_value(out: &mut [u8], s: &[u8], ids: [u16; 4], m: &[u8]) -> usize
 }
 
 // As `put`, and says whether the changed tree keeps to 48 nodes and 6 levels below its root.
-pub fn put_within(out: &mut [u8], s: &[u8], ids: [u16; 4], m: &[u8], typed: bool) -> Grown
+pub fn put_within(
+    out: &mut [u8],
+    s: &[u8],
+    ids: [u16; 4],
+    m: &[u8],
+    typed: bool,
+) -> Result<usize, usize>
     requires { (is_tree 6 48 s.now ≡ true) × (is_tree 6 48 m.now ≡ true) × (is_path ids ≡ true) ×
         (length s.now + 28 + length m.now ≤ length out.old) }
     ensures { PutOutcome typed ids s.now m.now out.old out.new result }
 {
-    tree::octets(s);
-    tree::octets(m);
-    tree::words(ids);
-    let r = put(out, s, ids, m, typed);
+    let len = put(out, s, ids, m, typed);
     if tree::within(out, 6, 48) {
-        return Grown::Within(r);
+        Ok(len)
+    } else {
+        Err(len)
     }
-    Grown::Past(r)
 }
 
 // As `set_value`, and says whether the changed tree keeps to 48 nodes and 6 levels below its root.
-pub fn set_within(out: &mut [u8], s: &[u8], ids: [u16; 4], m: &[u8]) -> Grown
+pub fn set_within(out: &mut [u8], s: &[u8], ids: [u16; 4], m: &[u8]) -> Result<usize, usize>
     requires { (is_tree 6 48 s.now ≡ true) × (is_tree 0 0 m.now ≡ true) × (is_path ids ≡ true) ×
         (length s.now + 28 + length m.now ≤ length out.old) }
     ensures { SetOutcome ids s.now m.now out.old out.new result }
 {
-    tree::octets(s);
-    tree::octets(m);
-    tree::words(ids);
-    let r = set_value(out, s, ids, m);
+    let len = set_value(out, s, ids, m);
     if tree::within(out, 6, 48) {
-        return Grown::Within(r);
+        Ok(len)
+    } else {
+        Err(len)
     }
-    Grown::Past(r)
 }
 
 // Writes to out the subtree at the path of the tree s as a tree alone, its root with the id 0. Gives its length; 0 where it is missing.
@@ -259,8 +239,7 @@ pub fn subtree(out: &mut [u8], s: &[u8], ids: [u16; 4]) -> usize
     requires { (is_tree 6 48 s.now ≡ true) × (is_path ids ≡ true) × (length s.now ≤ length out.old) }
     ensures { Wrote out.old out.new 0 result result (subtree_of (path_from_ids ids) (decode 6 48 s.now)) }
 {
-    tree::octets(s);
-    let tree::Found::At(at) = tree::follow(s, ids) else {
+    let Some(at) = tree::follow(s, ids) else {
         return 0;
     };
     let end = tree::extent(s, at);
@@ -268,27 +247,13 @@ pub fn subtree(out: &mut [u8], s: &[u8], ids: [u16; 4]) -> usize
     append(out, a, s, at + 2, end - at - 2)
 }
 
-// Sets r to the first n bytes of src and then zeros.
-fn fill(r: &mut [u8], src: &[u8], n: usize)
-    requires { (n ≤ length r.old) × (n ≤ length src.now) }
-    ensures { r.new ≡ padded_with (length r.old) src.now n }
-{
-    let mut i: usize = 0;
-    while i < r.len() {
-        if i < n {
-            r[i] = src[i];
-        } else {
-            r[i] = 0;
-        }
-        i += 1;
-    }
-}
-
 // Stores the first n bytes of src and then zeros in the region of `size` bytes at `base`, and keeps all else.
 pub fn store(state: &mut [u8], base: usize, size: usize, src: &[u8], n: usize)
     requires { (base + size ≤ length state.old) × (n ≤ size) × (n ≤ length src.now) }
     ensures { state.new ≡ stored state.old base size src.now n }
 {
+    let mid = base + n;
     let end = base + size;
-    fill(&mut state[base..end], src, n);
+    state[base..mid].copy_from_slice(&src[..n]);
+    state[mid..end].fill(0);
 }

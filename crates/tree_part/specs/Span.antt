@@ -17,14 +17,14 @@ earlier i end = 0
 earlier i (node j a ks rest) = pick (ltb j i) (length (encode (node j a ks end)) + earlier i rest) 0
 
 -- How many bytes a node takes before its children: "id u16 .., basic u8, child count u8, length u8, value, then its children".
-abbrev pub header : Lookup Value → ℕ
-header absent = 0
-header (present (tree (value b v) ks)) = 5 + length v
+abbrev pub header_size : Lookup Value → ℕ
+header_size absent = 0
+header_size (present (tree (value b v) ks)) = 5 + length v
 
 -- How many bytes stand between the start of a node and the start of what the steps below it lead to.
 unfoldable pub offset : List ℕ → Lookup Value → ℕ
 offset [] l = 0
-offset (i ∷ is) l = header l + (earlier i (children_of l) + offset is (find i (children_of l)))
+offset (i ∷ is) l = header_size l + (earlier i (children_of l) + offset is (find i (children_of l)))
 
 -- Where what was found starts; 0 where nothing was.
 abbrev pub start_found : ℕ → Lookup Value → ℕ

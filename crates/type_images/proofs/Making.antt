@@ -52,12 +52,6 @@ part-inside : (s : List ℕ) (at n : ℕ) → length (part s at n) ≡ n → 0 <
 part-inside s at n e h = omega (arith, length-take n (drop at s), length-drop at s, e)
 
 module _ (images : List ℕ) (start len : ℕ) (m : Bool) where
-  pub copied-short : (r : TypeImage) → len < 7 → TypeCopied images start len m r
-  copied-short r l = record { tells = λ t k e p. absurd (omega (arith, e)) }
-
-  pub copied-long : (r : TypeImage) → 128 < len → TypeCopied images start len m r
-  copied-long r l = record { tells = λ t k e p. absurd (omega (arith, e, k.few)) }
-
   inside : (t : Tree Mark) → len ≡ image_size t → part images start len ≡ image_of t → start + len ≤ length images
   inside t e p = part-inside images start len (ap length p ∙ image-length t ∙ sym e) (omega (arith, e))
 
@@ -94,7 +88,7 @@ module _ (images : List ℕ) (start len : ℕ) (m : Bool) where
     };
   }
 
-pub ruleset copy-laws = (copied-short, copied-long, copied-past, copied-outside, copied)
+pub ruleset copy-laws = (copied-past, copied-outside, copied)
 
 -- ---- a child put in
 
@@ -124,12 +118,6 @@ no-image s t x e k q n =
     unequal (q ∙ ap (λ (l : Lookup Value). is_present l) (decode-complete 6 48 s (map_tree mark_value t) (keeps-encodes s t e k))) n
 
 module _ (e : TypeImage) (id : ℕ) (d r : TypeImage) where
-  pub child-long : 112 < e.len → ChildPut e id d r
-  child-long l = record { tells = λ a k u h g p n v. absurd (omega (arith, h.size, h.keeps.few)) }
-
-  pub child-wide : 112 < d.len → ChildPut e id d r
-  child-wide l = record { tells = λ a k u h g p n v. absurd (omega (arith, g.size, g.keeps.few)) }
-
   pub child-no-tree : (x : Bool) → x ≡ is_tree 6 48 (take e.len e.bytes) → not x ≡ true → ChildPut e id d r
   child-no-tree x q n = record { tells = λ a k u h g p i v. absurd (no-image (take e.len e.bytes) (tree a k) x h.image h.keeps q n) }
 
@@ -139,8 +127,4 @@ module _ (e : TypeImage) (id : ℕ) (d r : TypeImage) where
   pub child-on : BytesPut (take e.len e.bytes) id (take d.len d.bytes) r → ChildPut e id d r
   child-on b = record { tells = λ a k u h g p n v. b.tells a k u h.image h.keeps g.image g.keeps p n v }
 
-pub ruleset child-laws = (child-long, child-wide, child-no-tree, child-no-type, child-on)
-
--- a part of a buffer
-pub part-len : (m : List ℕ) (n k : ℕ) → n ≤ k → length m ≡ k → n ≡ length (take n m)
-part-len m n k h e = simp length-take (omega arith)
+pub ruleset child-laws = (child-no-tree, child-no-type, child-on)

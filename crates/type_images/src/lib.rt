@@ -18,20 +18,14 @@ pub fn leaf_type(mandatory: bool, basic: u8) -> TypeImage
 {
     let mut bytes = [0u8; 128];
     let len = check_types::push_node(&mut bytes, 0, 0, mandatory, basic, 0);
-    TypeImage {
-        bytes: bytes,
-        len: len,
-    }
+    TypeImage { bytes, len }
 }
 
 // The type whose `len` bytes stand at `start`, as a child that is mandatory or not.
 pub fn copy_type(images: &[u8], start: usize, len: usize, mandatory: bool) -> TypeImage
     ensures { TypeCopied images.now start len mandatory result }
 {
-    if len < 7 {
-        return leaf_type(true, 0);
-    }
-    if 128 < len {
+    if len < 7 || 128 < len {
         return leaf_type(true, 0);
     }
     if images.len() < len {
@@ -45,10 +39,7 @@ pub fn copy_type(images: &[u8], start: usize, len: usize, mandatory: bool) -> Ty
     let count = images[start + 3];
     let head = check_types::push_node(&mut bytes, 0, 0, mandatory, basic, count);
     let end = tree_edit::append(&mut bytes, head, images, start + 7, len - 7);
-    TypeImage {
-        bytes: bytes,
-        len: end,
-    }
+    TypeImage { bytes, len: end }
 }
 
 // The type whose bytes g are with the one whose bytes m are as its child under the id.
@@ -65,31 +56,23 @@ fn put_bytes(g: &[u8], id: u16, m: &[u8]) -> TypeImage
     }
     let mut bytes = [0u8; 128];
     let end = tree_edit::append(&mut bytes, 0, &out, 0, k);
-    TypeImage {
-        bytes: bytes,
-        len: end,
-    }
+    TypeImage { bytes, len: end }
 }
 
 // A type with another as its child under the id.
 pub fn put_child(acc: TypeImage, id: u16, child: TypeImage) -> TypeImage
     ensures { ChildPut acc id child result }
 {
-    let a = acc.bytes;
-    let n = acc.len;
-    let b = child.bytes;
-    let m = child.len;
-    if 112 < n {
+    if 112 < acc.len || 112 < child.len {
         return acc;
     }
-    if 112 < m {
+    let a = &acc.bytes[..acc.len];
+    let b = &child.bytes[..child.len];
+    if !tree::is_tree(a, 6, 48) {
         return acc;
     }
-    if !tree::is_tree(&a[..n], 6, 48) {
+    if !tree::is_tree(b, 6, 48) {
         return acc;
     }
-    if !tree::is_tree(&b[..m], 6, 48) {
-        return acc;
-    }
-    put_bytes(&a[..n], id, &b[..m])
+    put_bytes(a, id, b)
 }

@@ -6,7 +6,6 @@ use Prim.Native.Nat.{ℕ, zero, suc, ◌+◌, ◌-◌, ◌*◌, ◌/◌, ◌%◌
 use native.Mathlib.Omega.{arith}
 use lib.ListN.{length, length-append}
 use lib.Dec.{eqb}
-use borrow.Author.Tests.{eq-eqb, ne_eqb}
 use Rattle.basics.specs.Choice.{pick}
 use Rattle.scalar.specs.Basic.{raw}
 use Rattle.scalar.specs.Value.{value}
@@ -22,23 +21,15 @@ use Rattle.check_subtyping.specs.Subtype.{root_children}
 use Rattle.check_types.specs.Image.{flag, mark_value, image, type_head_at}
 use Rattle.check_types.specs.ImageLaws.{mark-back, count_map, type-seen, type-unseen, root-type-seen, root-type-unseen}
 use Rattle.check_types.specs.declared.TypeHead.{TypeHead}
-use Rattle.check_types.specs.declared.TypeHead.TheVariants.{Node, Fault}
 use Rattle.type_text.specs.TypeRows.{TypeNode, type_node, level_of, by_levels, row_bytes, rows_in}
 use Rattle.type_rows.specs.LevelLaws.{children_in, width, children-append, type-length, children-type}
 use Rattle.type_lines.specs.Emits.{LevelEmitted, TreeEmitted}
 use Rattle.type_lines.specs.EmitsLaws.{rows_append, by-levels}
 use Rattle.type_lines.specs.declared.Emitted.{Emitted}
+use Rattle.std.specs.Prelude.{Option, Some, None}
+use Rattle.check_types.specs.Image.{type_header}
 
 -- ---- one row
-
-module _ (n next : ℕ) where
-  pub first-none : n ≡ 0 → 0 ≡ pick (eqb n 0) 0 next
-  first-none e = rw (eq-eqb n 0 e) refl
-
-  pub first_some : (n ≡ 0 → ⊥) → next ≡ pick (eqb n 0) 0 next
-  first_some e = rw (ne_eqb n 0 e) refl
-
-pub ruleset first-laws = (first-none, first_some)
 
 pub row_wrote : {o o₁ o₂ o₃ o₄ o₅ : List ℕ} {w a c d e f x b y : ℕ} (i : ℕ) (m : Bool) (next n : ℕ) → Wrote o o₁ w a 2 (i % 256 ∷ i / 256 ∷ []) →
     x ≡ pick m 1 0 → Wrote o₁ o₂ a c 1 (x ∷ []) → Wrote o₂ o₃ c d 1 (b ∷ []) → y ≡ pick (eqb n 0) 0 next → Wrote o₃ o₄ d e 2 (y % 256 ∷ y / 256 ∷ []) →
@@ -74,7 +65,7 @@ same-node : {i j : ℕ} {a b : Mark} (k r : Types) → i ≡ j → a ≡ b → n
 same-node k r p q = rw (p, q) refl
 
 type-first : (s : List ℕ) (at n : ℕ) (f : Types) → Row s at (image f) → root_count f ≡ n → (n ≡ 0 → ⊥) →
-    (h : TypeHead) (i : ℕ) (m : Bool) (b c mid : ℕ) → h ≡ type_head_at false s at → h ≡ Node i m b c mid → TypeFirst s at n f i m b c mid
+    (h : Option TypeHead) (i : ℕ) (m : Bool) (b c mid : ℕ) → h ≡ type_head_at false s at → h ≡ Some (type_header i m b c mid) → TypeFirst s at n f i m b c mid
 unfolding root_count map_forest
 type-first s at n end w e z h i m b c mid p q = absurd (z (sym e))
 type-first s at n (node x (mark g a) k r) w e z h i m b c mid p q =
@@ -92,7 +83,7 @@ type-first s at n (node x (mark g a) k r) w e z h i m b c mid p q =
     }
 
 no-type : {A : Type 0} (s : List ℕ) (at n : ℕ) (f : Types) → Row s at (image f) → root_count f ≡ n → (n ≡ 0 → ⊥) →
-    (h : TypeHead) → h ≡ type_head_at false s at → h ≡ Fault → A
+    (h : Option TypeHead) → h ≡ type_head_at false s at → h ≡ None → A
 unfolding root_count map_forest
 no-type s at n end w e z h p q = absurd (z (sym e))
 no-type s at n (node x (mark g a) k r) w e z h p q = type-unseen false s at x raw (flag g ∷ a ∷ []) (image k) (image r) w h p q
@@ -117,24 +108,24 @@ module _ (s : List ℕ) (at n d : ℕ) (o : List ℕ) (w next : ℕ) (fit : w �
       go end v e l h = (wrote_none o w fit, omega arith)
       go (node i a k r) v e l h = absurd (omega arith)
 
-  module _ (z : n ≡ 0 → ⊥) (h : TypeHead) (p : h ≡ type_head_at false s at) where
-    pub level-fault : h ≡ Fault → LevelEmitted s at n d o o w next (record { at = w; next = next })
+  module _ (z : n ≡ 0 → ⊥) (h : Option TypeHead) (p : h ≡ type_head_at false s at) where
+    pub level-fault : h ≡ None → LevelEmitted s at n d o o w next (record { at = w; next = next })
     level-fault q = record { inside = fit; writes = λ f v e l y. no-type s at n f v e z h p q }
 
-    module _ (i : ℕ) (m : Bool) (b k mid : ℕ) (q : h ≡ Node i m b k mid) where
-      opens : (f : Types) → Row s at (image f) → root_count f ≡ n → TypeFirst s at n f i m b k mid
-      opens f v e = type-first s at n f v e z h i m b k mid p q
+    module _ (head : TypeHead) (q : h ≡ Some head) where
+      opens : (f : Types) → Row s at (image f) → root_count f ≡ n → TypeFirst s at n f head.id head.mandatory head.basic head.count head.start
+      opens f v e = type-first s at n f v e z h head.id head.mandatory head.basic head.count head.start p q
 
       -- a later level: of the children, then of the other siblings
       pub level-below : (d ≡ 0 → ⊥) → (e : ℕ) → Ended s at e → (o₁ o₂ : List ℕ) (x y : Emitted) → length o₁ ≡ length o →
-          LevelEmitted s mid k (d - 1) o o₁ w next x → LevelEmitted s e (n - 1) d o₁ o₂ x.at x.next y → LevelEmitted s at n d o o₂ w next y
+          LevelEmitted s head.start head.count (d - 1) o o₁ w next x → LevelEmitted s e (n - 1) d o₁ o₂ x.at x.next y → LevelEmitted s at n d o o₂ w next y
       level-below dz e en o₁ o₂ x y l₁ u v = record { inside = omega (arith, v.inside); writes = go }
         where
           go : (f : Types) → Row s at (image f) → root_count f ≡ n → w + 8 * width d f ≤ length o → next + children_in (level_of d f) < 65536 →
               Wrote o o₂ w y.at (8 * width d f) (row_bytes next (level_of d f)) × (y.next ≡ next + children_in (level_of d f))
           go f t c room small =
               let g = opens f t c in
-              let lv = level-next d i (mark m b) f g.kids g.rest dz g.whole in
+              let lv = level-next d head.id (mark head.mandatory head.basic) f g.kids g.rest dz g.whole in
               let below : List TypeNode = level_of (d - 1) g.kids in
               let later : List TypeNode = level_of d g.rest in
               let wd = ap length lv ∙ length-append below later in
@@ -146,21 +137,21 @@ module _ (s : List ℕ) (at n d : ℕ) (o : List ℕ) (w next : ℕ) (fit : w �
       -- the first level: the sibling's own row
       module _ (dz : d ≡ 0) where
         sized : (f : Types) (t : Row s at (image f)) (c : root_count f ≡ n) → width d f ≡ suc (width d (opens f t c).rest)
-        sized f t c = let g = opens f t c in ap length (level-zero d i k (mark m b) f g.kids g.rest dz g.whole g.many)
+        sized f t c = let g = opens f t c in ap length (level-zero d head.id head.count (mark head.mandatory head.basic) f g.kids g.rest dz g.whole g.many)
 
-        counted : (f : Types) (t : Row s at (image f)) (c : root_count f ≡ n) → children_in (level_of d f) ≡ k + children_in (level_of d (opens f t c).rest)
+        counted : (f : Types) (t : Row s at (image f)) (c : root_count f ≡ n) → children_in (level_of d f) ≡ head.count + children_in (level_of d (opens f t c).rest)
         unfolding children_in
-        counted f t c = let g = opens f t c in ap children_in (level-zero d i k (mark m b) f g.kids g.rest dz g.whole g.many)
+        counted f t c = let g = opens f t c in ap children_in (level-zero d head.id head.count (mark head.mandatory head.basic) f g.kids g.rest dz g.whole g.many)
 
         pub level-full : length o - w < 8 → LevelEmitted s at n d o o w next (record { at = w; next = next })
         level-full y = record { inside = fit; writes = λ f t c room small. absurd (omega (arith, sized f t c)) }
 
-        module _ (c : ℕ) (ck : c ≡ k) where
+        module _ (c : ℕ) (ck : c ≡ head.count) where
           pub level-over : 65535 - next < c → LevelEmitted s at n d o o w next (record { at = w; next = next })
           level-over y = record { inside = fit; writes = λ f t r room small. absurd (omega (arith, counted f t r)) }
 
           pub level-row : (e : ℕ) → Ended s at e → (o₁ o₂ : List ℕ) (a : ℕ) (y : Emitted) → length o₁ ≡ length o →
-              Wrote o o₁ w a 8 (row_bytes next (type_node i (mark m b) c ∷ [])) → LevelEmitted s e (n - 1) d o₁ o₂ a (next + c) y →
+              Wrote o o₁ w a 8 (row_bytes next (type_node head.id (mark head.mandatory head.basic) c ∷ [])) → LevelEmitted s e (n - 1) d o₁ o₂ a (next + c) y →
               LevelEmitted s at n d o o₂ w next y
           level-row e en o₁ o₂ a y l₁ u v = record { inside = omega (arith, v.inside); writes = go }
             where
@@ -168,12 +159,12 @@ module _ (s : List ℕ) (at n d : ℕ) (o : List ℕ) (w next : ℕ) (fit : w �
                   Wrote o o₂ w y.at (8 * width d f) (row_bytes next (level_of d f)) × (y.next ≡ next + children_in (level_of d f))
               go f t r room small =
                   let g = opens f t r in
-                  let lv = level-zero d i c (mark m b) f g.kids g.rest dz g.whole (g.many ∙ sym ck) in
+                  let lv = level-zero d head.id c (mark head.mandatory head.basic) f g.kids g.rest dz g.whole (g.many ∙ sym ck) in
                   let wd = sized f t r in
                   let ch = counted f t r in
                   let v' = v.writes g.rest (g.after e en) g.fewer (omega (arith, u.next)) (omega arith) in
-                  let one = one_more next i c (mark m b) in
-                  (joined next (next + c) (level_of d f) (type_node i (mark m b) c ∷ []) (level_of d g.rest) lv u one v'.0, omega (arith, v'.1))
+                  let one = one_more next head.id c (mark head.mandatory head.basic) in
+                  (joined next (next + c) (level_of d f) (type_node head.id (mark head.mandatory head.basic) c ∷ []) (level_of d g.rest) lv u one v'.0, omega (arith, v'.1))
 
 pub ruleset level-laws = (level-none, level-fault, level-full, level-over)
 
@@ -183,8 +174,8 @@ root-first : (a b : Mark) (c : ℕ) (k : Types) → a ≡ b → root_count k ≡
     by_levels (tree b k) ≡ (type_node 0 a c ∷ []) ++ (level_of 0 k ++ (level_of 1 k ++ level_of 2 k))
 root-first a b c k e n d = by-levels b k d ∙ rw (e, n) refl
 
-module _ (s o : List ℕ) (r x : ℕ) (fit : 8 * r ≤ length o) (start : x ≡ r) (h : TypeHead) (p : h ≡ type_head_at false s 0) where
-  pub tree-fault : h ≡ Fault → TreeEmitted s o o r (8 * x)
+module _ (s o : List ℕ) (r x : ℕ) (fit : 8 * r ≤ length o) (start : x ≡ r) (h : Option TypeHead) (p : h ≡ type_head_at false s 0) where
+  pub tree-fault : h ≡ None → TreeEmitted s o o r (8 * x)
   tree-fault q = record { inside = omega arith; writes = go }
     where
       go : (t : MessageType) → Root s 0 0 (map_tree mark_value t) → levels (root_children t) ≤ message_levels_below → 8 * (r + rows_in t) ≤ length o →
@@ -201,10 +192,10 @@ module _ (s o : List ℕ) (r x : ℕ) (fit : 8 * r ≤ length o) (start : x ≡ 
   pub tree-full : length o - 8 * x < 8 → TreeEmitted s o o r (8 * x)
   tree-full y = record { inside = omega arith; writes = λ t v d l n. absurd (omega (arith, positive t)) }
 
-  module _ (i : ℕ) (m : Bool) (b k mid : ℕ) (q : h ≡ Node i m b k mid) (c : ℕ) (ck : c ≡ k) where
+  module _ (head : TypeHead) (q : h ≡ Some head) (c : ℕ) (ck : c ≡ head.count) where
     pub tree-more : (o₁ o₂ o₃ o₄ : List ℕ) (a : ℕ) (y₀ y₁ y₂ : Emitted) → length o₁ ≡ length o → length o₂ ≡ length o₁ → length o₃ ≡ length o₂ →
-        Wrote o o₁ (8 * x) a 8 (row_bytes (r + 1) (type_node 0 (mark m b) c ∷ [])) → LevelEmitted s mid k 0 o₁ o₂ a (r + 1 + c) y₀ →
-        LevelEmitted s mid k 1 o₂ o₃ y₀.at y₀.next y₁ → LevelEmitted s mid k 2 o₃ o₄ y₁.at y₁.next y₂ → TreeEmitted s o o₄ r y₂.at
+        Wrote o o₁ (8 * x) a 8 (row_bytes (r + 1) (type_node 0 (mark head.mandatory head.basic) c ∷ [])) → LevelEmitted s head.start head.count 0 o₁ o₂ a (r + 1 + c) y₀ →
+        LevelEmitted s head.start head.count 1 o₂ o₃ y₀.at y₀.next y₁ → LevelEmitted s head.start head.count 2 o₃ o₄ y₁.at y₁.next y₂ → TreeEmitted s o o₄ r y₂.at
     tree-more o₁ o₂ o₃ o₄ a y₀ y₁ y₂ l₁ l₂ l₃ u u₀ u₁ u₂ = record { inside = omega (arith, u₂.inside); writes = go }
       where
         go : (t : MessageType) → Root s 0 0 (map_tree mark_value t) → levels (root_children t) ≤ message_levels_below → 8 * (r + rows_in t) ≤ length o →
@@ -212,12 +203,12 @@ module _ (s o : List ℕ) (r x : ℕ) (fit : 8 * r ≤ length o) (start : x ≡ 
         go (tree (mark g e) ks) v d l n =
             let t : MessageType = tree (mark g e) ks in
             let f : List ℕ = flag g ∷ e ∷ [] in
-            let q' = root-type-seen false s 0 0 raw f (image ks) v h i m b k mid p q in
-            let many : root_count ks ≡ k = sym (q'.kids ∙ count_map mark_value ks) in
-            let below : Row s mid (image ks) = row_moved s mid _ (image ks) q'.next (root-kids s 0 0 raw f (image ks) v) in
-            let root : List TypeNode = type_node 0 (mark m b) c ∷ [] in
-            let one = one_more (r + 1) 0 c (mark m b) in
-            let lv = root-first (mark m b) (mark g e) c ks (q'.type ∙ mark-back (mark g e)) (many ∙ sym ck) d in
+            let q' = root-type-seen false s 0 0 raw f (image ks) v h head.id head.mandatory head.basic head.count head.start p q in
+            let many : root_count ks ≡ head.count = sym (q'.kids ∙ count_map mark_value ks) in
+            let below : Row s head.start (image ks) = row_moved s head.start _ (image ks) q'.next (root-kids s 0 0 raw f (image ks) v) in
+            let root : List TypeNode = type_node 0 (mark head.mandatory head.basic) c ∷ [] in
+            let one = one_more (r + 1) 0 c (mark head.mandatory head.basic) in
+            let lv = root-first (mark head.mandatory head.basic) (mark g e) c ks (q'.type ∙ mark-back (mark g e)) (many ∙ sym ck) d in
             let j₁ : List TypeNode = level_of 1 ks ++ level_of 2 ks in
             let j₀ : List TypeNode = level_of 0 ks ++ j₁ in
             let s₁ = length-append (level_of 1 ks) (level_of 2 ks) in

@@ -15,15 +15,6 @@ pub struct Emitted {
     pub next: u16,
 }
 
-fn card_of(m: bool) -> u8
-    ensures { result ≡ pick m 1 0 }
-{
-    if m {
-        return 1;
-    }
-    0
-}
-
 // The first child's row of a node with n children.
 fn first_of(n: u16, next: u16) -> u16
     ensures { result ≡ pick (eqb n 0) 0 next }
@@ -40,7 +31,7 @@ fn push_row(out: &mut [u8], w: usize, id: u16, m: bool, b: u8, next: u16, n: u16
     ensures { Wrote out.old out.new w result 8 (row_bytes next (type_node id (mark m b) n ∷ [])) }
 {
     let x = tree_edit::push_id(out, w, id);
-    let y = tree_edit::push(out, x, card_of(m));
+    let y = tree_edit::push(out, x, u8::from(m));
     let z = tree_edit::push(out, y, b);
     let u = tree_edit::push_id(out, z, first_of(n, next));
     tree_edit::push_id(out, u, n)
@@ -52,24 +43,24 @@ fn emit_level(s: &[u8], at: usize, n: u8, d: u8, out: &mut [u8], w: usize, next:
     ensures { LevelEmitted s.now at n d out.old out.new w next result }
 {
     if n == 0 {
-        return Emitted { at: w, next: next };
+        return Emitted { at: w, next };
     }
-    let check_types::TypeHead::Node(i, m, b, k, mid) = check_types::type_head(s, at, false) else {
-        return Emitted { at: w, next: next };
+    let Some(head) = check_types::type_head(s, at, false) else {
+        return Emitted { at: w, next };
     };
     let end = tree::extent(s, at);
     if d != 0 {
-        let e = emit_level(s, mid, k, d - 1, out, w, next);
+        let e = emit_level(s, head.start, head.count, d - 1, out, w, next);
         return emit_level(s, end, n - 1, d, out, e.at, e.next);
     }
     if out.len() - w < 8 {
-        return Emitted { at: w, next: next };
+        return Emitted { at: w, next };
     }
-    let c = wire::byte_to_u16(k);
+    let c = u16::from(head.count);
     if 65535 - next < c {
-        return Emitted { at: w, next: next };
+        return Emitted { at: w, next };
     }
-    let a = push_row(out, w, i, m, b, next, c);
+    let a = push_row(out, w, head.id, head.mandatory, head.basic, next, c);
     emit_level(s, end, n - 1, d, out, a, next + c)
 }
 
@@ -78,8 +69,8 @@ pub fn emit_tree(s: &[u8], out: &mut [u8], r: u16) -> usize
     requires { 8 * r ≤ length out.old }
     ensures { TreeEmitted s.now out.old out.new r result }
 {
-    let w = 8 * wire::index(r);
-    let check_types::TypeHead::Node(_, m, b, k, mid) = check_types::type_head(s, 0, false) else {
+    let w = 8 * usize::from(r);
+    let Some(head) = check_types::type_head(s, 0, false) else {
         return w;
     };
     if 255 < r {
@@ -88,10 +79,10 @@ pub fn emit_tree(s: &[u8], out: &mut [u8], r: u16) -> usize
     if out.len() - w < 8 {
         return w;
     }
-    let c = wire::byte_to_u16(k);
-    let a = push_row(out, w, 0, m, b, r + 1, c);
-    let e = emit_level(s, mid, k, 0, out, a, r + 1 + c);
-    let f = emit_level(s, mid, k, 1, out, e.at, e.next);
-    let g = emit_level(s, mid, k, 2, out, f.at, f.next);
+    let c = u16::from(head.count);
+    let a = push_row(out, w, 0, head.mandatory, head.basic, r + 1, c);
+    let e = emit_level(s, head.start, head.count, 0, out, a, r + 1 + c);
+    let f = emit_level(s, head.start, head.count, 1, out, e.at, e.next);
+    let g = emit_level(s, head.start, head.count, 2, out, f.at, f.next);
     g.at
 }

@@ -1,4 +1,4 @@
--- Lists and sides read one in another: the stack that they share, the table that they ask, and a list's closing brace.
+-- Lists and sides read one in another: the stack that they share, and the table that they ask.
 use mathlib.Core.Path.{◌≡◌, refl, sym, ◌∙◌, ap, subst}
 use mathlib.Core.List.{List, []}
 use mathlib.Core.Logic.{◌⊎◌, inl, inr}
@@ -6,14 +6,9 @@ use Prim.Native.Nat.{ℕ, suc, ◌+◌, ◌-◌, ◌*◌, ◌≤◌}
 use native.Mathlib.Omega.{arith}
 use lib.ListN.{take}
 use lib.Seq.{take-take}
-use Rattle.type_text.specs.Spelling.{closing}
 use Rattle.type_text.specs.Grammar.{among}
-use Rattle.type_text.specs.Reader.{next_is, after_next}
-use Rattle.type_reading.specs.declared.Got.{Got}
-use Rattle.type_reading.specs.declared.Got.TheVariants.{Next, Offends}
 use Rattle.type_reading.specs.Tables.{declared_names, seen_names, Named}
-use Rattle.type_reading.specs.Readings.{StackKept, BracesRead, ListRead, TreeTold, Closed}
-use Rattle.type_reading.specs.ReadingLaws.{side-open, side-closed}
+use Rattle.type_reading.specs.Readings.{StackKept}
 use Rattle.type_reading.specs.TableLaws.{seen-kept}
 
 -- ---- the stack
@@ -44,14 +39,3 @@ pub allowed-named : (s table : List ℕ) (allowed n : ℕ) → (allowed ≡ n) �
 unfolding declared_names among
 allowed-named s table allowed n (inl e) h = subst (Named s table) (sym e) h
 allowed-named s table allowed n (inr e) h = rw e (omega arith, refl)
-
--- ---- a closing brace
-
-pub side-close : (s : List ℕ) (at : ℕ) (table : List ℕ) (allowed n a basic : ℕ) → BracesRead s at table allowed a basic
-    → (b nodes levels : ℕ) → ListRead s a table n [] b nodes levels → (r : Got) → Closed s b nodes levels r → TreeTold s at table allowed n r
-side-close s at table allowed n a basic o b nodes levels l (Next q x y) (e, f, m) =
-    subst (λ (k : ℕ). TreeTold s at table allowed n (Next q k y)) (sym e)
-    (subst (λ (k : ℕ). TreeTold s at table allowed n (Next q nodes k)) (sym f)
-    (side-closed s at table allowed n a basic o b nodes levels l q m.onward (ap (next_is closing) m.is) (ap after_next m.is)))
-side-close s at table allowed n a basic o b nodes levels l (Offends p) (e, f) =
-    subst (λ (k : ℕ). TreeTold s at table allowed n (Offends k)) (sym f) (side-open s at table allowed n a basic o b nodes levels l e)

@@ -13,14 +13,11 @@ use Rattle.wire.specs.WireLaws.{same-16, other-16, agree-16, length-16}
 use Rattle.type_text.specs.Grammar.{same_word, among, Children, no_more, written, named}
 use Rattle.type_text.specs.Sizes.{nodes_in, levels_in}
 use Rattle.type_text.specs.Reader.{items_at, parsed, offends, read_declarations, read_type_tree, read_children, is_new_type, Side, inline, reference, declaration_of}
-use Rattle.type_reading.specs.declared.Got.TheVariants.{Offends}
-use Rattle.type_reading.specs.declared.Start.TheVariants.{BadStart}
-use Rattle.type_reading.specs.declared.ReadAll.{ReadAll}
-use Rattle.type_reading.specs.declared.ReadAll.TheVariants.{All, OffendsAt}
 use Rattle.type_reading.specs.Tables.{word_from, held, declared_names, known_nodes, known_levels, Noted, NoneEmpty, noted}
 use Rattle.type_reading.specs.Readings.{is_inline, side_nodes, side_levels, StartTold, NameGiven, TreeTold, SideRead, RestRead, RestTold}
 use Rattle.type_reading.specs.TableLaws.{u16-kept, names-kept, known_kept, first-kept}
 use Rattle.type_reading.proofs.Lists.{take_less}
+use Rattle.std.specs.Prelude.{Result, Ok, Err}
 
 -- ---- an entry of the table
 
@@ -85,7 +82,7 @@ module _ (k k' : List ℕ → ℕ) (e : (t : List ℕ) → k' t ≡ k t) where
 -- ---- the rest of a text
 
 module _ (s : List ℕ) (at : ℕ) (table table' : List ℕ) (n : ℕ) where
-  pub rest-none : items_at s at ≡ [] → NoneEmpty s table n → at ≤ length s → 3 * n ≤ at → RestTold s at table table n (All n)
+  pub rest-none : items_at s at ≡ [] → NoneEmpty s table n → at ≤ length s → 3 * n ≤ at → RestTold s at table table n (Ok n)
   unfolding Noted read_declarations
   rest-none e z h l = record {
     declarations = [];
@@ -102,7 +99,7 @@ module _ (s : List ℕ) (at : ℕ) (table table' : List ℕ) (n : ℕ) where
       go zero i = rw e refl
       go (suc f) i = rw e refl
 
-  pub rest-bad : (x : ℕ) → StartTold s at table n (BadStart x) → RestTold s at table table' n (OffendsAt x)
+  pub rest-bad : (x : ℕ) → StartTold s at table n (Err x) → RestTold s at table table' n (Err x)
   rest-bad x e = go
     where
       go : (f : ℕ) → length (items_at s at) ≤ f → read_declarations (length s) f (declared_names s table n) (items_at s at) ≡ offends x
@@ -110,7 +107,7 @@ module _ (s : List ℕ) (at : ℕ) (table table' : List ℕ) (n : ℕ) where
       go (suc f) i = e.1 f
 
   module _ (p a : ℕ) (g : NameGiven s at table n p a) where
-    pub rest-tree-bad : (x : ℕ) → TreeTold s a table 0 n (Offends x) → RestTold s at table table' n (OffendsAt x)
+    pub rest-tree-bad : (x : ℕ) → TreeTold s a table 0 n (Err x) → RestTold s at table table' n (Err x)
     unfolding declared_names among
     rest-tree-bad x t = go
       where
@@ -131,7 +128,7 @@ module _ (s : List ℕ) (at : ℕ) (table table' : List ℕ) (n : ℕ) where
       unfolding declared_names among
       tree-reads f i = t.reads f i
 
-      pub rest-more-bad : (x : ℕ) → RestTold s b grown table' (n + 1) (OffendsAt x) → RestTold s at table table' n (OffendsAt x)
+      pub rest-more-bad : (x : ℕ) → RestTold s b grown table' (n + 1) (Err x) → RestTold s at table table' n (Err x)
       rest-more-bad x r = go
         where
           go : (f : ℕ) → length (items_at s at) ≤ f → read_declarations (length s) f (declared_names s table n) (items_at s at) ≡ offends x
@@ -179,7 +176,7 @@ module _ (s : List ℕ) (at : ℕ) (table table' : List ℕ) (n : ℕ) where
             )
         more-noted (reference w) i x y = apart i
 
-        pub rest-more-read : RestTold s at table table' n (All m)
+        pub rest-more-read : RestTold s at table table' n (Ok m)
         rest-more-read = record {
           declarations = declaration_of (word_from s p) t.side ∷ r.declarations;
           count = omega (arith, r.count);
@@ -191,6 +188,6 @@ module _ (s : List ℕ) (at : ℕ) (table table' : List ℕ) (n : ℕ) where
           reads = more-reads;
         }
 
-      pub rest_more : (r : ReadAll) → RestTold s b grown table' (n + 1) r → RestTold s at table table' n r
-      rest_more (All m) x = rest-more-read m x
-      rest_more (OffendsAt e) x = rest-more-bad e x
+      pub rest_more : (r : Result ℕ ℕ) → RestTold s b grown table' (n + 1) r → RestTold s at table table' n r
+      rest_more (Ok m) x = rest-more-read m x
+      rest_more (Err e) x = rest-more-bad e x

@@ -13,9 +13,7 @@ use Rattle.type_text.specs.Reader.{read_side, read_children}
 use Rattle.type_reading.specs.Tables.{held, declared_names, known_nodes, known_levels, seen_names}
 use Rattle.type_reading.specs.Readings.{Onward, after_colon, ChildTold, SideTold, side_nodes, side_levels, ListTold}
 use Rattle.type_reading.specs.Readings.{TreeTold, ListRead, SideRead, ChildBegun, BracesRead, LeafRead, NameRead, closed}
-use Rattle.type_reading.specs.declared.Child.TheVariants.{NoChild, BadChild}
-use Rattle.type_reading.specs.declared.Beginning.TheVariants.{NoSide}
-use Rattle.type_reading.specs.declared.Got.TheVariants.{Next, Offends}
+use Rattle.std.specs.Prelude.{None, Ok, Err}
 
 pub onward-here : (s : List ℕ) (at : ℕ) → at ≤ length s → Onward s at at
 onward-here s at h = record { forward = omega arith; inside = h; fewer = omega arith }
@@ -42,24 +40,24 @@ held-max : (m a b : ℕ) → held m (max (suc (held m a)) (held m b)) ≡ held m
 held-max m a b = omega arith
 
 module _ (s : List ℕ) (at : ℕ) (stack stack' : List ℕ) (base k : ℕ) (table : List ℕ) (n : ℕ) where
-  pub list-none : at ≤ length s → ChildTold s at stack stack' base k NoChild → ListTold s at table n (seen_names s stack base k) (Next at 0 0)
+  pub list-none : at ≤ length s → ChildTold s at stack stack' base k (Ok None) → ListTold s at table n (seen_names s stack base k) (Ok (at, 0, 0))
   unfolding nodes_in levels_in
   list-none h e =
       record { children = no_more; onward = onward-here s at h; many = refl; deep = refl; reads = λ f i. e (declared_names s table n) f }
 
-  pub list-bad : (p : ℕ) → ChildTold s at stack stack' base k (BadChild p) → ListTold s at table n (seen_names s stack base k) (Offends p)
+  pub list-bad : (p : ℕ) → ChildTold s at stack stack' base k (Err p) → ListTold s at table n (seen_names s stack base k) (Err p)
   list-bad p e zero i = absurd (omega (arith, e.0, i))
   list-bad p e (suc f) i = e.1 (declared_names s table n) f
 
   module _ (a : ℕ) (c : ChildBegun s at stack stack' base k a) where
-    pub list-side-bad : (p : ℕ) → TreeTold s a table n n (Offends p) → ListTold s at table n (seen_names s stack base k) (Offends p)
+    pub list-side-bad : (p : ℕ) → TreeTold s a table n n (Err p) → ListTold s at table n (seen_names s stack base k) (Err p)
     unfolding after_colon
     list-side-bad p t zero i = absurd (omega (arith, c.fewer, i))
     list-side-bad p t (suc f) i = c.reads (declared_names s table n) f ∙ rw (t f (omega (arith, c.fewer, i))) refl
 
     module _ (b nodes levels : ℕ) (t : SideRead s a table n n b nodes levels) where
-      pub list-rest-bad : (p : ℕ) → ListTold s b table n (seen_names s stack' base (suc k)) (Offends p)
-          → ListTold s at table n (seen_names s stack base k) (Offends p)
+      pub list-rest-bad : (p : ℕ) → ListTold s b table n (seen_names s stack' base (suc k)) (Err p)
+          → ListTold s at table n (seen_names s stack base k) (Err p)
       unfolding after_colon
       list-rest-bad p l zero i = absurd (omega (arith, c.fewer, i))
       list-rest-bad p l (suc f) i =
@@ -103,7 +101,7 @@ module _ (s : List ℕ) (at : ℕ) (stack stack' : List ℕ) (base k : ℕ) (tab
             ) refl
 
         pub list-next : (x y : ℕ) → x ≡ held 257 (suc nodes + more) → y ≡ held 5 (max (suc levels) deeper)
-            → ListTold s at table n (seen_names s stack base k) (Next q x y)
+            → ListTold s at table n (seen_names s stack base k) (Ok (q, x, y))
         list-next x y ex ey = record {
           children = whole;
           onward = onward-more c.onward (onward-more t.onward l.onward);
@@ -117,10 +115,10 @@ module _ (s : List ℕ) (at : ℕ) (table : List ℕ) (allowed n : ℕ) where
   unfolding declared_names among
   none-declared t z d = apart (rw z at d)
 
-  pub side-bad : (p : ℕ) → SideTold s at table allowed (NoSide p) → TreeTold s at table allowed n (Offends p)
+  pub side-bad : (p : ℕ) → SideTold s at table allowed (Err p) → TreeTold s at table allowed n (Err p)
   side-bad p e f i = e (read_children (length s) (declared_names s table n) f [])
 
-  pub side-leaf : (q b : ℕ) → LeafRead s at table allowed q b → TreeTold s at table allowed n (Next q 0 0)
+  pub side-leaf : (q b : ℕ) → LeafRead s at table allowed q b → TreeTold s at table allowed n (Ok (q, 0, 0))
   unfolding nodes_in levels_in
   side-leaf q b l = record {
     side = inline b no_more;
@@ -133,7 +131,7 @@ module _ (s : List ℕ) (at : ℕ) (table : List ℕ) (allowed n : ℕ) where
   }
 
   pub side-known : (q i x y : ℕ) → (allowed ≡ n) ⊎ (allowed ≡ 0) → NameRead s at table allowed q i
-      → x ≡ held 257 (u16_at table (6 * i + 2)) → y ≡ held 5 (u16_at table (6 * i + 4)) → TreeTold s at table allowed n (Next q x y)
+      → x ≡ held 257 (u16_at table (6 * i + 2)) → y ≡ held 5 (u16_at table (6 * i + 4)) → TreeTold s at table allowed n (Ok (q, x, y))
   unfolding declared_names among
   side-known q i x y (inl e) k ex ey = record {
     side = reference k.type;
@@ -147,7 +145,7 @@ module _ (s : List ℕ) (at : ℕ) (table : List ℕ) (allowed n : ℕ) where
   side-known q i x y (inr e) k ex ey = absurd (none-declared k.type e k.declared)
 
   module _ (a basic : ℕ) (b : BracesRead s at table allowed a basic) where
-    pub side-list-bad : (p : ℕ) → ListTold s a table n [] (Offends p) → TreeTold s at table allowed n (Offends p)
+    pub side-list-bad : (p : ℕ) → ListTold s a table n [] (Err p) → TreeTold s at table allowed n (Err p)
     side-list-bad p l f i =
         b.reads (read_children (length s) (declared_names s table n) f []) ∙ rw (l f (omega (arith, b.fewer, i))) refl
 
@@ -157,11 +155,11 @@ module _ (s : List ℕ) (at : ℕ) (table : List ℕ) (allowed n : ℕ) where
           closed (length s) basic l.children (items_at s c)
       to-closing f i = b.reads (read_children (length s) (declared_names s table n) f []) ∙ rw (l.reads f (omega (arith, b.fewer, i))) refl
 
-      pub side-open : next_is closing (items_at s c) ≡ false → TreeTold s at table allowed n (Offends (next_place (length s) (items_at s c)))
+      pub side-open : next_is closing (items_at s c) ≡ false → TreeTold s at table allowed n (Err (next_place (length s) (items_at s c)))
       side-open e f i = to-closing f i ∙ rw e refl
 
       pub side-closed : (q : ℕ) → Onward s c q → next_is closing (items_at s c) ≡ true → after_next (items_at s c) ≡ items_at s q
-          → TreeTold s at table allowed n (Next q nodes levels)
+          → TreeTold s at table allowed n (Ok (q, nodes, levels))
       side-closed q o e t = record {
         side = inline basic l.children;
         inlined = λ z. refl;

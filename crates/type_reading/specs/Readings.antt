@@ -1,7 +1,8 @@
 -- What the reading functions tell, in terms of the reader's definition.
 use Rattle.std.specs.Prelude.{◌≡◌, List, [], ◌∷◌, Bool, true, false, ℕ, suc, ◌+◌, ◌*◌, ◌≤◌, ◌<◌, length, take, ◌⊎◌}
 use Rattle.network_syntax.specs.Syntax.{none, some}
-use Rattle.type_words.specs.Told.{mark_token}
+use Rattle.type_words.specs.declared.Item.TheVariants.{Word}
+use Rattle.type_words.specs.Told.{mark_token, ItemTold}
 use Rattle.type_text.specs.Spelling.{colon, opening, closing, dot}
 use Rattle.wire.specs.Wire.{u16_at}
 use Rattle.type_text.specs.Grammar.{among, Children, no_more, Declaration}
@@ -10,22 +11,9 @@ use Rattle.type_text.specs.Reader.{Item, token, items_at, next_place, next_word,
 use Rattle.type_text.specs.Reader.{offends, read_then, expect, next_is, after_next, Side, inline, reference, child_of, declaration_of}
 use Rattle.type_text.specs.Reader.{read_cardinality, read_side, read_type_tree, read_children, read_declarations}
 use Rattle.type_reading.specs.Tables.{word_from, held, declared_names, known_nodes, known_levels, seen_names, Noted, NoneEmpty}
-use Rattle.type_reading.specs.declared.Child.{Child}
-use Rattle.type_reading.specs.declared.Child.TheVariants.{NoChild, ChildAt, BadChild}
 use Rattle.type_reading.specs.declared.Beginning.{Beginning}
-use Rattle.type_reading.specs.declared.Beginning.TheVariants.{Known, Leaf, Braces, NoSide}
-use Rattle.type_reading.specs.declared.Got.{Got}
-use Rattle.type_reading.specs.declared.Got.TheVariants.{Next, Offends}
-use Rattle.type_reading.specs.declared.Colon.{Colon}
-use Rattle.type_reading.specs.declared.Colon.TheVariants.{ColonAt, NoColon}
-use Rattle.type_reading.specs.declared.Asked.{Asked}
-use Rattle.type_reading.specs.declared.Asked.TheVariants.{Past, Elsewhere}
-use Rattle.type_reading.specs.declared.Found.{Found}
-use Rattle.type_reading.specs.declared.Found.TheVariants.{Entry, Missing}
-use Rattle.type_reading.specs.declared.Start.{Start}
-use Rattle.type_reading.specs.declared.Start.TheVariants.{Finished, TreeAt, BadStart}
-use Rattle.type_reading.specs.declared.ReadAll.{ReadAll}
-use Rattle.type_reading.specs.declared.ReadAll.TheVariants.{All, OffendsAt}
+use Rattle.type_reading.specs.declared.Beginning.TheVariants.{Known, Leaf, Braces}
+use Rattle.std.specs.Prelude.{Option, Some, None, Result, Ok, Err}
 
 -- A later place of the text, with fewer items from there on.
 pub record Onward (s : List ℕ) (at q : ℕ) : Type 0 where
@@ -51,13 +39,13 @@ pub record ChildBegun (s : List ℕ) (at : ℕ) (stack stack' : List ℕ) (base 
   pub reads : (types : List (List ℕ)) (f : ℕ) → read_children (length s) types (suc f) (seen_names s stack base k) (items_at s at) ≡
       after_colon (length s) types f (seen_names s stack base k) name mandatory (items_at s a)
 
-abbrev pub ChildTold : List ℕ → ℕ → List ℕ → List ℕ → ℕ → ℕ → Child → Type 0
-ChildTold s at stack stack' base k NoChild =
+abbrev pub ChildTold : List ℕ → ℕ → List ℕ → List ℕ → ℕ → ℕ → Result (Option ℕ) ℕ → Type 0
+ChildTold s at stack stack' base k (Ok None) =
     ((types : List (List ℕ)) (f : ℕ) → read_children (length s) types f (seen_names s stack base k) (items_at s at) ≡ parsed no_more (items_at s at))
-ChildTold s at stack stack' base k (BadChild p) =
+ChildTold s at stack stack' base k (Err p) =
     (0 < length (items_at s at)) ×
     ((types : List (List ℕ)) (f : ℕ) → read_children (length s) types (suc f) (seen_names s stack base k) (items_at s at) ≡ offends p)
-ChildTold s at stack stack' base k (ChildAt a) = ChildBegun s at stack stack' base k a
+ChildTold s at stack stack' base k (Ok (Some a)) = ChildBegun s at stack stack' base k a
 
 -- A type's name at `at`, up to q, in the entry i among the first n of the table.
 pub record NameRead (s : List ℕ) (at : ℕ) (table : List ℕ) (n q i : ℕ) : Type 0 where
@@ -91,11 +79,11 @@ pub record BracesRead (s : List ℕ) (at : ℕ) (table : List ℕ) (n a basic : 
       → read_side (length s) (declared_names s table n) children (items_at s at) ≡ read_then (children (items_at s a)) (closed (length s) basic)
 
 -- What stands after a `:` at `at`, where the first n entries of the table are the names that may stand there.
-abbrev pub SideTold : List ℕ → ℕ → List ℕ → ℕ → Beginning → Type 0
-SideTold s at table n (Known q i) = NameRead s at table n q i
-SideTold s at table n (Leaf q b) = LeafRead s at table n q b
-SideTold s at table n (Braces a b) = BracesRead s at table n a b
-SideTold s at table n (NoSide p) =
+abbrev pub SideTold : List ℕ → ℕ → List ℕ → ℕ → Result Beginning ℕ → Type 0
+SideTold s at table n (Ok (Known q i)) = NameRead s at table n q i
+SideTold s at table n (Ok (Leaf q b)) = LeafRead s at table n q b
+SideTold s at table n (Ok (Braces a b)) = BracesRead s at table n a b
+SideTold s at table n (Err p) =
     ((children : List Item → Reading Children) → read_side (length s) (declared_names s table n) children (items_at s at) ≡ offends p)
 
 abbrev pub is_inline : Side → Bool
@@ -120,9 +108,9 @@ pub record ListRead (s : List ℕ) (at : ℕ) (table : List ℕ) (n : ℕ) (seen
   pub reads : (f : ℕ) → length (items_at s at) ≤ f
       → read_children (length s) (declared_names s table n) f seen (items_at s at) ≡ parsed children (items_at s q)
 
-abbrev pub ListTold : List ℕ → ℕ → List ℕ → ℕ → List (List ℕ) → Got → Type 0
-ListTold s at table n seen (Next q nodes levels) = ListRead s at table n seen q nodes levels
-ListTold s at table n seen (Offends p) =
+abbrev pub ListTold : List ℕ → ℕ → List ℕ → ℕ → List (List ℕ) → Result (ℕ × ℕ × ℕ) ℕ → Type 0
+ListTold s at table n seen (Ok (q, nodes, levels)) = ListRead s at table n seen q nodes levels
+ListTold s at table n seen (Err p) =
     ((f : ℕ) → length (items_at s at) ≤ f → read_children (length s) (declared_names s table n) f seen (items_at s at) ≡ offends p)
 
 -- A side at `at`, up to q, where the first `allowed` entries of the table are the names that may stand there; lists in it may name all n.
@@ -136,9 +124,9 @@ pub record SideRead (s : List ℕ) (at : ℕ) (table : List ℕ) (allowed n q no
   pub reads : (f : ℕ) → length (items_at s at) ≤ f
       → read_side (length s) (declared_names s table allowed) (read_children (length s) (declared_names s table n) f []) (items_at s at) ≡ parsed side (items_at s q)
 
-abbrev pub TreeTold : List ℕ → ℕ → List ℕ → ℕ → ℕ → Got → Type 0
-TreeTold s at table allowed n (Next q nodes levels) = SideRead s at table allowed n q nodes levels
-TreeTold s at table allowed n (Offends p) =
+abbrev pub TreeTold : List ℕ → ℕ → List ℕ → ℕ → ℕ → Result (ℕ × ℕ × ℕ) ℕ → Type 0
+TreeTold s at table allowed n (Ok (q, nodes, levels)) = SideRead s at table allowed n q nodes levels
+TreeTold s at table allowed n (Err p) =
     ((f : ℕ) → length (items_at s at) ≤ f →
     read_side (length s) (declared_names s table allowed) (read_children (length s) (declared_names s table n) f []) (items_at s at) ≡ offends p)
 
@@ -158,9 +146,9 @@ pub record ColonRead (s : List ℕ) (at a : ℕ) (mandatory : Bool) : Type 0 whe
   pub fewer : length (items_at s a) < length (items_at s at)
   pub reads : (k : Bool → List Item → Reading Children) → through_colon (length s) k (items_at s at) ≡ k mandatory (items_at s a)
 
-abbrev pub ColonTold : List ℕ → ℕ → Colon → Type 0
-ColonTold s at (ColonAt a mandatory) = ColonRead s at a mandatory
-ColonTold s at (NoColon p) = (k : Bool → List Item → Reading Children) → through_colon (length s) k (items_at s at) ≡ offends p
+abbrev pub ColonTold : List ℕ → ℕ → Result (ℕ × Bool) ℕ → Type 0
+ColonTold s at (Ok (a, mandatory)) = ColonRead s at a mandatory
+ColonTold s at (Err p) = (k : Bool → List Item → Reading Children) → through_colon (length s) k (items_at s at) ≡ offends p
 
 -- The rest of a text after a declaration's `type name :`.
 abbrev pub after_name : ℕ → List (List ℕ) → ℕ → List ℕ → List Item → Reading (List Declaration)
@@ -178,20 +166,19 @@ pub record NameGiven (s : List ℕ) (at : ℕ) (table : List ℕ) (n p a : ℕ) 
   pub reads : (f : ℕ) → read_declarations (length s) (suc f) (declared_names s table n) (items_at s at) ≡
       after_name (length s) (declared_names s table n) f (word_from s p) (items_at s a)
 
-abbrev pub StartTold : List ℕ → ℕ → List ℕ → ℕ → Start → Type 0
-StartTold s at table n Finished = items_at s at ≡ []
-StartTold s at table n (BadStart p) =
+abbrev pub StartTold : List ℕ → ℕ → List ℕ → ℕ → Result (Option (ℕ × ℕ)) ℕ → Type 0
+StartTold s at table n (Ok None) = items_at s at ≡ []
+StartTold s at table n (Err p) =
     (0 < length (items_at s at)) × ((f : ℕ) → read_declarations (length s) (suc f) (declared_names s table n) (items_at s at) ≡ offends p)
-StartTold s at table n (TreeAt p a) = NameGiven s at table n p a
+StartTold s at table n (Ok (Some (p, a))) = NameGiven s at table n p a
 
 -- A declaration's name and `:` at `at`.
-abbrev pub NameTold : List ℕ → ℕ → List ℕ → ℕ → Start → Type 0
-NameTold s at table n Finished = ⊥
-NameTold s at table n (BadStart p) =
+abbrev pub NameTold : List ℕ → ℕ → List ℕ → ℕ → Result (ℕ × ℕ) ℕ → Type 0
+NameTold s at table n (Err p) =
     ((is_new_type (declared_names s table n) (next_word (items_at s at)) ≡ false) × (p ≡ next_place (length s) (items_at s at))) ⊎
     ((is_new_type (declared_names s table n) (next_word (items_at s at)) ≡ true) × (next_is colon (after_next (items_at s at)) ≡ false) ×
     (p ≡ next_place (length s) (after_next (items_at s at))))
-NameTold s at table n (TreeAt p a) =
+NameTold s at table n (Ok (p, a)) =
     (is_new_type (declared_names s table n) (word_from s p) ≡ true) × (next_word (items_at s at) ≡ word_from s p) × (p < length s) × (at + 2 ≤ a) ×
     Onward s at a × (next_is colon (after_next (items_at s at)) ≡ true) × (after_next (after_next (items_at s at)) ≡ items_at s a)
 
@@ -206,9 +193,9 @@ pub record RestRead (s : List ℕ) (at : ℕ) (table table' : List ℕ) (n m : �
   pub size : length table' ≡ length table
   pub reads : (f : ℕ) → length (items_at s at) ≤ f → read_declarations (length s) f (declared_names s table n) (items_at s at) ≡ parsed declarations []
 
-abbrev pub RestTold : List ℕ → ℕ → List ℕ → List ℕ → ℕ → ReadAll → Type 0
-RestTold s at table table' n (All m) = RestRead s at table table' n m
-RestTold s at table table' n (OffendsAt p) =
+abbrev pub RestTold : List ℕ → ℕ → List ℕ → List ℕ → ℕ → Result ℕ ℕ → Type 0
+RestTold s at table table' n (Ok m) = RestRead s at table table' n m
+RestTold s at table table' n (Err p) =
     (f : ℕ) → length (items_at s at) ≤ f → read_declarations (length s) f (declared_names s table n) (items_at s at) ≡ offends p
 
 -- The mark of a kind next, up to a.
@@ -218,34 +205,34 @@ pub record MarkRead (s : List ℕ) (at kind a : ℕ) : Type 0 where
   pub far : at < a
   pub is : items_at s at ≡ token place (mark_token kind) ∷ items_at s a
 
-abbrev pub NextMark : List ℕ → ℕ → ℕ → Asked → Type 0
-NextMark s at kind (Past a) = MarkRead s at kind a
-NextMark s at kind Elsewhere = next_is (mark_token kind) (items_at s at) ≡ false
+abbrev pub NextMark : List ℕ → ℕ → ℕ → Option ℕ → Type 0
+NextMark s at kind (Some a) = MarkRead s at kind a
+NextMark s at kind None = next_is (mark_token kind) (items_at s at) ≡ false
 
 -- A name's entry among the first n of the table.
-abbrev pub TypeFound : List ℕ → List ℕ → ℕ → List ℕ → Found → Type 0
-TypeFound s table n w (Entry i) =
+abbrev pub TypeFound : List ℕ → List ℕ → ℕ → List ℕ → Option ℕ → Type 0
+TypeFound s table n w (Some i) =
     (i < n) × (among w (declared_names s table n) ≡ true) × (u16_at table (6 * i + 2) ≡ known_nodes s table n w) ×
     (u16_at table (6 * i + 4) ≡ known_levels s table n w)
-TypeFound s table n w Missing = among w (declared_names s table n) ≡ false
+TypeFound s table n w None = among w (declared_names s table n) ≡ false
 
--- A `:` at `at` after a cardinality's mark.
-abbrev pub ColonAfter : List ℕ → ℕ → Bool → Colon → Type 0
-ColonAfter s at m (ColonAt a mandatory) = (mandatory ≡ m) × MarkRead s at 1 a
-ColonAfter s at m (NoColon p) = (next_is colon (items_at s at) ≡ false) × (p ≡ next_place (length s) (items_at s at))
+-- A mark that has to be next.
+abbrev pub MarkTold : List ℕ → ℕ → ℕ → Result ℕ ℕ → Type 0
+MarkTold s at kind (Ok a) = MarkRead s at kind a
+MarkTold s at kind (Err p) = (next_is (mark_token kind) (items_at s at) ≡ false) × (p ≡ next_place (length s) (items_at s at))
+
+-- A word that has to be next.
+abbrev pub WordTold : List ℕ → ℕ → Result (ℕ × ℕ) ℕ → Type 0
+WordTold s at (Ok (p, q)) = ItemTold s at (Word p q)
+WordTold s at (Err e) = (next_word (items_at s at) ≡ []) × (e ≡ next_place (length s) (items_at s at))
 
 -- What follows the word from p to q where it is a basic type's.
-abbrev pub TreeBegun : List ℕ → ℕ → ℕ → Beginning → Type 0
-TreeBegun s p q (Known r i) = ⊥
-TreeBegun s p q (Leaf r b) = (r ≡ q) × (basic_named (word_from s p) ≡ some b) × (next_is opening (items_at s q) ≡ false)
-TreeBegun s p q (Braces a b) =
+abbrev pub TreeBegun : List ℕ → ℕ → ℕ → Result Beginning ℕ → Type 0
+TreeBegun s p q (Ok (Known r i)) = ⊥
+TreeBegun s p q (Ok (Leaf r b)) = (r ≡ q) × (basic_named (word_from s p) ≡ some b) × (next_is opening (items_at s q) ≡ false)
+TreeBegun s p q (Ok (Braces a b)) =
     (basic_named (word_from s p) ≡ some b) × MarkRead s q 2 a × (next_is dot (items_at s a) ≡ true)
-TreeBegun s p q (NoSide e) =
+TreeBegun s p q (Err e) =
     ((basic_named (word_from s p) ≡ none) × (e ≡ p)) ⊎
     ((b : ℕ) × (basic_named (word_from s p) ≡ some b) × (next_is opening (items_at s q) ≡ true) ×
     (next_is dot (after_next (items_at s q)) ≡ false) × (e ≡ next_place (length s) (after_next (items_at s q))))
-
--- A closing brace after a list of these sizes.
-abbrev pub Closed : List ℕ → ℕ → ℕ → ℕ → Got → Type 0
-Closed s at nodes levels (Next q n l) = (n ≡ nodes) × (l ≡ levels) × MarkRead s at 3 q
-Closed s at nodes levels (Offends p) = (next_is closing (items_at s at) ≡ false) × (p ≡ next_place (length s) (items_at s at))

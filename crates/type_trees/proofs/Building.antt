@@ -4,12 +4,9 @@ use mathlib.Core.List.{List, [], ◌∷◌}
 use mathlib.Core.Bool.{Bool, true}
 use mathlib.Core.Logic.{◌⊎◌, inl, inr}
 use native.Mathlib.Omega.{arith}
-use native.Mathlib.Numerals.{add-one}
 use Prim.Native.Nat.{ℕ, zero, suc, ◌+◌, ◌*◌, ◌≤◌}
-use types.Run.{OneOf, miss}
-use denote.Enum.Declared.{tag_of}
 use lib.ListN.{length}
-use Rattle.basics.specs.TestLaws.{apart, clash}
+use Rattle.basics.specs.TestLaws.{apart}
 use Rattle.wire.specs.Wire.{u16_at}
 use Rattle.tree_forest.specs.Forest.{end, tree, set}
 use Rattle.network_syntax.specs.Syntax.{Mark, mark, Types}
@@ -19,20 +16,16 @@ use Rattle.type_text.specs.Grammar.{among, Children}
 use Rattle.type_text.specs.Meaning.{id_of, NamedType, type_named, forest_from}
 use Rattle.type_text.specs.Reader.{Item, token, items_at, parsed, next_is, next_word, after_next, token_kind, word_in, Side, inline, reference}
 use Rattle.type_text.specs.Reader.{read_side, read_children}
-use Rattle.type_words.specs.contracts.Item as items
 use Rattle.type_words.specs.declared.Item.{Item as WordItem}
 use Rattle.type_words.specs.declared.Item.TheVariants.{Word, Mark as MarkItem, Fault, End}
 use Rattle.type_words.specs.Told.{mark_token, ItemTold}
 use Rattle.type_words.specs.ItemLaws.{kind-of-mark}
 use Rattle.type_reading.specs.Tables.{word_from, declared_names, known_at, Named}
 use Rattle.type_reading.specs.TableLaws.{none-empty-yet}
-use Rattle.type_reading.specs.Readings.{MarkRead, NextMark, ColonRead, ColonTold, SideTold, NameRead, LeafRead, BracesRead, through_colon, after_colon, closed}
+use Rattle.type_reading.specs.Readings.{MarkRead, NextMark, ColonRead, ColonTold, NameRead, LeafRead, BracesRead, through_colon, after_colon, closed}
 use Rattle.type_reading.specs.ReadingLaws.{onward-here, onward-more}
 use Rattle.type_reading.specs.PieceLaws.{children-none, children-unnamed}
 use Rattle.type_reading.specs.WordLaws.{one_fewer, word-items, word-onward}
-use Rattle.type_reading.specs.declared.Asked.TheVariants.{Past, Elsewhere}
-use Rattle.type_reading.specs.declared.Colon.TheVariants.{NoColon}
-use Rattle.type_reading.specs.declared.Beginning.TheVariants.{NoSide}
 use Rattle.type_rows.specs.WordLaws.{id-positive}
 use Rattle.type_rows.specs.MeaningLaws.{ProperList, FreshFor, fresh-end, fresh_set}
 use Rattle.type_images.specs.declared.TypeImage.{TypeImage}
@@ -42,6 +35,7 @@ use Rattle.type_trees.specs.Names.{names_up_to}
 use Rattle.type_trees.specs.Builds.{KnownImages, side_type, ProperSide, LimitsKept, ClosingPassed, SideBuilt, ListBuilt, TreeBuilt}
 use Rattle.type_trees.specs.BuildLaws.{known-image, forest-child, proper-child, child-within}
 use Rattle.type_trees.specs.BuildLaws.{no-parse, parsed-what, then-parsed, child-read, named-read, closed-read}
+use Rattle.std.specs.Prelude.{None, Err}
 
 -- ---- what is no word
 
@@ -55,33 +49,17 @@ kind-no-word question h = refl
 kind-no-word zero_to_one h = refl
 kind-no-word one_to_one h = refl
 
-pub wordless-item : (s : List ℕ) (at : ℕ) (r : WordItem) → ItemTold s at r → OneOf (1 ∷ 2 ∷ 3 ∷ []) (tag_of items.the_type r) → next_word (items_at s at) ≡ []
-wordless-item s at (Word p q) t o = absurd (miss (1 ∷ 2 ∷ 3 ∷ []) 0 tt o)
+pub wordless-item : (s : List ℕ) (at : ℕ) (r : WordItem) → ItemTold s at r → ((p q : ℕ) → r ≡ Word p q → ⊥) → next_word (items_at s at) ≡ []
+wordless-item s at (Word p q) t o = absurd (o p q refl)
 wordless-item s at (MarkItem k p q) t o =
     let e = kind-of-mark k t.3 t.4 in ap next_word t.5 ∙ kind-no-word (mark_token k) (λ z. omega (arith, e, z, t.3))
 wordless-item s at (Fault p q) t o = ap next_word t.3
 wordless-item s at End t o = ap next_word t
 
--- ---- a closing brace
-
-module _ (s : List ℕ) (made : Built) where
-  pub closing-passed : (a : ℕ) → NextMark s made.at 3 (Past a) → ClosingPassed s made (record { at = a; image = made.image })
-  closing-passed a t = record { onward = t.onward; same = refl; passes = λ e. ap after_next t.is }
-
-  pub closing-missing : made.at ≤ length s → NextMark s made.at 3 Elsewhere → ClosingPassed s made made
-  closing-missing h t = record { onward = onward-here s made.at h; same = refl; passes = λ e. absurd (clash e t) }
-
--- ---- a known type
-
-pub row_copied : (images : List ℕ) (x y row below : ℕ) (m : Bool) (r : TypeImage) → row ≡ x → below ≡ y
-    → TypeCopied images (7 * row) (7 * (below + 1)) m r → TypeCopied images (7 * x) (7 * suc y) m r
-row_copied images x y row below m r e q c =
-    subst₂ (λ (i j : ℕ). TypeCopied images (7 * i) (7 * j) m r) e (add-one below ∙ ap suc q) c
-
 -- ---- a list
 
 module _ (s : List ℕ) (at : ℕ) (table : List ℕ) (n : ℕ) (names : List ℕ) (m : ℕ) (images : List ℕ) (acc : TypeImage) where
-  pub list-ends : at ≤ length s → NextMark s at 4 Elsewhere → ListBuilt s at table n names m images acc (record { at = at; image = acc })
+  pub list-ends : at ≤ length s → NextMark s at 4 None → ListBuilt s at table n names m images acc (record { at = at; image = acc })
   unfolding forest_from
   list-ends h e = record {
     onward = onward-here s at h;
@@ -117,7 +95,7 @@ module _ (s : List ℕ) (at : ℕ) (table : List ℕ) (n : ℕ) (names : List �
             named-read (length s) types f seen t.place p (word_from s p) (items_at s q) c rest (ap (read_children (length s) types (suc f) seen) (sym l) ∙ rd),
           )
 
-      pub list-colonless : (e : ℕ) → ColonTold s q (NoColon e) → ListBuilt s at table n names m images acc (record { at = at; image = acc })
+      pub list-colonless : (e : ℕ) → ColonTold s q (Err e) → ListBuilt s at table n names m images acc (record { at = at; image = acc })
       list-colonless e o = record {
         onward = onward-here s at h;
         tells = λ known f seen c rest mk k ki le rd pl fr hd li.
@@ -209,13 +187,6 @@ module _ (s : List ℕ) (at : ℕ) (table : List ℕ) (allowed n : ℕ) (names :
         let z = parsed-what (sym (k.reads (read_children (length s) (declared_names s table n) f [])) ∙ rd) in
         let pp = subst (ProperSide these) (sym z.0) ps in
         (sym z.1, subst (λ (y : Side). HoldsType x (side_type these known mandatory y)) z.0 (lm.tells pp.0));
-  }
-
-  pub side-is-none : at ≤ length s → (p : ℕ) → SideTold s at table allowed (NoSide p) → (x : TypeImage)
-      → SideBuilt s at table allowed n names m images mandatory (record { at = at; image = x })
-  side-is-none h p k x = record {
-    onward = onward-here s at h;
-    tells = λ known f side rest ki le rd ps li. no-parse (sym (k (read_children (length s) (declared_names s table n) f [])) ∙ rd);
   }
 
   module _ (a b : ℕ) (k : BracesRead s at table allowed a b) (root : TypeImage) (lm : LeafMade mandatory b root) (made : Built)

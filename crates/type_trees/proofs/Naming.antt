@@ -32,8 +32,6 @@ module _ (s names : List ℕ) (n p id : ℕ) (e : id ≡ id_of (names_up_to s na
       let a = none-by-id (names_up_to s names n) (word_from s p) (omega (arith, e, h, length-names s names 0 n)) in
       record { few = omega arith; size = ap length q ∙ length-16 names (2 * n) p; is = rw (a, q) (name-more s names n p l) }
 
-pub ruleset added-laws = (added-known, added_new)
-
 -- ---- the loop over the items
 
 -- The first n names, with those that come after them from `at` on, are the names of the whole text.

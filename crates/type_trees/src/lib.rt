@@ -11,7 +11,7 @@ ghost use Rattle.type_trees.specs.Names.{names_up_to, tokens_in, dot_names, Name
 ghost use Rattle.type_trees.specs.Builds.{ClosingPassed, SideBuilt, ListBuilt, TreeBuilt};
 
 use type_images::TypeImage;
-use type_reading::{Asked, Beginning, Colon};
+use type_reading::Beginning;
 use type_words::Item;
 
 // A type that was made, and the place past what it was made of.
@@ -26,12 +26,10 @@ pub fn id_of(text: &[u8], names: &[u8], n: usize, p: usize, q: usize) -> u16
     requires { WordUpTo text.now p q × (n < 65535) }
     ensures { result ≡ id_of (names_up_to text.now names.now n) (word_from text.now p) }
 {
-    let mut i: usize = 0;
-    while i < n {
-        if type_reading::same_name(text, p, q, wire::index(wire::u16_at(names, 2 * i))) {
+    for i in 0..n {
+        if type_reading::same_name(text, p, q, usize::from(wire::u16_at(names, 2 * i))) {
             return (i + 1) as u16;
         }
-        i += 1;
     }
     (n + 1) as u16
 }
@@ -41,7 +39,7 @@ fn add_name(text: &[u8], names: &mut [u8], n: usize, p: usize, q: usize) -> usiz
     requires { WordUpTo text.now p q × (length text.now ≤ 8192) × (2 * n + 2 ≤ length names.old) × (n < 65535) }
     ensures { NameAdded text.now names.old names.new n (word_from text.now p) result }
 {
-    let id = wire::index(id_of(text, names, n, p, q));
+    let id = usize::from(id_of(text, names, n, p, q));
     if id <= n {
         return n;
     }
@@ -70,8 +68,7 @@ pub fn gather(text: &[u8], names: &mut [u8]) -> usize
                 dot = k == 4;
                 at = q;
             }
-            Item::Fault(_, _) => return n,
-            Item::End => return n,
+            Item::Fault(_, _) | Item::End => return n,
         }
     }
 }
@@ -81,14 +78,9 @@ fn closed(text: &[u8], made: Built) -> Built
     requires { made.at ≤ length text.now }
     ensures { ClosingPassed text.now made result }
 {
-    let at = made.at;
-    let image = made.image;
-    match type_reading::mark_next(text, at, 3) {
-        Asked::Past(a) => Built {
-            at: a,
-            image: image,
-        },
-        Asked::Elsewhere => made,
+    match type_reading::mark_next(text, made.at, 3) {
+        Some(at) => Built { at, ..made },
+        None => made,
     }
 }
 
@@ -98,8 +90,8 @@ fn known_type(table: &[u8], i: usize, images: &[u8], mandatory: bool) -> TypeIma
     ensures { TypeCopied images.now (7 * u16_at table.now (6 * i + 4))
         (7 * suc (u16_at table.now (6 * i + 2))) mandatory result }
 {
-    let below = wire::index(wire::u16_at(table, 6 * i + 2));
-    let row = wire::index(wire::u16_at(table, 6 * i + 4));
+    let below = usize::from(wire::u16_at(table, 6 * i + 2));
+    let row = usize::from(wire::u16_at(table, 6 * i + 4));
     type_images::copy_type(images, 7 * row, 7 * (below + 1), mandatory)
 }
 
@@ -120,19 +112,19 @@ fn build_side(
     ensures { SideBuilt text.now at table.now allowed n names.now m images.now mandatory result }
 {
     match type_reading::side_at(text, at, table, allowed) {
-        Beginning::Known(q, i) => Built {
+        Ok(Beginning::Known(q, i)) => Built {
             at: q,
             image: known_type(table, i, images, mandatory),
         },
-        Beginning::Leaf(q, b) => Built {
+        Ok(Beginning::Leaf(q, b)) => Built {
             at: q,
             image: type_images::leaf_type(mandatory, b),
         },
-        Beginning::NoSide(_) => Built {
-            at: at,
+        Err(_) => Built {
+            at,
             image: type_images::leaf_type(mandatory, 0),
         },
-        Beginning::Braces(a, b) => {
+        Ok(Beginning::Braces(a, b)) => {
             let root = type_images::leaf_type(mandatory, b);
             let made = build_list(text, a, table, n, names, m, images, root);
             closed(text, made)
@@ -155,21 +147,19 @@ fn build_list(
     requires { (at ≤ length text.now) × Named text.now table.now n × (m < 65535) }
     ensures { ListBuilt text.now at table.now n names.now m images.now acc result }
 {
-    let Asked::Past(a) = type_reading::mark_next(text, at, 4) else {
-        return Built { at: at, image: acc };
+    let Some(a) = type_reading::mark_next(text, at, 4) else {
+        return Built { at, image: acc };
     };
     let Item::Word(p, q) = type_words::item_at(text, a) else {
-        return Built { at: at, image: acc };
+        return Built { at, image: acc };
     };
-    let Colon::ColonAt(b, mandatory) = type_reading::colon_at(text, q) else {
-        return Built { at: at, image: acc };
+    let Ok((b, mandatory)) = type_reading::colon_at(text, q) else {
+        return Built { at, image: acc };
     };
     let id = id_of(text, names, m, p, q);
     let side = build_side(text, b, table, n, n, names, m, images, mandatory);
-    let next = side.at;
-    let child = side.image;
-    let grown = type_images::put_child(acc, id, child);
-    build_list(text, next, table, n, names, m, images, grown)
+    let grown = type_images::put_child(acc, id, side.image);
+    build_list(text, side.at, table, n, names, m, images, grown)
 }
 
 // The type of the declaration whose tree stands at `at`.

@@ -1,3 +1,3 @@
-pub mod Bytes
+pub mod Runs
 pub mod Naming
 pub mod Lexing

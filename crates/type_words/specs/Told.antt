@@ -1,5 +1,5 @@
 -- What the code that reads words and marks answers, by the items of `type_text/Reader`.
-use Rattle.std.specs.Prelude.{◌≡◌, List, [], ◌∷◌, Bool, ℕ, suc, ◌+◌, ◌-◌, ◌≤◌, ◌<◌, length, get_or}
+use Rattle.std.specs.Prelude.{◌≡◌, List, [], ◌∷◌, Bool, ℕ, suc, ◌+◌, ◌-◌, ◌≤◌, ◌<◌, length, get_or, Option, Some, None}
 use Rattle.basics.specs.Choice.{pick}
 use Rattle.wire.specs.Wire.{part}
 use Rattle.scalar.specs.Basic.{last_basic}
@@ -8,8 +8,6 @@ use Rattle.type_text.specs.Spelling.{Token, word, colon, opening, closing, dot, 
 use Rattle.type_text.specs.Reader.{Lexeme, space, found, broken, token, fault, items_at, token_kind, basic_named}
 use Rattle.type_words.specs.declared.Item.{Item}
 use Rattle.type_words.specs.declared.Item.TheVariants.{Word, Mark, Fault, End}
-use Rattle.type_words.specs.declared.BasicWord.{BasicWord}
-use Rattle.type_words.specs.declared.BasicWord.TheVariants.{Of, Other}
 
 -- The mark of a number (`token_kind` has the numbers).
 abbrev pub mark_token : ℕ → Token
@@ -34,6 +32,6 @@ ItemTold s at (Fault p q) = (at ≤ p) × (p ≤ q) × (q ≤ length s) × (item
 ItemTold s at End = items_at s at ≡ []
 
 -- r is the basic type that the word w names.
-abbrev pub BasicTold : List ℕ → BasicWord → Type 0
-BasicTold w (Of b) = (basic_named w ≡ some b) × (b ≤ last_basic)
-BasicTold w Other = basic_named w ≡ none
+abbrev pub BasicTold : List ℕ → Option ℕ → Type 0
+BasicTold w (Some b) = (basic_named w ≡ some b) × (b ≤ last_basic)
+BasicTold w None = basic_named w ≡ none

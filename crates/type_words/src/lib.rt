@@ -19,45 +19,23 @@ pub enum Item {
     End,
 }
 
-// The basic type that a word names; or that it names none.
-#[derive(Clone, Copy)]
-pub enum BasicWord {
-    Of(u8),
-    Other,
-}
-
 pub fn is_blank(b: u8) -> bool
     ensures { result ≡ is_blank b }
 {
-    if b == 32 {
-        return true;
-    }
-    b == 10
+    matches!(b, b' ' | b'\n')
 }
 
 fn is_letter(b: u8) -> bool
     ensures { result ≡ is_letter b }
 {
-    if b < 65 {
-        return false;
-    }
-    if b < 97 {
-        return b <= 90;
-    }
-    b <= 122
+    matches!(b, b'A'..=b'Z' | b'a'..=b'z')
 }
 
 // A letter, a digit or an underscore.
 pub fn in_word(b: u8) -> bool
     ensures { result ≡ in_word b }
 {
-    if is_letter(b) {
-        return true;
-    }
-    if b < 58 {
-        return 48 <= b;
-    }
-    b == 95
+    is_letter(b) || matches!(b, b'0'..=b'9' | b'_')
 }
 
 // The place of the first byte from `at` on that is no blank; the length if there is none.
@@ -65,14 +43,7 @@ fn skip_blanks(text: &[u8], at: usize) -> usize
     requires { at ≤ length text.now }
     ensures { (result ≡ at + run_of is_blank (drop at text.now)) × (result ≤ length text.now) }
 {
-    let mut i: usize = at;
-    while i < text.len() {
-        if !is_blank(text[i]) {
-            return i;
-        }
-        i += 1;
-    }
-    i
+    at + text[at..].iter().take_while(|b| is_blank(**b)).count()
 }
 
 // The place past the word bytes from p on.
@@ -80,14 +51,7 @@ pub fn word_end(text: &[u8], p: usize) -> usize
     requires { p ≤ length text.now }
     ensures { (result ≡ p + length (word_bytes (drop p text.now))) × (result ≤ length text.now) }
 {
-    let mut i: usize = p;
-    while i < text.len() {
-        if !in_word(text[i]) {
-            return i;
-        }
-        i += 1;
-    }
-    i
+    p + text[p..].iter().take_while(|b| in_word(**b)).count()
 }
 
 // `[` at p with the first digit of the mark `kind` after it: do `,`, `1` and `]` follow?
@@ -95,13 +59,13 @@ fn bracket_end(text: &[u8], p: usize, kind: u8) -> Item
     requires { (p + 1 < length text.now) × (0 < kind) × (kind < 8) }
     ensures { result ≡ mark_item p (bracket_end (mark_token kind) (drop (p + 1) text.now)) }
 {
-    if wire::byte_at(text, p + 2) != 44 {
+    if wire::byte_at(text, p + 2) != b',' {
         return Item::Fault(p, p + 2);
     }
-    if wire::byte_at(text, p + 3) != 49 {
+    if wire::byte_at(text, p + 3) != b'1' {
         return Item::Fault(p, p + 3);
     }
-    if wire::byte_at(text, p + 4) != 93 {
+    if wire::byte_at(text, p + 4) != b']' {
         return Item::Fault(p, p + 4);
     }
     Item::Mark(kind, p, p + 5)
@@ -112,14 +76,11 @@ fn bracket(text: &[u8], p: usize) -> Item
     requires { p < length text.now }
     ensures { result ≡ mark_item p (bracket_at (drop (p + 1) text.now)) }
 {
-    let digit = wire::byte_at(text, p + 1);
-    if digit == 48 {
-        return bracket_end(text, p, 6);
+    match wire::byte_at(text, p + 1) {
+        b'0' => bracket_end(text, p, 6),
+        b'1' => bracket_end(text, p, 7),
+        _ => Item::Fault(p, p + 1),
     }
-    if digit == 49 {
-        return bracket_end(text, p, 7);
-    }
-    Item::Fault(p, p + 1)
 }
 
 // The mark that begins at p.
@@ -128,12 +89,12 @@ fn mark_at(text: &[u8], p: usize) -> Item
     ensures { result ≡ mark_item p (mark_at (get_or text.now p 0) (drop (p + 1) text.now)) }
 {
     match text[p] {
-        58 => Item::Mark(1, p, p + 1),
-        123 => Item::Mark(2, p, p + 1),
-        125 => Item::Mark(3, p, p + 1),
-        46 => Item::Mark(4, p, p + 1),
-        63 => Item::Mark(5, p, p + 1),
-        91 => bracket(text, p),
+        b':' => Item::Mark(1, p, p + 1),
+        b'{' => Item::Mark(2, p, p + 1),
+        b'}' => Item::Mark(3, p, p + 1),
+        b'.' => Item::Mark(4, p, p + 1),
+        b'?' => Item::Mark(5, p, p + 1),
+        b'[' => bracket(text, p),
         _ => Item::Fault(p, p),
     }
 }
@@ -181,8 +142,7 @@ pub fn is_type_word(text: &[u8], p: usize, q: usize) -> bool
     requires { (p ≤ q) × (q ≤ length text.now) }
     ensures { result ≡ same_word type_word (part text.now p (q - p)) }
 {
-    let word = [116u8, 121, 112, 101];
-    scalar::same_bytes(&word[..4], &text[p..q])
+    scalar::same_bytes(b"type", &text[p..q])
 }
 
 // Is the word from p to q that of the basic type b?
@@ -190,23 +150,18 @@ fn is_word_of(b: u8, text: &[u8], p: usize, q: usize) -> bool
     requires { (p ≤ q) × (q ≤ length text.now) }
     ensures { result ≡ same_word (word_of b) (part text.now p (q - p)) }
 {
-    let w = scalar::word_of(b);
-    let bytes = w.bytes;
-    let n = w.len;
-    scalar::same_bytes(&bytes[..n], &text[p..q])
+    scalar::same_bytes(scalar::word_of(b), &text[p..q])
 }
 
 // The basic type that the word from p to q names.
-pub fn basic_named(text: &[u8], p: usize, q: usize) -> BasicWord
+pub fn basic_named(text: &[u8], p: usize, q: usize) -> Option<u8>
     requires { (p ≤ q) × (q ≤ length text.now) }
     ensures { BasicTold (part text.now p (q - p)) result }
 {
-    let mut n: u8 = scalar::LAST_BASIC + 1;
-    while 0 < n {
-        n -= 1;
+    for n in (0..scalar::LAST_BASIC + 1).rev() {
         if is_word_of(n, text, p, q) {
-            return BasicWord::Of(n);
+            return Some(n);
         }
     }
-    BasicWord::Other
+    None
 }

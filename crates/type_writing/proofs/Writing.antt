@@ -1,9 +1,9 @@
 -- One type written, at each of the ways out of the code.
 use mathlib.Core.Path.{◌≡◌, refl, sym, ◌∙◌, ap}
-use mathlib.Core.List.{List, [], ◌∷◌}
+use mathlib.Core.List.{List}
 use Prim.Native.Nat.{ℕ, ◌+◌, ◌*◌, ◌/◌, ◌≤◌, ◌<◌}
 use native.Mathlib.Omega.{arith}
-use lib.ListN.{length, take, drop, length-take}
+use lib.ListN.{length, take, drop}
 use Rattle.tree_forest.specs.Forest.{tree, Rising, RisingTree}
 use Rattle.tree_edit.specs.Wrote.{Wrote}
 use Rattle.tree_edit.specs.WroteLaws.{wrote_as}
@@ -11,23 +11,16 @@ use Rattle.check_subtyping.specs.Subtype.{root_children}
 use Rattle.network_syntax.specs.Syntax.{MessageType}
 use Rattle.type_text.specs.TypeRows.{by_levels, row_bytes, rows_in}
 use Rattle.type_images.specs.TypeImages.{image_of, image_size}
-use Rattle.type_images.specs.declared.TypeImage.{TypeImage}
 use Rattle.type_lines.specs.Emits.{TreeEmitted}
 use Rattle.type_lines.specs.EmitsLaws.{tree-emitted}
-use Rattle.type_writing.specs.Passes.{ImageWrote, TypeWrote, RestWritten}
-use Rattle.type_writing.specs.PassLaws.{rows-image, rest_over, rest-wrong, names_same}
+use Rattle.type_writing.specs.Passes.{ImageWrote}
+use Rattle.type_writing.specs.PassLaws.{rows-image, names_same}
 use Rattle.wire.specs.Wire.{put_u16}
 use Rattle.type_reading.specs.Tables.{NoneEmpty}
-use Rattle.type_reading.specs.contracts.Start as starts
 use Rattle.refusal.specs.declared.Refusal.{Refusal}
 use Rattle.refusal.specs.declared.Outcome.{Outcome}
 use Rattle.refusal.specs.Refusal.{refused_by}
 use Rattle.type_writing.specs.Answer.{TextAnswer, text_refused}
-use types.Run.{OneOf, miss}
-use denote.Enum.Declared.{tag_of}
-use Rattle.type_reading.specs.declared.Start.{Start}
-use Rattle.type_reading.specs.declared.Start.TheVariants.{Finished, TreeAt, BadStart}
-use Rattle.type_reading.specs.Readings.{StartTold}
 use Rattle.type_images.specs.TypeImageLaws.{image-length}
 use Rattle.check_types.specs.TypeRowsLaws.{TypeKeeps}
 use lib.Seq.{take-length}
@@ -89,30 +82,6 @@ module _ (s : List ℕ) (row : ℕ) (images out : List ℕ) where
             let y : length s ≡ image_size t = image-long s t x in
             let p : q ≡ 7 * row + image_size t = w.next ∙ ap (λ (z : ℕ). 7 * row + z) y in
             (d, rw (sym c) v, rw (sym p) (wrote_as (take-length s ∙ x) y w))
-
-module _ (e : TypeImage) (row : ℕ) (images out : List ℕ) where
-  -- No type that is held is so long.
-  pub type-long : 112 < e.len → TypeWrote e row images images out out row
-  type-long h = record {
-    out_size = refl;
-    images_size = refl;
-    tells = λ t x f l i. absurd (omega (arith, h, x.size, x.keeps.few));
-  }
-
-  pub type-wrote : (s images' out' : List ℕ) (r : ℕ) → s ≡ take e.len e.bytes → ImageWrote s row images images' out out' r
-      → TypeWrote e row images images' out out' r
-  type-wrote s images' out' r e w =
-      record { out_size = w.out_size; images_size = w.images_size; tells = λ t x f l i. w.tells t (e ∙ x.image) x.keeps f l i }
-
-pub part-whole : (m : List ℕ) (n k : ℕ) → n ≤ k → length m ≡ k → n ≡ length (take n m)
-part-whole m n k h e = simp length-take (omega arith)
-
--- No declaration begins.
-pub rest-other : (s : List ℕ) (at : ℕ) (table : List ℕ) (n total : ℕ) (names : List ℕ) (m : ℕ) (images out : List ℕ) (row : ℕ) (r : Start)
-    → StartTold s at table n r → OneOf (0 ∷ 2 ∷ []) (tag_of starts.the_type r) → n < total → RestWritten s at table n total names m images out out row
-rest-other s at table n total names m images out row Finished t o h = rest_over s at table n total names m images out row h t
-rest-other s at table n total names m images out row (TreeAt p a) t o h = absurd (miss (0 ∷ 2 ∷ []) 1 tt o)
-rest-other s at table n total names m images out row (BadStart p) t o h = rest-wrong s at table n total names m images out row p t
 
 pub below : (n m : ℕ) → n ≤ m → (n ≡ m → ⊥) → n < m
 below n m h e = omega (arith, h, e)

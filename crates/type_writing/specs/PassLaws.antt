@@ -22,7 +22,7 @@ use Rattle.type_text.specs.TypeRows.{by_levels, row_bytes, rows_in, row_count, t
 use Rattle.type_reading.specs.Tables.{word_from, declared_names}
 use Rattle.type_reading.specs.TableLaws.{names-kept, first-kept}
 use Rattle.type_reading.specs.Readings.{NameGiven, StartTold}
-use Rattle.type_reading.specs.declared.Start.TheVariants.{Finished, BadStart}
+use Rattle.std.specs.Prelude.{None, Ok, Err}
 use Rattle.type_rows.specs.Ranged.{Small, EachType}
 use Rattle.type_rows.specs.MeaningLaws.{ProperAll}
 use Rattle.type_images.specs.TypeImages.{image_of, image_size, HoldsType}
@@ -176,7 +176,7 @@ module _ (s : List ℕ) (at : ℕ) (table : List ℕ) (n total : ℕ) (names : L
   ids = names_up_to s names m
 
   -- Where more is left, something is read from here on.
-  pub rest-starts : (ds : List Declaration) → n < total → RestGiven s at table n total ids images out row known ds → StartTold s at table n Finished → ⊥
+  pub rest-starts : (ds : List Declaration) → n < total → RestGiven s at table n total ids images out row known ds → StartTold s at table n (Ok None) → ⊥
   unfolding read_declarations
   rest-starts ds h g e = by g.fuel g.reads
     where
@@ -191,7 +191,7 @@ module _ (s : List ℕ) (at : ℕ) (table : List ℕ) (n total : ℕ) (names : L
       by zero q = none_read (ap (λ (l : List Item). parsed [] l) (sym e) ∙ q)
       by (suc f) q = none_read (rw e at q)
 
-  pub rest-right : (ds : List Declaration) (p : ℕ) → RestGiven s at table n total ids images out row known ds → StartTold s at table n (BadStart p) → ⊥
+  pub rest-right : (ds : List Declaration) (p : ℕ) → RestGiven s at table n total ids images out row known ds → StartTold s at table n (Err p) → ⊥
   rest-right ds p g e = by g.fuel g.enough g.reads
     where
       by : (f : ℕ) → length (items_at s at) ≤ f → read_declarations (length s) f (declared_names s table n) (items_at s at) ≡ parsed ds [] → ⊥
@@ -346,8 +346,8 @@ module _ (s : List ℕ) (at : ℕ) (table : List ℕ) (n total : ℕ) (names : L
               d.0 d.1 d.2.reads d.2.goes (rw e at g) room out' (rw suc-n at rest))
 
   -- Where nothing of the kind begins here, nothing was given.
-  pub rest_over : n < total → StartTold s at table n Finished → RestWritten s at table n total names m images out out row
+  pub rest_over : n < total → StartTold s at table n (Ok None) → RestWritten s at table n total names m images out out row
   rest_over h e = record { tells = λ known ds g. absurd (rest-starts s at table n total names m images out row known ds h g e) }
 
-  pub rest-wrong : (p : ℕ) → StartTold s at table n (BadStart p) → RestWritten s at table n total names m images out out row
+  pub rest-wrong : (p : ℕ) → StartTold s at table n (Err p) → RestWritten s at table n total names m images out out row
   rest-wrong p e = record { tells = λ known ds g. absurd (rest-right s at table n total names m images out row known ds p g e) }

@@ -12,10 +12,9 @@ use Rattle.network_syntax.specs.ViewLaws.{none-some}
 use Rattle.network_syntax.specs.Syntax.{MessageType, Optional, none, some}
 use Rattle.type_text.specs.TypeRows.{rows_in, row_count, is_too_large}
 use Rattle.type_reading.specs.Tables.{held}
-use Rattle.type_writing.specs.declared.Large.{Large}
-use Rattle.type_writing.specs.declared.Large.TheVariants.{Row, Fits}
 use Rattle.type_writing.specs.Answer.{large_from}
 use Rattle.type_writing.specs.SizeLaws.{SizesNoted}
+use Rattle.std.specs.Prelude.{Option, Some, None}
 
 -- The rows of k entries from n on.
 unfoldable pub table_rows : List ℕ → ℕ → ℕ → ℕ
@@ -31,9 +30,9 @@ unfoldable pub table_large : List ℕ → ℕ → ℕ → ℕ → Optional ℕ
 table_large table n zero r = none
 table_large table n (suc k) r = pick (entry_large table n) (some r) (table_large table (suc n) k (r + suc (u16_at table (6 * n + 2))))
 
-abbrev pub LargeTold : List ℕ → ℕ → Large → Type 0
-LargeTold table n (Row r) = table_large table 0 n 0 ≡ some r
-LargeTold table n Fits = table_large table 0 n 0 ≡ none
+abbrev pub LargeTold : List ℕ → ℕ → Option ℕ → Type 0
+LargeTold table n (Some r) = table_large table 0 n 0 ≡ some r
+LargeTold table n None = table_large table 0 n 0 ≡ none
 
 gap : (i n : ℕ) → i < n → n - i ≡ suc (n - suc i)
 gap i n h = omega (arith, h)

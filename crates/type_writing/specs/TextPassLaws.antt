@@ -30,11 +30,11 @@ use Rattle.type_trees.specs.Names.{names_up_to, tokens_in, dot_names}
 use Rattle.type_trees.specs.NameLaws.{dot-ids, length-names}
 use Rattle.type_trees.specs.Builds.{KnownImages}
 use Rattle.type_reading.specs.Readings.{RestTold, RestRead}
-use Rattle.type_reading.specs.declared.ReadAll.TheVariants.{OffendsAt}
 use Rattle.type_writing.specs.Answer.{text_refused, text_offence, large_from, rows_answer, types_answer, reading_answer, write_types}
 use Rattle.type_writing.specs.SizeLaws.{SizesNoted, agrees-none, sizes-noted}
 use Rattle.type_writing.specs.Sums.{rows-children, table_rows, table_large, rows-counted, large-found}
 use Rattle.type_writing.specs.Passes.{ImagesBelow, EntriesAre, RestGiven, RestWritten, TextRead, TextWritten, RowsTold}
+use Rattle.std.specs.Prelude.{Err}
 
 -- ---- ids
 
@@ -204,7 +204,7 @@ module _ (s out : List ℕ) (short : length s ≤ 8192) where
   unfolding write_types
   by-reading r e = rw (le-ltb 8192 (length s) short, e) refl
 
-  pub text-offends : (table table' : List ℕ) (p : ℕ) → RestTold s 0 table table' 0 (OffendsAt p) → write_types s out ≡ text_refused (text_offence s p) out
+  pub text-offends : (table table' : List ℕ) (p : ℕ) → RestTold s 0 table table' 0 (Err p) → write_types s out ≡ text_refused (text_offence s p) out
   unfolding read_text declared_names
   text-offends table table' p h = by-reading (offends p) (h (length s) (items-within s))
 

@@ -9,39 +9,19 @@ ghost use Rattle.type_writing.specs.Sums.{table_rows, LargeTold};
 
 use refusal::{Outcome, Refusal};
 use type_images::TypeImage;
-use type_reading::{ReadAll, Start};
-
-// The first row of a type that is too large; or that none is.
-#[derive(Clone, Copy)]
-pub enum Large {
-    Row(usize),
-    Fits,
-}
 
 // Does the grammar use the byte?
+#[tactic(auto, unfolding(crate::specs::Answer::is_used_byte))]
 fn is_used(b: u8) -> bool
     ensures { result ≡ is_used_byte b }
 {
-    if type_words::in_word(b) {
-        return true;
-    }
-    if type_words::is_blank(b) {
-        return true;
-    }
-    match b {
-        58 => true,
-        123 => true,
-        125 => true,
-        46 => true,
-        63 => true,
-        91 => true,
-        44 => true,
-        93 => true,
-        _ => false,
-    }
+    type_words::in_word(b)
+        || type_words::is_blank(b)
+        || matches!(b, b':' | b'{' | b'}' | b'.' | b'?' | b'[' | b',' | b']')
 }
 
 // The refusal of a text whose first offending byte is at p.
+#[tactic(auto, unfolding(crate::specs::Answer::text_offence))]
 fn offence(text: &[u8], p: usize) -> Refusal
     ensures { result ≡ text_offence text.now p }
 {
@@ -60,43 +40,39 @@ fn count_rows(table: &[u8], n: usize) -> usize
     ensures { result ≡ held 257 (table_rows table.now 0 n) }
 {
     let mut rows: usize = 0;
-    let mut i: usize = 0;
-    while i < n {
-        rows += 1 + wire::index(wire::u16_at(table, 6 * i + 2));
+    for i in 0..n {
+        rows += 1 + usize::from(wire::u16_at(table, 6 * i + 2));
         if 256 < rows {
             return 257;
         }
-        i += 1;
     }
     rows
 }
 
 // The first of the n entries of the table that is too large.
-fn first_large(table: &[u8], n: usize) -> Large
+fn first_large(table: &[u8], n: usize) -> Option<usize>
     requires { (6 * n ≤ length table.now) × (table_rows table.now 0 n ≤ 256) }
     ensures { LargeTold table.now n result }
 {
     let mut row: usize = 0;
-    let mut i: usize = 0;
-    while i < n {
-        let nodes = wire::index(wire::u16_at(table, 6 * i + 2));
+    for i in 0..n {
+        let nodes = usize::from(wire::u16_at(table, 6 * i + 2));
         if 15 < nodes {
-            return Large::Row(row);
+            return Some(row);
         }
         if 3 < wire::u16_at(table, 6 * i + 4) {
-            return Large::Row(row);
+            return Some(row);
         }
         row += 1 + nodes;
-        i += 1;
     }
-    Large::Fits
+    None
 }
 
 // Writes the type whose image s is: its rows from `row` on, the image beside those of the types before. Gives the row past them.
 fn write_image(s: &[u8], images: &mut [u8], out: &mut [u8], row: u16) -> u16
     ensures { ImageWrote s.now row images.old images.new out.old out.new result }
 {
-    let first = wire::index(row);
+    let first = usize::from(row);
     if 112 < s.len() {
         return row;
     }
@@ -118,12 +94,10 @@ fn write_image(s: &[u8], images: &mut [u8], out: &mut [u8], row: u16) -> u16
 fn write_type(e: TypeImage, images: &mut [u8], out: &mut [u8], row: u16) -> u16
     ensures { TypeWrote e row images.old images.new out.old out.new result }
 {
-    let bytes = e.bytes;
-    let n = e.len;
-    if 112 < n {
+    if 112 < e.len {
         return row;
     }
-    write_image(&bytes[..n], images, out, row)
+    write_image(&e.bytes[..e.len], images, out, row)
 }
 
 // Writes the rows of the declarations from `at` on. The table has all `total` types, of the first n with their first rows; `names` has the m
@@ -146,14 +120,24 @@ fn write_rest(
     if n == total {
         return;
     }
-    let Start::TreeAt(_, a) = type_reading::start_at(text, at, table, n) else {
+    let Ok(Some((_, a))) = type_reading::start_at(text, at, table, n) else {
         return;
     };
     let made = type_trees::build_tree(text, a, table, n, names, m, images);
-    let next = made.at;
     let end = write_type(made.image, images, out, row);
     wire::put_u16(table, 6 * n + 4, row);
-    write_rest(text, next, table, n + 1, total, names, m, images, out, end)
+    write_rest(
+        text,
+        made.at,
+        table,
+        n + 1,
+        total,
+        names,
+        m,
+        images,
+        out,
+        end,
+    )
 }
 
 // Writes the rows of a text that was read; the table has its n types.
@@ -183,8 +167,8 @@ fn answer_rows(text: &[u8], table: &mut [u8], n: usize, out: &mut [u8]) -> Outco
         return refusal::refused(Refusal::SectionCount);
     }
     match first_large(table, n) {
-        Large::Row(r) => refusal::refused(Refusal::TooLarge(8 * r)),
-        Large::Fits => {
+        Some(r) => refusal::refused(Refusal::TooLarge(8 * r)),
+        None => {
             write_rows(text, table, n, out);
             refusal::done(8 * rows)
         }
@@ -202,7 +186,7 @@ pub fn write_types(text: &[u8], out: &mut [u8]) -> Outcome
     let mut table = [0u8; 16384];
     let mut stack = [0u8; 8192];
     match type_reading::read_rest(text, 0, &mut table, 0, &mut stack) {
-        ReadAll::OffendsAt(p) => refusal::refused(offence(text, p)),
-        ReadAll::All(n) => answer_rows(text, &mut table, n, out),
+        Err(p) => refusal::refused(offence(text, p)),
+        Ok(n) => answer_rows(text, &mut table, n, out),
     }
 }

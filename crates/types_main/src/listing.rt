@@ -2,7 +2,6 @@
 use console::{number, write};
 use std::io;
 use std::io::Write;
-use type_reading::ReadAll;
 
 // The word at a place.
 pub fn name<W: Write>(out: &mut W, text: &[u8], p: usize) -> io::Result<()> {
@@ -72,7 +71,7 @@ pub fn print<W: Write>(out: &mut W, text: &[u8]) -> io::Result<()> {
     }
     let mut table = [0u8; 16384];
     let mut stack = [0u8; 8192];
-    let ReadAll::All(n) = type_reading::read_rest(text, 0, &mut table, 0, &mut stack) else {
+    let Ok(n) = type_reading::read_rest(text, 0, &mut table, 0, &mut stack) else {
         return Ok(());
     };
     write(out, b"accepted\n")?;

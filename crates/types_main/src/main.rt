@@ -7,7 +7,7 @@ mod listing;
 mod refused;
 
 use console::Status;
-use refusal::Verdict;
+use refusal::Refusal;
 use std::io;
 use std::io::{Read, Write};
 use std::process::ExitCode;
@@ -21,17 +21,15 @@ fn answer<W: Write, E: Write>(
 ) -> io::Result<Status> {
     let mut table = [0u8; 2048];
     let done = controller::write_types(text, &mut table);
-    let verdict = done.verdict;
-    let n = done.bytes;
-    if let Verdict::Refused(why) = verdict {
+    if let Err(why) = done.verdict {
         refused::say(out, errors, text, why)?;
         return Ok(Status::Refused);
     }
-    if 2048 < n {
+    if 2048 < done.bytes {
         return Ok(Status::Failed);
     }
     if rows {
-        console::write(out, &table[..n])?;
+        console::write(out, &table[..done.bytes])?;
         return Ok(Status::Done);
     }
     listing::print(out, text)?;
@@ -49,8 +47,7 @@ fn run<R: Read, W: Write, E: Write>(
     if let Some(error) = text.failed {
         return Ok(console::unreadable(errors, error));
     }
-    let n = text.len;
-    answer(out, errors, &buf[..n], rows)
+    answer(out, errors, &buf[..text.len], rows)
 }
 
 fn main(rt: HostRuntime) -> ExitCode {

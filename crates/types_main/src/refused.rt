@@ -4,16 +4,12 @@ ghost use Rattle.std.specs.Prelude.{◌≤◌};
 use refusal::Refusal;
 use std::io;
 use std::io::Write;
-use type_reading::ReadAll;
 
 // 1 for a line's end.
 fn ends(b: u8) -> u64
     ensures { result ≤ 1 }
 {
-    if b == 10 {
-        return 1;
-    }
-    0
+    u64::from(b == b'\n')
 }
 
 // The line of a place, from 1.
@@ -56,7 +52,7 @@ fn declared_at(text: &[u8], row: usize) -> usize {
     }
     let mut table = [0u8; 16384];
     let mut stack = [0u8; 8192];
-    let ReadAll::All(n) = type_reading::read_rest(text, 0, &mut table, 0, &mut stack) else {
+    let Ok(n) = type_reading::read_rest(text, 0, &mut table, 0, &mut stack) else {
         return 0;
     };
     let mut rows: usize = 0;

@@ -7,40 +7,37 @@ ghost use Rattle.wire.specs.Wire.{byte_at, u16_at, u32_at, u64_at, put_u16, put_
 pub fn wide(x: u8) -> usize
     ensures { (result ≡ x) × (result < 256) }
 {
-    x as usize
+    usize::from(x)
 }
 
 pub fn index(x: u16) -> usize
     ensures { (result ≡ x) × (result < 65536) }
 {
-    x as usize
+    usize::from(x)
 }
 
 pub fn byte_to_u16(x: u8) -> u16
     ensures { (result ≡ x) × (result < 256) }
 {
-    x as u16
+    u16::from(x)
 }
 
 pub fn u16_to_u32(x: u16) -> u32
     ensures { (result ≡ x) × (result < 65536) }
 {
-    x as u32
+    u32::from(x)
 }
 
 pub fn u32_to_u64(x: u32) -> u64
     ensures { (result ≡ x) × (result < 0x100000000) }
 {
-    x as u64
+    u64::from(x)
 }
 
 pub fn byte_at(s: &[u8], at: usize) -> u8
     ensures { result ≡ byte_at s.now at }
 {
-    if at < s.len() {
-        return s[at];
-    }
-    0
+    s.get(at).copied().unwrap_or(0)
 }
 
 pub fn u16_at(s: &[u8], at: usize) -> u16
@@ -49,33 +46,33 @@ pub fn u16_at(s: &[u8], at: usize) -> u16
     if s.len() <= at {
         return 0;
     }
-    byte_to_u16(byte_at(s, at)) + 256 * byte_to_u16(byte_at(s, at + 1))
+    u16::from(byte_at(s, at)) + 256 * u16::from(byte_at(s, at + 1))
 }
 
 pub fn u32_at(s: &[u8], at: usize) -> u32
     ensures { result ≡ u32_at s.now at }
 {
-    let low = u16_to_u32(u16_at(s, at));
+    let low = u32::from(u16_at(s, at));
     if s.len() < 2 {
         return low;
     }
     if s.len() - 2 <= at {
         return low;
     }
-    low + 65536 * u16_to_u32(u16_at(s, at + 2))
+    low + 65536 * u32::from(u16_at(s, at + 2))
 }
 
 pub fn u64_at(s: &[u8], at: usize) -> u64
     ensures { result ≡ u64_at s.now at }
 {
-    let low = u32_to_u64(u32_at(s, at));
+    let low = u64::from(u32_at(s, at));
     if s.len() < 4 {
         return low;
     }
     if s.len() - 4 <= at {
         return low;
     }
-    low + 0x100000000 * u32_to_u64(u32_at(s, at + 4))
+    low + 0x100000000 * u64::from(u32_at(s, at + 4))
 }
 
 pub fn put_u8(s: &mut [u8], at: usize, x: u8)
@@ -89,22 +86,19 @@ pub fn put_u16(s: &mut [u8], at: usize, v: u16)
     requires { at + 2 ≤ length s.old }
     ensures { s.new ≡ put_u16 s.old at v }
 {
-    s[at] = (v % 256) as u8;
-    s[at + 1] = (v / 256) as u8;
+    s[at..at + 2].copy_from_slice(&v.to_le_bytes());
 }
 
 pub fn put_u32(s: &mut [u8], at: usize, v: u32)
     requires { at + 4 ≤ length s.old }
     ensures { s.new ≡ put_u32 s.old at v }
 {
-    put_u16(s, at, (v % 65536) as u16);
-    put_u16(s, at + 2, (v / 65536) as u16);
+    s[at..at + 4].copy_from_slice(&v.to_le_bytes());
 }
 
 pub fn put_u64(s: &mut [u8], at: usize, v: u64)
     requires { at + 8 ≤ length s.old }
     ensures { s.new ≡ put_u64 s.old at v }
 {
-    put_u32(s, at, (v % 0x100000000) as u32);
-    put_u32(s, at + 4, (v / 0x100000000) as u32);
+    s[at..at + 8].copy_from_slice(&v.to_le_bytes());
 }

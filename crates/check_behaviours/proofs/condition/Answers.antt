@@ -1,11 +1,18 @@
-use Rattle.check_behaviours.proofs.CheckLaws.{condition-laws}
+use Rattle.std.specs.Prelude.{Ok}
+use Rattle.std.proofs.Common.{ap, ◌∙◌}
+use Rattle.std.proofs.lemmas.Result.{err_from_is_err_and}
+use Rattle.check_behaviours.proofs.CheckLaws.{condition-refused, condition-at, condition-leaf}
 use Rattle.check_behaviours.proofs.condition.Goals as goal
 
+pub returns-in_err-b : goal.returns-in_err-b
+returns-in_err-b c =
+    let p = err_from_is_err_and c.from_residual.result c.from_residual.ensures.1 in
+    rw (p.1, p.2) (condition-refused _ _ _ 0 _ c.type_of.ensures c.in_err-b.was)
+
 pub returns-in-At : goal.returns-in-At
-returns-in-At c = search condition-laws depth 12
+returns-in-At c =
+    condition-at _ _ _ 0 _ c.type_of.ensures (c.in_ok-b.was ∙ ap (λ y. Ok y) c.in-At.is) c.bool_condition.ensures
 
 pub returns-in-Leaf : goal.returns-in-Leaf
-returns-in-Leaf c = search condition-laws depth 12
-
-pub returns-in-Refused : goal.returns-in-Refused
-returns-in-Refused c = search condition-laws depth 12
+returns-in-Leaf c =
+    condition-leaf _ _ _ 0 _ c.type_of.ensures (c.in_ok-b.was ∙ ap (λ y. Ok y) c.in-Leaf.is) c.bool_condition-in-Leaf.ensures

@@ -1,9 +1,9 @@
 use Rattle.check_listing.proofs.Answers.{few, list-refused, list-small, list_all}
 use Rattle.check_listing.proofs.list.Goals as goal
 
-pub returns-in-Refused : goal.returns-in-Refused
-returns-in-Refused c =
-    let h = list-refused _ (c.check-x.ensures.value, c.check-x.ensures.if_passed) c.in-Refused.is c.number_of.ensures in
+pub returns-in-Err : goal.returns-in-Err
+returns-in-Err c =
+    let h = list-refused _ (c.check-x.ensures.value, c.check-x.ensures.if_passed) c.in-Err.is c.number_of.ensures in
     record { number_value = h.0; count_value = h.1.0; out_after = h.1.1 }
 
 pub returns-then-out-n : goal.returns-then-out-n

@@ -3,6 +3,3 @@ use Rattle.check_roots.proofs.behaviour_sets.Given as goal
 
 abbrev pub invariant-loop-r : goal.invariant-loop-r
 invariant-loop-r l = Behaviours l.s l.table l.known l.initial.sets l.sets l.initial.r l.r
-
-abbrev pub decreases-loop-r : goal.decreases-loop-r
-decreases-loop-r l = l.r

@@ -1,22 +1,14 @@
-use Rattle.check_starters.proofs.StarterLaws.{gather-laws}
-use borrow.Author.Rules.{rules}
-use native.Mathlib.Omega.{arith}
+use Rattle.std.specs.Prelude.{not}
+use Rattle.std.proofs.Common.{ap}
+use Rattle.check_starters.proofs.StarterLaws.{gathers-none, gathers-refused, gathers-more}
 use Rattle.check_starters.proofs.+gather.Goals as goal
 
 pub returns-then-n-eq0 : goal.returns-then-n-eq0
-returns-then-n-eq0 t c = search gather-laws depth 12
+returns-then-n-eq0 t c = gathers-none _ _ _ _ _ _ _ c.if-n-eq0.true
 
-pub returns-in_default : goal.returns-in_default
-returns-in_default t c = search gather-laws depth 12
-
-pub returns-then-not-one_type : goal.returns-then-not-one_type
-returns-then-not-one_type t c = search gather-laws depth 12
-
-pub returns-in_default-w : goal.returns-in_default-w
-returns-in_default-w t c = search gather-laws depth 12
-
-pub gather-requires : goal.gather-requires
-gather-requires t c = (omega arith, search rules)
+pub returns-in_Err-d : goal.returns-in_Err-d
+returns-in_Err-d t c = gathers-refused _ _ _ _ _ _ _ c.if-n-eq0.false c.branch-d.ensures c.in_Err-d.is
 
 pub returns : goal.returns
-returns t c = search gather-laws depth 12
+returns t c =
+    gathers-more _ _ _ _ _ _ _ c.if-n-eq0.false c.branch-d.ensures c.in_Ok-d.is c.one_type.ensures (ap not c.if-not-one_type.false) c.unite.ensures c.in-Ok.is c.gather.ensures

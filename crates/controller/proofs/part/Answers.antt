@@ -26,8 +26,8 @@ lies : (s r : Bor (List ℕ)) (ids : List ℕ) {x : Span} → Octets s.now → x
     → r.ref_ptr.1 ≡ s.ref_ptr.1 + x.start → r.now ≡ take (x.start + x.len - x.start) (drop x.start s.now) → PartAt s r (span_of s.now ids)
 lies s r ids b e block start bytes = (part_lies s r ids b e block start bytes).1
 
-pub overflow_add-end : goal.overflow_add-end
-overflow_add-end c = omega (arith, inside c.args.message.now c.args.ids c.octets.ensures c.part_span-span.ensures)
+pub overflow_add-result : goal.overflow_add-result
+overflow_add-result c = omega (arith, inside c.args.message.now c.args.ids c.octets.ensures c.part_span-span.ensures)
 
 pub slice_bounds-result-end : goal.slice_bounds-result-end
 slice_bounds-result-end c = omega (arith, inside c.args.message.now c.args.ids c.octets.ensures c.part_span-span.ensures)

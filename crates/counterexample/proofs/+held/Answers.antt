@@ -11,15 +11,15 @@ returns-in_default t c = search held-laws depth 12
 
 pub held-others-requires : goal.held-others-requires
 held-others-requires t c =
-    let a = ahead _ _ _ _ _ _ _ _ _ c.line_at.ensures c.in-Of.is in
+    let a = ahead _ _ _ _ _ _ _ _ _ c.line_at.ensures c.in-Some.is in
     (omega (arith, a.inside, a.after, c.requires), tt)
 
 pub returns-then-holds : goal.returns-then-holds
 returns-then-holds t c =
-    held_more _ _ _ c.if-n-eq0.false _ c.line_at.ensures _ _ _ _ _ _ c.in-Of.is _ _ _ _ _ c.span-size.ensures c.holds.ensures
-    c.minus.ensures c.held-others.ensures c.if-holds.true
+    held_more _ _ _ c.if-n-eq0.false _ c.line_at.ensures _ _ _ _ _ _ c.in-Some.is _ _ _ _ _ c.span-size.ensures c.holds.ensures
+    c.saturating_sub.ensures c.held-others.ensures c.if-holds.true
 
 pub returns : goal.returns
 returns t c =
-    held-others _ _ _ c.if-n-eq0.false _ c.line_at.ensures _ _ _ _ _ _ c.in-Of.is _ _ _ _ _ c.span-size.ensures c.holds.ensures
-    c.minus.ensures c.held-others.ensures c.if-holds.false
+    held-others _ _ _ c.if-n-eq0.false _ c.line_at.ensures _ _ _ _ _ _ c.in-Some.is _ _ _ _ _ c.span-size.ensures c.holds.ensures
+    c.saturating_sub.ensures c.held-others.ensures c.if-holds.false

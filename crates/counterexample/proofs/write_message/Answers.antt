@@ -6,5 +6,5 @@ returns-in_default c = message-outside _ _ _ _ c.requires c.octets.ensures _ c.l
 
 pub returns : goal.returns
 returns c =
-    message-more _ _ _ _ c.requires c.octets.ensures _ c.line_at.ensures _ _ _ _ _ _ _ _ _ _ _ _ c.in-Of.is c.held-count.ensures c.least_size-z.ensures.0
+    message-more _ _ _ _ c.requires c.octets.ensures _ c.line_at.ensures _ _ _ _ _ _ _ _ _ _ _ _ c.in-Some.is c.held-count.ensures c.least_size-z.ensures.0
     c.push_least-a.auto.out c.push_least-a.ensures c.write_least.ensures

@@ -1,13 +1,9 @@
-use mir.Syntax.{w64}
-use Rattle.integer.proofs.Parts.{difference-exact, difference-outside, long-exact, long-outside}
-use borrow.Author.Rules.{rules}
+use Rattle.std.specs.Int.{w64}
+use Rattle.std.proofs.Common.{refl, to_z-of_z}
+use Rattle.integer.specs.Range.{long_sum}
+use Rattle.integer.proofs.Exact.{exact}
 use Rattle.integer.proofs.long_subtract.Goals as goal
 
-pub overflow_sub-difference : goal.overflow_sub-difference
-overflow_sub-difference c = (difference-exact w64 c.args.a c.args.b c.ranges.a c.ranges.b c.long_difference_fits.ensures c.if-long_difference_fits.true).fit
-
-pub returns-then-long_difference_fits : goal.returns-then-long_difference_fits
-returns-then-long_difference_fits c = long-exact _ (difference-exact w64 c.args.a c.args.b c.ranges.a c.ranges.b c.long_difference_fits.ensures c.if-long_difference_fits.true)
-
 pub returns : goal.returns
-returns c = long-outside _ (difference-outside w64 c.args.a c.args.b c.ranges.a c.ranges.b c.long_difference_fits.ensures c.if-long_difference_fits.false)
+unfolding long_sum
+returns c = exact w64 c.checked_sub.result (rw (to_z-of_z c.ranges.a, to_z-of_z c.ranges.b) refl) c.checked_sub.ensures

@@ -1,12 +1,8 @@
-use Rattle.move_delivery.proofs.Delivering.{let-laws}
-use borrow.Author.Rules.{rules}
+use Rattle.move_delivery.proofs.Delivering.{let-not, let-own, let-come}
 use Rattle.move_delivery.proofs.lets_in.Goals as goal
+use borrow.Author.Rules.{rules}
+use Rattle.std.proofs.Common.{◌≡◌}
+use Rattle.std.specs.Prelude.{Err}
 
-pub returns-in_default : goal.returns-in_default
-returns-in_default c = search (let-laws, rules) depth 12
-
-pub returns-in_default-own : goal.returns-in_default-own
-returns-in_default-own c = search (let-laws, rules) depth 12
-
-pub returns : goal.returns
-returns c = search (let-laws, rules) depth 12
+pub returns-in_err-allowed : goal.returns-in_err-allowed
+returns-in_err-allowed c = let z : c.from_residual.result ≡ Err c.in_err-allowed.field-0.0 = search rules in rw z (let-not c.allowed.ensures c.in_err-allowed.was)

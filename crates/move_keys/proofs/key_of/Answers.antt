@@ -1,8 +1,8 @@
-use Rattle.move_keys.proofs.KeyLaws.{key_laws}
+use Rattle.move_keys.proofs.KeyLaws.{key-none, key-there}
 use Rattle.move_keys.proofs.key_of.Goals as goal
 
-pub returns-in-At : goal.returns-in-At
-returns-in-At c = search key_laws depth 12
+pub returns-in_err-down : goal.returns-in_err-down
+returns-in_err-down c = rw c.from_residual.ensures (key-none _ _ c.down.ensures c.in_err-down.was)
 
-pub returns-in-Nothing : goal.returns-in-Nothing
-returns-in-Nothing c = search key_laws depth 12
+pub returns : goal.returns
+returns c = key-there _ _ c.down.ensures c.in_ok-down.was c.int_at.ensures

@@ -8,5 +8,5 @@ returns-then-n-gt1024 c = search (value-laws, rules) depth 12
 pub returns-else-n-gt1024 : goal.returns-else-n-gt1024
 returns-else-n-gt1024 c = search (value-laws, rules) depth 12
 
-pub returns-in-TooLarge : goal.returns-in-TooLarge
-returns-in-TooLarge c = search (value-laws, rules) depth 12
+pub returns-in-None : goal.returns-in-None
+returns-in-None c = search (value-laws, rules) depth 12

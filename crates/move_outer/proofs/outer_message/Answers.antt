@@ -9,5 +9,5 @@ returns-in_default c =
 
 pub returns : goal.returns
 returns c =
-    outer-input c.args.file.now c.args.bytes.now c.args.q c.args.id c.args.n c.args.number c.named_input.ensures c.in-Input.is
+    outer-input c.args.file.now c.args.bytes.now c.args.q c.args.id c.args.n c.args.number c.named_input.ensures c.in-Some.is
     c.arrive.ensures

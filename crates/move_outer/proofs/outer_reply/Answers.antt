@@ -9,28 +9,28 @@ returns-in_default c = outer-nothing c.args.file.now c.args.state.now c.args.q c
 
 pub waiting_at-requires : goal.waiting_at-requires
 waiting_at-requires c =
-    let h = slot-inside c.session_at.ensures c.in-Session.is in
+    let h = slot-inside c.session_at.ensures c.in-Some.is in
     omega (arith, h)
 
 pub returns-in_default-waiting_at : goal.returns-in_default-waiting_at
-returns-in_default-waiting_at c = outer-not-waiting c.args.file.now c.args.state.now c.args.q c.args.n c.args.r c.args.bytes.now c.session_at.ensures c.in-Session.is c.waiting_at.ensures c.in_default-waiting_at.is c.refused-in_default-waiting_at.ensures
+returns-in_default-waiting_at c = outer-not-waiting c.args.file.now c.args.state.now c.args.q c.args.n c.args.r c.args.bytes.now c.session_at.ensures c.in-Some.is c.waiting_at.ensures c.in_default-waiting_at.is c.refused-in_default-waiting_at.ensures
 
 pub returns-then-in_file : goal.returns-then-in_file
 returns-then-in_file c =
-    outer-inside c.args.file.now c.args.state.now c.args.q c.args.n c.args.r c.args.bytes.now c.session_at.ensures c.in-Session.is c.waiting_at.ensures c.in-Row.is
+    outer-inside c.args.file.now c.args.state.now c.args.q c.args.n c.args.r c.args.bytes.now c.session_at.ensures c.in-Some.is c.waiting_at.ensures c.in-Some-waiting_at.is
     c.operation_location.ensures c.in_file.ensures c.if-in_file.true c.refused-then-in_file.ensures
 
-pub returns-in_default-v : goal.returns-in_default-v
-returns-in_default-v c =
-    outer-not c.args.file.now c.args.state.now c.args.q c.args.n c.args.r c.args.bytes.now c.session_at.ensures c.in-Session.is c.waiting_at.ensures c.in-Row.is
-    c.operation_location.ensures c.in_file.ensures c.if-in_file.false c.reply_type-t.ensures c.passes-v.ensures c.in_default-v.is (search rules)
+pub returns-in-Err : goal.returns-in-Err
+returns-in-Err c =
+    outer-not c.args.file.now c.args.state.now c.args.q c.args.n c.args.r c.args.bytes.now c.session_at.ensures c.in-Some.is c.waiting_at.ensures c.in-Some-waiting_at.is
+    c.operation_location.ensures c.in_file.ensures c.if-in_file.false c.reply_type-t.ensures c.passes.ensures c.in-Err.is c.refused-in-Err.ensures
 
 pub take_reply-requires : goal.take_reply-requires
 take_reply-requires c =
-    let h = slot-inside c.session_at.ensures c.in-Session.is in
-    (tt, omega (arith, h, c.requires), row_small c.waiting_at.ensures c.in-Row.is)
+    let h = slot-inside c.session_at.ensures c.in-Some.is in
+    (tt, omega (arith, h, c.requires), row_small c.waiting_at.ensures c.in-Some-waiting_at.is)
 
 pub returns : goal.returns
 returns c =
-    outer-taken c.args.file.now c.args.state.now c.args.q c.args.n c.args.r c.args.bytes.now c.session_at.ensures c.in-Session.is c.waiting_at.ensures c.in-Row.is
-    c.operation_location.ensures c.in_file.ensures c.if-in_file.false c.reply_type-t.ensures c.passes-v.ensures c.in-Done.is c.take_reply.ensures
+    outer-taken c.args.file.now c.args.state.now c.args.q c.args.n c.args.r c.args.bytes.now c.session_at.ensures c.in-Some.is c.waiting_at.ensures c.in-Some-waiting_at.is
+    c.operation_location.ensures c.in_file.ensures c.if-in_file.false c.reply_type-t.ensures c.passes.ensures c.in_default-passes.is c.take_reply.ensures

@@ -11,40 +11,40 @@ returns-in_default c = inside-nothing c.args.file.now c.args.state.now c.args.sl
 
 pub waiting_at-requires : goal.waiting_at-requires
 waiting_at-requires c =
-    let h = slot-inside c.session_at.ensures c.in-Session.is in
+    let h = slot-inside c.session_at.ensures c.in-Some.is in
     omega (arith, h)
 
 pub returns-in_default-waiting_at : goal.returns-in_default-waiting_at
-returns-in_default-waiting_at c = inside-not-waiting c.args.file.now c.args.state.now c.args.slot c.args.r c.args.c c.args.q2 c.args.n2 c.args.r2 c.session_at.ensures c.in-Session.is c.waiting_at.ensures c.in_default-waiting_at.is c.refused-in_default-waiting_at.ensures
+returns-in_default-waiting_at c = inside-not-waiting c.args.file.now c.args.state.now c.args.slot c.args.r c.args.c c.args.q2 c.args.n2 c.args.r2 c.session_at.ensures c.in-Some.is c.waiting_at.ensures c.in_default-waiting_at.is c.refused-in_default-waiting_at.ensures
 
 pub returns-in_default-read_reply : goal.returns-in_default-read_reply
 returns-in_default-read_reply c =
-    inside-missing c.args.file.now c.args.state.now c.args.slot c.args.r c.args.c c.args.q2 c.args.n2 c.args.r2 c.session_at.ensures c.in-Session.is c.waiting_at.ensures
-    c.in-Row.is c.read_reply.ensures c.in_default-read_reply.is c.refused-in_default-read_reply.ensures
+    inside-missing c.args.file.now c.args.state.now c.args.slot c.args.r c.args.c c.args.q2 c.args.n2 c.args.r2 c.session_at.ensures c.in-Some.is c.waiting_at.ensures
+    c.in-Some-waiting_at.is c.read_reply.ensures c.in_default-read_reply.is c.refused-in_default-read_reply.ensures
 
 pub slice_bounds-m-end : goal.slice_bounds-m-end
-slice_bounds-m-end c = reply-inside c.read_reply.ensures c.in-Message.is
+slice_bounds-m-end c = reply-inside c.read_reply.ensures c.in-Some-read_reply.is
 
 pub slice_bounds-passes-end : goal.slice_bounds-passes-end
-slice_bounds-passes-end c = prefix-length c.read_reply.new.out c.in-Message.n (reply-inside c.read_reply.ensures c.in-Message.is)
+slice_bounds-passes-end c = prefix-length c.read_reply.new.out c.in-Some-read_reply.n (reply-inside c.read_reply.ensures c.in-Some-read_reply.is)
 
-pub returns-in_default-v : goal.returns-in_default-v
-returns-in_default-v c =
-    inside-not c.args.file.now c.args.state.now c.args.slot c.args.r c.args.c c.args.q2 c.args.n2 c.args.r2 c.session_at.ensures c.in-Session.is c.waiting_at.ensures
-    c.in-Row.is c.read_reply.ensures c.in-Message.is _ refl c.reply_type.ensures c.passes-v.ensures c.in_default-v.is (search rules)
+pub returns-in-Err : goal.returns-in-Err
+returns-in-Err c =
+    inside-not c.args.file.now c.args.state.now c.args.slot c.args.r c.args.c c.args.q2 c.args.n2 c.args.r2 c.session_at.ensures c.in-Some.is c.waiting_at.ensures
+    c.in-Some-waiting_at.is c.read_reply.ensures c.in-Some-read_reply.is _ refl c.reply_type-t.ensures c.passes.ensures c.in-Err.is c.refused-in-Err.ensures
 
 pub slice_bounds-m-end-2 : goal.slice_bounds-m-end-2
-slice_bounds-m-end-2 c = reply-inside c.read_reply.ensures c.in-Message.is
+slice_bounds-m-end-2 c = reply-inside c.read_reply.ensures c.in-Some-read_reply.is
 
 pub slice_bounds-take_reply-end : goal.slice_bounds-take_reply-end
-slice_bounds-take_reply-end c = prefix-length c.read_reply.new.out c.in-Message.n (reply-inside c.read_reply.ensures c.in-Message.is)
+slice_bounds-take_reply-end c = prefix-length c.read_reply.new.out c.in-Some-read_reply.n (reply-inside c.read_reply.ensures c.in-Some-read_reply.is)
 
 pub take_reply-requires : goal.take_reply-requires
 take_reply-requires c =
-    let h = slot-inside c.session_at.ensures c.in-Session.is in
-    ((omega (arith, c.requires.0, c.requires.1), c.requires.2), omega (arith, h, c.requires.0), waiting-small c.waiting_at.ensures c.in-Row.is)
+    let h = slot-inside c.session_at.ensures c.in-Some.is in
+    ((omega (arith, c.requires.0, c.requires.1), c.requires.2), omega (arith, h, c.requires.0), waiting-small c.waiting_at.ensures c.in-Some-waiting_at.is)
 
 pub returns : goal.returns
 returns c =
-    inside-taken c.args.file.now c.args.state.now c.args.slot c.args.r c.args.c c.args.q2 c.args.n2 c.args.r2 c.session_at.ensures c.in-Session.is c.waiting_at.ensures
-    c.in-Row.is c.read_reply.ensures c.in-Message.is _ refl c.reply_type.ensures c.passes-v.ensures c.in-Done.is c.take_reply.ensures
+    inside-taken c.args.file.now c.args.state.now c.args.slot c.args.r c.args.c c.args.q2 c.args.n2 c.args.r2 c.session_at.ensures c.in-Some.is c.waiting_at.ensures
+    c.in-Some-waiting_at.is c.read_reply.ensures c.in-Some-read_reply.is _ refl c.reply_type-t.ensures c.passes.ensures c.in_default-passes.is c.take_reply.ensures

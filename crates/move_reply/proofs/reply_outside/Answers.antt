@@ -12,33 +12,33 @@ pub returns-in_default : goal.returns-in_default
 returns-in_default c = outside-missing c.args.file.now c.args.state.now c.args.slot c.args.r c.args.o c.args.c c.args.number c.args.out.now c.read_reply.ensures c.in_default.is c.refused-in_default.ensures
 
 pub slice_bounds-m-end : goal.slice_bounds-m-end
-slice_bounds-m-end c = reply-inside c.read_reply.ensures c.in-Message.is
+slice_bounds-m-end c = reply-inside c.read_reply.ensures c.in-Some.is
 
 pub slice_bounds-passes-end : goal.slice_bounds-passes-end
-slice_bounds-passes-end c = prefix-length c.read_reply.new.out c.in-Message.n (reply-inside c.read_reply.ensures c.in-Message.is)
+slice_bounds-passes-end c = prefix-length c.read_reply.new.out c.in-Some.n (reply-inside c.read_reply.ensures c.in-Some.is)
 
-pub returns-in_default-v : goal.returns-in_default-v
-returns-in_default-v c =
-    outside-not c.args.file.now c.args.state.now c.args.slot c.args.r c.args.o c.args.c c.args.number c.args.out.now c.read_reply.ensures c.in-Message.is _ refl
-    c.reply_type.ensures c.passes-v.ensures c.in_default-v.is (search rules)
+pub returns-in-Err : goal.returns-in-Err
+returns-in-Err c =
+    outside-not c.args.file.now c.args.state.now c.args.slot c.args.r c.args.o c.args.c c.args.number c.args.out.now c.read_reply.ensures c.in-Some.is _ refl
+    c.reply_type-t.ensures c.passes.ensures c.in-Err.is c.refused-in-Err.ensures
 
 pub returns-then-n-gt508 : goal.returns-then-n-gt508
 returns-then-n-gt508 c =
-    outside-long c.args.file.now c.args.state.now c.args.slot c.args.r c.args.o c.args.c c.args.number c.args.out.now c.read_reply.ensures c.in-Message.is _ refl
-    c.reply_type.ensures c.passes-v.ensures c.in-Done.is (sym (prefix-length c.read_reply.new.out c.in-Message.n (reply-inside c.read_reply.ensures c.in-Message.is))) c.if-n-gt508.true
+    outside-long c.args.file.now c.args.state.now c.args.slot c.args.r c.args.o c.args.c c.args.number c.args.out.now c.read_reply.ensures c.in-Some.is _ refl
+    c.reply_type-t.ensures c.passes.ensures c.in_default-passes.is (sym (prefix-length c.read_reply.new.out c.in-Some.n (reply-inside c.read_reply.ensures c.in-Some.is))) c.if-n-gt508.true
 
 pub slice_bounds-m-end-2 : goal.slice_bounds-m-end-2
-slice_bounds-m-end-2 c = reply-inside c.read_reply.ensures c.in-Message.is
+slice_bounds-m-end-2 c = reply-inside c.read_reply.ensures c.in-Some.is
 
 pub slice_bounds-put_answer-end : goal.slice_bounds-put_answer-end
-slice_bounds-put_answer-end c = prefix-length c.read_reply.new.out c.in-Message.n (reply-inside c.read_reply.ensures c.in-Message.is)
+slice_bounds-put_answer-end c = prefix-length c.read_reply.new.out c.in-Some.n (reply-inside c.read_reply.ensures c.in-Some.is)
 
-pub put_answer-e-requires : goal.put_answer-e-requires
-put_answer-e-requires c =
-    let h = prefix-length c.read_reply.new.out c.in-Message.n (reply-inside c.read_reply.ensures c.in-Message.is) in
+pub put_answer-requires : goal.put_answer-requires
+put_answer-requires c =
+    let h = prefix-length c.read_reply.new.out c.in-Some.n (reply-inside c.read_reply.ensures c.in-Some.is) in
     omega (arith, h, c.if-n-gt508.false, c.if-out-lt512.false)
 
 pub returns : goal.returns
 returns c =
-    outside-done c.args.file.now c.args.state.now c.args.slot c.args.r c.args.o c.args.c c.args.number c.args.out.now c.read_reply.ensures c.in-Message.is _ refl
-    c.reply_type.ensures c.passes-v.ensures c.in-Done.is c.requires.1 c.put_row.ensures c.put_answer-e.ensures c.done.ensures
+    outside-done c.args.file.now c.args.state.now c.args.slot c.args.r c.args.o c.args.c c.args.number c.args.out.now c.read_reply.ensures c.in-Some.is _ refl
+    c.reply_type-t.ensures c.passes.ensures c.in_default-passes.is c.requires.1 c.put_row.ensures c.put_answer.ensures c.done.ensures

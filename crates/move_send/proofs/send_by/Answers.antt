@@ -11,4 +11,4 @@ pub returns-in_default : goal.returns-in_default
 returns-in_default c = by-nothing c.args.file.now c.args.state.now c.args.slot c.args.i c.args.o c.args.e c.args.to (meaning c.args.after) (reply_of c.args.back) c.args.out.now c.operation_location.ensures c.in_file.ensures (not_from_true _ c.if-not-in_file.false) c.met_input.result c.met_input.ensures c.in_default.is c.refused.ensures
 
 pub returns : goal.returns
-returns c = by-inside c.args.file.now c.args.state.now c.args.slot c.args.i c.args.o c.args.e c.args.to (meaning c.args.after) (reply_of c.args.back) c.args.out.now c.operation_location.ensures c.in_file.ensures (not_from_true _ c.if-not-in_file.false) c.met_input.result c.met_input.ensures c.in-Input.is c.send_inside.ensures
+returns c = by-inside c.args.file.now c.args.state.now c.args.slot c.args.i c.args.o c.args.e c.args.to (meaning c.args.after) (reply_of c.args.back) c.args.out.now c.operation_location.ensures c.in_file.ensures (not_from_true _ c.if-not-in_file.false) c.met_input.result c.met_input.ensures c.in-Some.is c.send_inside.ensures

@@ -17,17 +17,17 @@ slice_bounds-store-end c = prefix-length c.write_message-w.new.out _ (omega (ari
 pub store-requires : goal.store-requires
 store-requires c = (
   put-length c.args.state.now c.args.slot c.args.i (meaning c.args.after) c.requires.0 c.requires.1 c.requires.2 c.put_row.ensures,
-  admitted-storable c.args.k _ c.admit.ensures.storable c.in-Admitted.is,
+  admitted-storable c.args.k _ c.admit.ensures.storable c.in-Ok.is,
   search rules,
 )
 
-pub returns-in-Refused : goal.returns-in-Refused
-returns-in-Refused c =
+pub returns-in-Err : goal.returns-in-Err
+returns-in-Err c =
     inside-not c.args.file.now c.args.state.now c.args.slot c.args.i c.args.k c.args.e c.args.to (meaning c.args.after) (reply_of c.args.back) c.write_message-w.ensures
-    c.message_length-n.ensures c.message_verdict-own.ensures refl c.admit.ensures c.in-Refused.is c.refused.ensures
+    c.message_length-n.ensures c.message_verdict-own.ensures refl c.admit.ensures c.in-Err.is c.refused.ensures
 
-pub returns-in-Admitted : goal.returns-in-Admitted
-returns-in-Admitted c =
+pub returns-in-Ok : goal.returns-in-Ok
+returns-in-Ok c =
     inside-sent c.args.file.now c.args.state.now c.args.slot c.args.i c.args.k c.args.e c.args.to (meaning c.args.after) (reply_of c.args.back) c.write_message-w.ensures
-    c.message_length-n.ensures c.message_verdict-own.ensures refl c.admit.ensures c.in-Admitted.is c.requires.2 c.put_row.ensures c.store.ensures
+    c.message_length-n.ensures c.message_verdict-own.ensures refl c.admit.ensures c.in-Ok.is c.requires.2 c.put_row.ensures c.store.ensures
     c.done.ensures

@@ -1,9 +1,6 @@
-use Rattle.move_waiting.proofs.WaitLaws.{row_laws}
-use borrow.Author.Rules.{rules}
+use borrow.Author.Tests.{lt-leb}
+use Rattle.move_waiting.proofs.WaitLaws.{far-row}
 use Rattle.move_waiting.proofs.has_row.Goals as goal
 
-pub returns-then-r-gt255 : goal.returns-then-r-gt255
-returns-then-r-gt255 c = search (row_laws, rules) depth 12
-
-pub returns : goal.returns
-returns c = search (row_laws, rules) depth 12
+pub returns-else-r-le255 : goal.returns-else-r-le255
+returns-else-r-le255 c = rw (lt-leb c.args.r 255 c.if-r-le255.false) (far-row _ _ _ c.if-r-le255.false)

@@ -1,6 +1,5 @@
 use Rattle.move_waiting.proofs.WaitLaws.{wait-laws, no-waits}
 use borrow.Author.Rules.{rules}
-use borrow.Enum.Refused.{opened}
 use Rattle.std.proofs.lemmas.Bool.{not_from_true}
 use Rattle.move_waiting.proofs.waiting_at.Goals as goal
 
@@ -13,7 +12,7 @@ returns-in_default c = search (wait-laws, rules) depth 12
 pub returns-in_default-row_progress : goal.returns-in_default-row_progress
 returns-in_default-row_progress c =
     no-waits c.args.file.now c.args.state.now c.args.slot c.args.b c.args.q c.args.r c.has_row.ensures (not_from_true _ c.if-not-has_row.false) c.output_of.ensures
-    c.in-SolicitResponse.is c.row_progress.result c.row_progress.ensures (opened c.in_default-row_progress.in_default-row_progress-own.keys2)
+    c.in-SolicitResponse.is c.row_progress.result c.row_progress.ensures c.in_default-row_progress.not-Waits
 
 pub returns-then-not-permits : goal.returns-then-not-permits
 returns-then-not-permits c = search (wait-laws, rules) depth 12

@@ -1,23 +1,23 @@
 use Rattle.network_form.proofs.FormLaws.{form-laws}
 use Rattle.network_form.proofs.form_of.Goals as goal
 
-pub returns-then-not-laid : goal.returns-then-not-laid
-returns-then-not-laid c = search form-laws depth 12
+pub returns-then-not-laid_out : goal.returns-then-not-laid_out
+returns-then-not-laid_out c = search form-laws depth 12
 
-pub returns-then-not-few : goal.returns-then-not-few
-returns-then-not-few c = search form-laws depth 12
+pub returns-then-not-counted : goal.returns-then-not-counted
+returns-then-not-counted c = search form-laws depth 12
 
-pub lowest_broken-fields-requires : goal.lowest_broken-fields-requires
-lowest_broken-fields-requires c = search form-laws depth 12
+pub lowest_broken-requires : goal.lowest_broken-requires
+lowest_broken-requires c = search form-laws depth 12
 
-pub returns-in-At : goal.returns-in-At
-returns-in-At c = search form-laws depth 12
+pub returns-in-Some : goal.returns-in-Some
+returns-in-Some c = search form-laws depth 12
 
-pub lowest_large-sizes-requires : goal.lowest_large-sizes-requires
-lowest_large-sizes-requires c = search form-laws depth 12
+pub lowest_large-requires : goal.lowest_large-requires
+lowest_large-requires c = search form-laws depth 12
 
-pub returns-in-At-sizes : goal.returns-in-At-sizes
-returns-in-At-sizes c = search form-laws depth 12
+pub returns-in-Some-lowest_large : goal.returns-in-Some-lowest_large
+returns-in-Some-lowest_large c = search form-laws depth 12
 
 pub returns : goal.returns
 returns c = search form-laws depth 12

@@ -1,11 +1,11 @@
-use Rattle.network_uses.proofs.MarkLaws.{never-laws}
+use Rattle.std.proofs.Common.{rules, refl, arith}
+use Rattle.network.specs.Layout.{behaviour_at}
+use Rattle.network_uses.specs.Marks.{never_used}
+use Rattle.network_uses.proofs.MarkLaws.{is_never}
 use Rattle.network_uses.proofs.never_used.Goals as goal
 
-pub loop-i-init : goal.loop-i-init
-loop-i-init c = search never-laws depth 12
-
-pub loop-i-preserved : goal.loop-i-preserved
-loop-i-preserved c = search never-laws depth 12
-
 pub returns : goal.returns
-returns c = search never-laws depth 12
+returns c =
+    let s = c.args.s.now in
+    c.lowest.ensures (never_used s) (λ i x l h. is_never s _ i i (behaviour_at s i) x c.args.marks.now c.requires l refl refl (search rules))
+    (λ i l. absurd (omega arith))

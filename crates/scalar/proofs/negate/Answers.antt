@@ -1,7 +1,7 @@
 use Rattle.integer.specs.Range.{int_sum, long_sum}
 use Rattle.scalar.specs.Scalar.{int_answer, long_answer}
 use lib.IntN.{neg_ℤ}
-use Rattle.scalar.proofs.Operating.{int-answers, long-answers, value-is, negate-integer, negate-double, negate-other}
+use Rattle.scalar.proofs.Operating.{int-answers, long-answers, value-is, negate-integer, negate-double, negate-other, no-number, not-int, not-long, not-double}
 use mir.Syntax.{w32, w64}
 use mir.Val.{SFits}
 use mir.ValLaws.{to_z-of_z}
@@ -10,7 +10,6 @@ use Rattle.scalar.specs.Basic.{int, long}
 use lib.Dec.{T}
 use lib.Ieee.{binary64, fits}
 use borrow.Author.Rules.{rules}
-use borrow.Enum.Refused.{opened}
 use Rattle.scalar.proofs.negate.Goals as goal
 
 pub returns-in-Int : goal.returns-in-Int
@@ -31,4 +30,6 @@ returns-in-Double c =
     negate-double c.args.a c.in-Double.is f
 
 pub returns-in_default : goal.returns-in_default
-returns-in_default c = negate-other c.args.a (opened c.in_default.in_default-own.keys4)
+returns-in_default c =
+    negate-other c.args.a
+    (no-number c.args.a.scalar (not-int _ c.in_default.not-Int) (not-long _ c.in_default.not-Long) (not-double _ c.in_default.not-Double))

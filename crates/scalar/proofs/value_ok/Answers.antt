@@ -1,31 +1,29 @@
-use mathlib.Core.Path.{refl}
+use mathlib.Core.Path.{refl, ◌∙◌}
+use borrow.Author.Tests.{ne_eqb, le-leb}
 use mir.Syntax.{w32, w64}
-use Rattle.scalar.specs.ValueLaws.{bool-value, bool-long, integer-value, double-plain, double-nan, double-long, string-value, raw-value, void-value, no_value, past-last}
+use Rattle.scalar.specs.ValueLaws.{bool-value, bool-long, integer-value, double-plain, double-nan, double-long, raw-value, void-value, no_value, past-last}
 use Rattle.scalar.proofs.value_ok.Goals as goal
 
 pub returns-then-len-eq1 : goal.returns-then-len-eq1
 returns-then-len-eq1 c = bool-value c.args.s.now c.args.at c.args.basic c.args.len c.requires _ c.in-0.is c.if-len-eq1.true c.byte_at.ensures
 
 pub returns-then-n-le9218868437227405312 : goal.returns-then-n-le9218868437227405312
-returns-then-n-le9218868437227405312 c = double-plain c.args.s.now c.args.at c.args.basic c.args.len c.requires _ c.in-2.is c.if-len-eq8.true c.u64_at-n.ensures c.if-n-le9218868437227405312.true
+returns-then-n-le9218868437227405312 c = le-leb _ _ c.if-n-le9218868437227405312.true ∙ double-plain c.args.s.now c.args.at c.args.basic c.args.len c.requires _ c.in-2.is c.if-len-ne8.false c.u64_at-n.ensures c.if-n-le9218868437227405312.true
 
-pub returns-then-len-eq8 : goal.returns-then-len-eq8
-returns-then-len-eq8 c = double-nan c.args.s.now c.args.at c.args.basic c.args.len c.requires _ c.in-2.is c.if-len-eq8.true c.u64_at-n.ensures c.if-n-le9218868437227405312.false
+pub returns-else-n-le9218868437227405312 : goal.returns-else-n-le9218868437227405312
+returns-else-n-le9218868437227405312 c = double-nan c.args.s.now c.args.at c.args.basic c.args.len c.requires _ c.in-2.is c.if-len-ne8.false c.u64_at-n.ensures c.if-n-le9218868437227405312.false
 
 pub returns-else-len-eq1 : goal.returns-else-len-eq1
-returns-else-len-eq1 c = bool-long c.args.s.now c.args.at c.args.basic c.args.len c.requires c.in-0.is c.if-len-eq1.false
+returns-else-len-eq1 c = ne_eqb _ _ c.if-len-eq1.false ∙ bool-long c.args.s.now c.args.at c.args.basic c.args.len c.requires c.in-0.is c.if-len-eq1.false
 
 pub returns-in-1 : goal.returns-in-1
 returns-in-1 c = integer-value c.args.s.now c.args.at c.args.basic c.args.len c.requires w32 (rw c.in-1.is refl)
 
-pub returns-else-len-eq8 : goal.returns-else-len-eq8
-returns-else-len-eq8 c = double-long c.args.s.now c.args.at c.args.basic c.args.len c.requires c.in-2.is c.if-len-eq8.false
+pub returns-then-len-ne8 : goal.returns-then-len-ne8
+returns-then-len-ne8 c = double-long c.args.s.now c.args.at c.args.basic c.args.len c.requires c.in-2.is c.if-len-ne8.true
 
 pub returns-in-3 : goal.returns-in-3
 returns-in-3 c = integer-value c.args.s.now c.args.at c.args.basic c.args.len c.requires w64 (rw c.in-3.is refl)
-
-pub returns-in-4 : goal.returns-in-4
-returns-in-4 c = string-value c.args.s.now c.args.at c.args.basic c.args.len c.requires c.in-4.is c.is_string.ensures
 
 pub returns-in-5 : goal.returns-in-5
 returns-in-5 c = raw-value c.args.s.now c.args.at c.args.basic c.args.len c.requires c.in-5.is

@@ -2,9 +2,6 @@ use native.Mathlib.Omega.{arith}
 use Rattle.scalar.proofs.ByScalar.{word-is, word-past}
 use Rattle.scalar.proofs.word_of.Goals as goal
 
-pub returns-then-basic-gt-LAST_BASIC : goal.returns-then-basic-gt-LAST_BASIC
-returns-then-basic-gt-LAST_BASIC c = (word-past c.args.basic (omega arith), omega arith)
-
 pub returns-in-0 : goal.returns-in-0
 returns-in-0 c = (word-is c.in-0.is, omega arith)
 
@@ -23,5 +20,8 @@ returns-in-4 c = (word-is c.in-4.is, omega arith)
 pub returns-in-5 : goal.returns-in-5
 returns-in-5 c = (word-is c.in-5.is, omega arith)
 
+pub returns-in-6 : goal.returns-in-6
+returns-in-6 c = (word-is c.in-6.is, omega arith)
+
 pub returns-in_default : goal.returns-in_default
-returns-in_default c = (word-is {k = 6} (omega arith), omega arith)
+returns-in_default c = (word-past c.args.basic (omega arith), omega arith)

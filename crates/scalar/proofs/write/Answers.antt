@@ -1,5 +1,5 @@
 use Rattle.scalar.specs.Basic.{int, long}
-use Rattle.scalar.proofs.Reading.{room, bool-written, integer-written, double-written, string-written, raw-written, void-written, wrote-byte, wrote-32, wrote-64, wrote-all, wrote_none}
+use Rattle.scalar.proofs.Reading.{room, bool-written, integer-written, double-written, string-written, raw-written, void-written, byte_bit, wrote-byte, wrote-32, wrote-64, wrote-all, wrote_none}
 use Rattle.scalar.specs.NumberLaws.{length-little_endian}
 use Rattle.scalar.specs.Scalar.{value_of}
 use Rattle.scalar.specs.Value.{bytes_of}
@@ -30,7 +30,7 @@ pub write_beside-requires-in-Raw : goal.write_beside-requires-in-Raw
 write_beside-requires-in-Raw c = rw (raw-written c.args.x c.in-Raw.is) at c.requires
 
 pub returns-in-Bool : goal.returns-in-Bool
-returns-in-Bool c = wrote-byte c.args.out.now _ c.args.at (bytes_of (value_of c.args.x)) (bool-written c.args.x c.in-Bool.is) c.flag.ensures c.put_u8.ensures
+returns-in-Bool c = wrote-byte c.args.out.now _ c.args.at (bytes_of (value_of c.args.x)) (bool-written c.args.x c.in-Bool.is) (c.from.ensures ∙ byte_bit c.in-Bool.p) c.put_u8.ensures
 
 pub returns-in-Int : goal.returns-in-Int
 returns-in-Int c =

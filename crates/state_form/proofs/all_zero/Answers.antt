@@ -1,8 +1,5 @@
-use Rattle.state_form.proofs.FormLaws.{zero-laws, zero-again-laws, clear_none}
+use Rattle.state_form.proofs.FormLaws.{zero-laws, zero-again-laws}
 use Rattle.state_form.proofs.all_zero.Goals as goal
-
-pub loop-i-init : goal.loop-i-init
-loop-i-init c = clear_none _ _ _
 
 pub loop-i-preserved : goal.loop-i-preserved
 loop-i-preserved c = search zero-again-laws depth 12

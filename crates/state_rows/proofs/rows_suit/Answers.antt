@@ -1,8 +1,5 @@
-use Rattle.state_rows.proofs.SuitLaws.{rows-laws, rows-again-laws, upward-none}
+use Rattle.state_rows.proofs.SuitLaws.{rows-laws, rows-again-laws}
 use Rattle.state_rows.proofs.rows_suit.Goals as goal
-
-pub loop-i-init : goal.loop-i-init
-loop-i-init c = upward-none _ _ _ _
 
 pub returns-then-not-row_suits : goal.returns-then-not-row_suits
 returns-then-not-row_suits c = search rows-laws depth 12

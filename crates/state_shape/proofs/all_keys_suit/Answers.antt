@@ -1,8 +1,5 @@
-use Rattle.state_shape.proofs.KeyLaws.{all-keys-laws, all-keys-again-laws, keys-start}
+use Rattle.state_shape.proofs.KeyLaws.{all-keys-laws, all-keys-again-laws}
 use Rattle.state_shape.proofs.all_keys_suit.Goals as goal
-
-pub loop-q-init : goal.loop-q-init
-loop-q-init c = keys-start _ _
 
 pub returns-then-not-keys_suit : goal.returns-then-not-keys_suit
 returns-then-not-keys_suit c = search all-keys-laws depth 12

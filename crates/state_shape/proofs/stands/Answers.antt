@@ -1,11 +1,8 @@
-use Rattle.state_shape.proofs.StandLaws.{stand-laws, stand-again-laws, upward-none}
+use Rattle.state_shape.proofs.StandLaws.{stand-laws, stand-again-laws}
 use Rattle.state_shape.proofs.stands.Goals as goal
 
 pub returns-then-state-ne65536 : goal.returns-then-state-ne65536
 returns-then-state-ne65536 c = search stand-laws depth 12
-
-pub loop-k-init : goal.loop-k-init
-loop-k-init c = upward-none _ _
 
 pub returns-then-not-slot_stands : goal.returns-then-not-slot_stands
 returns-then-not-slot_stands c = search stand-laws depth 12

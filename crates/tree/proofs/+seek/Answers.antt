@@ -1,21 +1,17 @@
 use Rattle.tree.proofs.Walking.{seek-laws}
-use native.Mathlib.Omega.{arith}
 use Rattle.tree.proofs.+seek.Goals as goal
 
 pub returns-then-n-eq0 : goal.returns-then-n-eq0
 returns-then-n-eq0 t c = search seek-laws depth 12
 
-pub returns-in_default : goal.returns-in_default
-returns-in_default t c = search seek-laws depth 12
+pub returns-in_err-node : goal.returns-in_err-node
+returns-in_err-node t c = rw c.from_residual.ensures (search (seek-laws, c.in_err-node.was) depth 12)
 
-pub returns-then-id-j : goal.returns-then-id-j
-returns-then-id-j t c = search seek-laws depth 12
+pub returns-then-id-node : goal.returns-then-id-node
+returns-then-id-node t c = search (seek-laws, c.in_ok-node.was) depth 12
 
-pub returns-then-j-id : goal.returns-then-j-id
-returns-then-j-id t c = search seek-laws depth 12
-
-pub seek-requires : goal.seek-requires
-seek-requires t c = (omega arith, tt)
+pub returns-then-node-id : goal.returns-then-node-id
+returns-then-node-id t c = search (seek-laws, c.in_ok-node.was) depth 12
 
 pub returns : goal.returns
-returns t c = search seek-laws depth 12
+returns t c = search (seek-laws, c.in_ok-node.was) depth 12

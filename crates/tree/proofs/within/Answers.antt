@@ -1,11 +1,12 @@
-use Rattle.tree.proofs.Deciding.{within-laws}
+use borrow.Author.Rules.{rules}
+use Rattle.tree.specs.Encode.{Octets}
+use Rattle.tree.proofs.Deciding.{within-fault, within-by}
 use Rattle.tree.proofs.within.Goals as goal
 
 pub returns-in_default : goal.returns-in_default
-returns-in_default c = search within-laws depth 12
-
-pub returns-in_default-kids : goal.returns-in_default-kids
-returns-in_default-kids c = search within-laws depth 12
+returns-in_default c = within-fault _ _ _ _ c.head_at.ensures c.in_default.is
 
 pub returns : goal.returns
-returns c = search within-laws depth 12
+returns c =
+    let o : Octets c.args.s.now = search rules in
+    rw c.is_some.ensures (within-by _ _ _ _ c.head_at.ensures _ c.in-Some.is _ c.kids.ensures o)

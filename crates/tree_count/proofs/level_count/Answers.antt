@@ -1,4 +1,5 @@
-use native.Mathlib.Omega.{arith}
+use borrow.Author.Rules.{rules}
+use Rattle.tree.specs.Encode.{Octets}
 use Rattle.tree_count.proofs.Counting.{missed-none, missed-next, levels-laws}
 use Rattle.tree_count.proofs.level_count.Goals as goal
 
@@ -6,13 +7,15 @@ pub returns-in_default : goal.returns-in_default
 returns-in_default c = search levels-laws depth 12
 
 pub loop-levels-init : goal.loop-levels-init
-loop-levels-init c = (omega arith, search missed-none depth 12)
+loop-levels-init c = search missed-none depth 12
 
-pub returns-in-Past : goal.returns-in-Past
-returns-in-Past c = search levels-laws depth 12
+pub returns-then-is_some : goal.returns-then-is_some
+returns-then-is_some c =
+    let o : Octets c.args.s.now = search rules in
+    search levels-laws depth 12
 
 pub loop-levels-preserved : goal.loop-levels-preserved
-loop-levels-preserved c = (omega arith, search missed-next depth 12)
+loop-levels-preserved c = search missed-next depth 12
 
 pub returns : goal.returns
 returns c = search levels-laws depth 12

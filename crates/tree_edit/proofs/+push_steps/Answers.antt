@@ -6,38 +6,14 @@ use lib.ListN.{length}
 use mathlib.Core.Path.{◌≡◌, sym, ◌∙◌}
 use Rattle.tree_edit.proofs.+push_steps.Goals as goal
 
-pub offset_bounds-ids-k : goal.offset_bounds-ids-k
-offset_bounds-ids-k t c = omega (arith, c.requires.0)
-
-pub bounds-ids-k : goal.bounds-ids-k
-bounds-ids-k t c = c.requires.0
-
-pub push_id-a-requires : goal.push_id-a-requires
-push_id-a-requires t c = omega (arith, c.requires.0, c.requires.1)
-
-pub is_last-requires : goal.is_last-requires
-is_last-requires t c = c.requires.0
-
-pub shape_of-out-then-is_last : goal.shape_of-out-then-is_last
-shape_of-out-then-is_last t c = c.push_id-a.auto.out
-
 pub returns-then-is_last : goal.returns-then-is_last
 returns-then-is_last t c = push-last c.args.typed _ _ _ c.requires.0 c.push_id-a.ensures (sym c.is_last.ensures ∙ c.if-is_last.true)
-
-pub push_missing-b-requires : goal.push_missing-b-requires
-push_missing-b-requires t c = omega (arith, c.requires.0, c.requires.1, c.push_id-a.auto.out, c.push_id-a.ensures.next)
-
-pub overflow_add-k : goal.overflow_add-k
-overflow_add-k t c = omega (arith, c.requires.0)
 
 pub push_steps-requires : goal.push_steps-requires
 push_steps-requires t c =
     let l : length c.args.ids ≡ 4 = search rules in
     let p = steps_next c.args.ids c.args.k l (sym c.is_last.ensures ∙ c.if-is_last.false) in
     (omega (arith, c.requires, p.0), (p.0, omega (arith, p.0, c.requires.0, c.requires.1, c.push_id-a.auto.out, c.push_missing-b.auto.out, c.push_id-a.ensures.next, c.push_missing-b.ensures.next, missing-short c.args.typed)))
-
-pub shape_of-out : goal.shape_of-out
-shape_of-out t c = c.push_steps.auto.out ∙ c.push_missing-b.auto.out ∙ c.push_id-a.auto.out
 
 pub returns : goal.returns
 returns t c =

@@ -3,4 +3,4 @@ use Rattle.tree_edit.proofs.Copying.{leaf-wrote}
 use Rattle.tree_edit.proofs.leaf.Goals as goal
 
 pub returns : goal.returns
-returns c = leaf-wrote c.args.basic c.args.v.now c.push_id-a.ensures c.push-b.ensures c.push-c.ensures c.push-d.ensures c.append.ensures refl
+returns c = leaf-wrote c.args.basic c.args.v.now c.append-a.ensures c.append.ensures refl

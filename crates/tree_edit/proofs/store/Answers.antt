@@ -1,7 +1,5 @@
-use Prim.Native.Nat.{◌+◌, ◌-◌}
-use native.Mathlib.Omega.{arith}
-use Rattle.tree_edit.proofs.Copying.{region-back}
+use Rattle.tree_edit.proofs.Copying.{store-wrote}
 use Rattle.tree_edit.proofs.store.Goals as goal
 
 pub returns : goal.returns
-returns c = region-back c.args.state.now c.fill.new.r c.args.src.now c.args.base c.args.size c.args.n (c.args.base + c.args.size - c.args.base) (omega arith) c.requires.0 c.fill.ensures
+returns c = store-wrote _ _ _ _ _ _ _ c.requires.0 c.requires.1 c.requires.2 c.copy_from_slice.ensures.after (c.fill.ensures.after (λ y e. e))

@@ -8,20 +8,17 @@ use Rattle.tree_part.proofs.+locate.Goals as goal
 pub returns-then-n-eq0 : goal.returns-then-n-eq0
 returns-then-n-eq0 t c = search locate-laws depth 12
 
-pub returns-in_default : goal.returns-in_default
-returns-in_default t c = search locate-laws depth 12
+pub returns-in_err-node : goal.returns-in_err-node
+returns-in_err-node t c = rw c.from_residual.ensures (search (locate-laws, c.in_err-node.was) depth 12)
 
-pub returns-then-id-j : goal.returns-then-id-j
-returns-then-id-j t c = search locate-laws depth 12
+pub returns-then-id-node : goal.returns-then-id-node
+returns-then-id-node t c = search (locate-laws, c.in_ok-node.was) depth 12
 
-pub locate-requires : goal.locate-requires
-locate-requires t c = (omega arith, omega arith)
-
-pub returns-then-j-id : goal.returns-then-j-id
-returns-then-j-id t c = search locate-laws depth 12
+pub returns-then-node-id : goal.returns-then-node-id
+returns-then-node-id t c = search (locate-laws, c.in_ok-node.was) depth 12
 
 pub returns-then-is_last : goal.returns-then-is_last
-returns-then-is_last t c = search locate-laws depth 12
+returns-then-is_last t c = search (locate-laws, c.in_ok-node.was) depth 12
 
 pub locate-requires-2 : goal.locate-requires-2
 locate-requires-2 t c =
@@ -30,4 +27,4 @@ locate-requires-2 t c =
     (omega (arith, p), p)
 
 pub returns : goal.returns
-returns t c = search locate-laws depth 12
+returns t c = search (locate-laws, c.in_ok-node.was) depth 12

@@ -1,12 +1,6 @@
 use Rattle.type_images.proofs.Making.{copy-laws}
 use Rattle.type_images.proofs.copy_type.Goals as goal
 
-pub returns-then-len-lt7 : goal.returns-then-len-lt7
-returns-then-len-lt7 c = search copy-laws depth 12
-
-pub returns-then-len-gt128 : goal.returns-then-len-gt128
-returns-then-len-gt128 c = search copy-laws depth 12
-
 pub returns-then-images-len : goal.returns-then-images-len
 returns-then-images-len c = search copy-laws depth 12
 

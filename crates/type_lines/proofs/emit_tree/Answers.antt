@@ -12,7 +12,7 @@ returns-then-out-w-lt8 c = search tree_laws depth 12
 
 pub returns : goal.returns
 returns c =
-    tree-more _ _ _ _ c.requires c.index-w.ensures.0 _ c.type_head.ensures _ _ _ _ _ c.in-Node.is
-    _ c.byte_to_u16-c.ensures.0 _ _ _ _ _ _ _ _
+    tree-more _ _ _ _ c.requires c.from-w.ensures _ c.type_head.ensures c.in-Some.head c.in-Some.is
+    _ c.from-c.ensures _ _ _ _ _ _ _ _
     c.push_row-a.auto.out c.emit_level-e.auto.out c.emit_level-f.auto.out
     c.push_row-a.ensures c.emit_level-e.ensures c.emit_level-f.ensures c.emit_level-g.ensures

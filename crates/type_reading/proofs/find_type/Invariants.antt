@@ -4,6 +4,3 @@ use Rattle.type_reading.proofs.find_type.Given as goal
 
 abbrev pub invariant-loop-i : goal.invariant-loop-i
 invariant-loop-i l = Sought l.text l.table l.n (word_from l.text l.p) l.i
-
-abbrev pub decreases-loop-i : goal.decreases-loop-i
-decreases-loop-i l = l.i

@@ -14,14 +14,14 @@ pub returns-then-same_name : goal.returns-then-same_name
 returns-then-same_name c =
     let w = word_from c.args.text.now c.args.p in
     let q : c.same_name.result ≡ same_word w (word_from c.args.text.now (u16_at c.args.stack.now (2 * (c.loop-i.i - 1)))) =
-    c.same_name.ensures ∙ ap (λ (k : ℕ). same_word w (word_from c.args.text.now k)) (c.index.ensures.0 ∙ c.u16_at.ensures) in
+    c.same_name.ensures ∙ ap (λ (k : ℕ). same_word w (word_from c.args.text.now k)) (c.from.ensures ∙ c.u16_at.ensures) in
     seen_here c.args.text.now c.args.stack.now c.args.base c.args.top w c.loop-i.i c.loop-i.invariant (search rules) q c.if-same_name.true
 
 pub loop-i-preserved : goal.loop-i-preserved
 loop-i-preserved c =
     let w = word_from c.args.text.now c.args.p in
     let q : c.same_name.result ≡ same_word w (word_from c.args.text.now (u16_at c.args.stack.now (2 * (c.loop-i.i - 1)))) =
-    c.same_name.ensures ∙ ap (λ (k : ℕ). same_word w (word_from c.args.text.now k)) (c.index.ensures.0 ∙ c.u16_at.ensures) in
+    c.same_name.ensures ∙ ap (λ (k : ℕ). same_word w (word_from c.args.text.now k)) (c.from.ensures ∙ c.u16_at.ensures) in
     seen-less c.args.text.now c.args.stack.now c.args.base c.args.top w c.loop-i.i c.loop-i.invariant (search rules) q c.if-same_name.false
 
 pub returns : goal.returns

@@ -1,60 +1,51 @@
-use mathlib.Core.Path.{refl, sym, ◌∙◌, ap, subst}
+use mathlib.Core.Path.{◌≡◌, refl, sym, ◌∙◌, ap, subst}
 use mathlib.Core.List.{List}
 use mathlib.Core.Logic.{inl, inr}
 use Prim.Native.Nat.{ℕ}
 use native.Mathlib.Omega.{arith}
 use lib.ListN.{length}
+use Rattle.std.specs.Prelude.{None, Some}
+use Rattle.std.proofs.lemmas.Result.{err_from_is_err_and}
 use Rattle.type_text.specs.Spelling.{opening, dot}
 use Rattle.type_text.specs.Reader.{next_is, next_place, after_next}
 use Rattle.type_words.specs.Told.{BasicTold}
-use Rattle.type_reading.specs.Tables.{word_from}
-use Rattle.type_reading.specs.Readings.{NextMark}
 use Rattle.type_reading.specs.WordLaws.{word-part}
 use Rattle.type_reading.proofs.tree_at.Goals as goal
+
+pub returns-in_err-b : goal.returns-in_err-b
+returns-in_err-b c =
+    let w = word-part c.args.text.now c.args.p c.args.q c.requires in
+    let o : c.basic_named.result ≡ None = grind arith in
+    let e : c.in_err-b.field-0.0 ≡ c.args.p = grind arith in
+    let r = err_from_is_err_and c.from_residual.result c.from_residual.ensures.1 in
+    rw (r.1, r.2) (inl (subst (λ (v : List ℕ). BasicTold v None) w (rw o at c.basic_named.ensures), e))
 
 pub returns-in_default : goal.returns-in_default
 returns-in_default c =
     let w = word-part c.args.text.now c.args.p c.args.q c.requires in
-    let b = subst (λ (v : List ℕ). BasicTold v c.basic_named.result) w c.basic_named.ensures in
-    inl (subst (BasicTold (word_from c.args.text.now c.args.p)) c.in_default.is b, refl)
+    let o : c.basic_named.result ≡ Some c.in_ok-b.b = grind arith in
+    let b = subst (λ (v : List ℕ). BasicTold v (Some c.in_ok-b.b)) w (rw o at c.basic_named.ensures) in
+    (refl, b.0, c.in_default.ensures)
 
-pub returns-in_default-mark_next : goal.returns-in_default-mark_next
-returns-in_default-mark_next c =
+pub returns-in_err-expected : goal.returns-in_err-expected
+returns-in_err-expected c =
     let w = word-part c.args.text.now c.args.p c.args.q c.requires in
-    let b = subst (λ (v : List ℕ). BasicTold v c.basic_named.result) w c.basic_named.ensures in
-    let n = subst (BasicTold (word_from c.args.text.now c.args.p)) c.in-Of.is b in
-    (refl, n.0, subst (NextMark c.args.text.now c.args.q 2) c.in_default-mark_next.is c.mark_next.ensures)
-
-pub mark_next-requires-2 : goal.mark_next-requires-2
-mark_next-requires-2 c =
-    let m = subst (NextMark c.args.text.now c.args.q 2) c.in-Past.is c.mark_next.ensures in
-    (m.onward.inside, omega arith, omega arith)
-
-pub place_at-requires : goal.place_at-requires
-place_at-requires c =
-    let m = subst (NextMark c.args.text.now c.args.q 2) c.in-Past.is c.mark_next.ensures in
-    m.onward.inside
-
-pub returns-in-Past-mark_next : goal.returns-in-Past-mark_next
-returns-in-Past-mark_next c =
-    let w = word-part c.args.text.now c.args.p c.args.q c.requires in
-    let b = subst (λ (v : List ℕ). BasicTold v c.basic_named.result) w c.basic_named.ensures in
-    let n = subst (BasicTold (word_from c.args.text.now c.args.p)) c.in-Of.is b in
-    let m = subst (NextMark c.args.text.now c.args.q 2) c.in-Past.is c.mark_next.ensures in
-    let d = subst (NextMark c.args.text.now c.in-Past.a 4) c.in-Past-mark_next.is c.mark_next-2.ensures in
-    (n.0, m, ap (next_is dot) d.is)
-
-pub returns-in-Elsewhere : goal.returns-in-Elsewhere
-returns-in-Elsewhere c =
-    let w = word-part c.args.text.now c.args.p c.args.q c.requires in
-    let b = subst (λ (v : List ℕ). BasicTold v c.basic_named.result) w c.basic_named.ensures in
-    let n = subst (BasicTold (word_from c.args.text.now c.args.p)) c.in-Of.is b in
-    let m = subst (NextMark c.args.text.now c.args.q 2) c.in-Past.is c.mark_next.ensures in
-    let d = subst (NextMark c.args.text.now c.in-Past.a 4) c.in-Elsewhere.is c.mark_next-2.ensures in
-    inr (
-      c.in-Of.b,
-      n.0,
+    let o : c.basic_named.result ≡ Some c.in_ok-b.b = grind arith in
+    let b = subst (λ (v : List ℕ). BasicTold v (Some c.in_ok-b.b)) w (rw o at c.basic_named.ensures) in
+    let m = c.in-Some.ensures in
+    let d = c.in_err-expected.ensures in
+    let r = err_from_is_err_and c.from_residual-in_err-expected.result c.from_residual-in_err-expected.ensures.1 in
+    rw (r.1, r.2) (inr (
+      c.in_ok-b.b,
+      b.0,
       ap (next_is opening) m.is,
-      ap (λ l. next_is dot (after_next l)) m.is ∙ d,
-      c.place_at.ensures ∙ sym (ap (λ l. next_place (length c.args.text.now) (after_next l)) m.is),
-    )
+      ap (λ l. next_is dot (after_next l)) m.is ∙ d.0,
+      d.1 ∙ sym (ap (λ l. next_place (length c.args.text.now) (after_next l)) m.is),
+    ))
+
+pub returns : goal.returns
+returns c =
+    let w = word-part c.args.text.now c.args.p c.args.q c.requires in
+    let o : c.basic_named.result ≡ Some c.in_ok-b.b = grind arith in
+    let b = subst (λ (v : List ℕ). BasicTold v (Some c.in_ok-b.b)) w (rw o at c.basic_named.ensures) in
+    (b.0, c.in-Some.ensures, ap (next_is dot) c.in_ok-expected.ensures.is)

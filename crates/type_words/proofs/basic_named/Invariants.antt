@@ -1,12 +1,8 @@
-use Prim.Native.Nat.{suc, ◌-◌, ◌≤◌}
 use mathlib.Core.Path.{◌≡◌}
+use Prim.Native.Nat.{◌-◌}
 use Rattle.wire.specs.Wire.{part}
-use Rattle.scalar.specs.Basic.{last_basic}
 use Rattle.type_text.specs.Reader.{basic_below, basic_named}
 use Rattle.type_words.proofs.basic_named.Given as goal
 
 abbrev pub invariant-loop-n : goal.invariant-loop-n
-invariant-loop-n l = (l.n ≤ suc last_basic) × (basic_below l.n (part l.text l.p (l.q - l.p)) ≡ basic_named (part l.text l.p (l.q - l.p)))
-
-abbrev pub decreases-loop-n : goal.decreases-loop-n
-decreases-loop-n l = l.n
+invariant-loop-n l = basic_below l.n (part l.text l.p (l.q - l.p)) ≡ basic_named (part l.text l.p (l.q - l.p))

@@ -1,19 +1,19 @@
-use mathlib.Core.Path.{refl, sym, ◌∙◌}
-use borrow.Author.Rules.{rules}
-use Rattle.basics.specs.TestLaws.{told, untold}
+use Rattle.std.proofs.Common.{rules, tests, arith, ◌≡◌, ◌∙◌, ◌-◌, length, take, drop, length-drop}
+use Rattle.std.proofs.lemmas.List.{take_rest}
+use Rattle.std.proofs.lemmas.List.Folds.{length-prefix_len}
+use Rattle.std.proofs.lemmas.Iterator.{YieldsList-from_slice}
+use Rattle.std.proofs.lemmas.Iterator.Consumers.{count_from_yields_List}
+use Rattle.std.proofs.lemmas.Iterator.Search.{YieldsList-from_take_while}
 use Rattle.type_text.specs.Spelling.{is_blank}
-use Rattle.type_words.specs.ItemLaws.{run_more, run-stops, run_ends}
-use Rattle.std.proofs.lemmas.Bool.{not_from_true, not_from_false}
+use Rattle.type_words.specs.Told.{run_of}
+use Rattle.type_words.specs.ItemLaws.{run-within}
+use Rattle.type_words.proofs.Runs.{run-prefix}
 use Rattle.type_words.proofs.skip_blanks.Goals as goal
 
-pub loop-i-init : goal.loop-i-init
-loop-i-init c = (search rules, refl)
-
-pub returns-then-not-is_blank : goal.returns-then-not-is_blank
-returns-then-not-is_blank c = (sym (run-stops is_blank c.args.text.now c.loop-i.i (search rules) (untold c.is_blank.ensures (not_from_false _ c.if-not-is_blank.true))) ∙ c.loop-i.invariant.1, search rules)
-
-pub loop-i-preserved : goal.loop-i-preserved
-loop-i-preserved c = (search rules, sym (run_more is_blank c.args.text.now c.loop-i.i (search rules) (told c.is_blank.ensures (not_from_true _ c.if-not-is_blank.false))) ∙ c.loop-i.invariant.1)
-
 pub returns : goal.returns
-returns c = (sym (run_ends is_blank c.args.text.now c.loop-i.i (search rules)) ∙ c.loop-i.invariant.1, search rules)
+returns c =
+    let s = c.args.text.now in
+    let rest = take (length s - c.args.at) (drop c.args.at s) in
+    let taken = count_from_yields_List c.take_while.result _ c.count.ensures.ran (YieldsList-from_take_while _ is_blank (YieldsList-from_slice rest (cc)) c.take_while.ensures.closure c.take_while.ensures.done (λ x b q k. search (rules, tests))) in
+    let run = rw take_rest at (taken ∙ length-prefix_len is_blank rest ∙ run-prefix is_blank rest) in
+    (omega (arith), omega (arith, run-within is_blank (drop c.args.at s), length-drop c.args.at s))

@@ -1,21 +1,19 @@
-use Prim.Native.Nat.{ℕ, ◌+◌}
-use mathlib.Core.Path.{sym, ap, ◌∙◌}
-use borrow.Author.Rules.{rules}
-use lib.ListN.{drop}
-use Rattle.basics.specs.TestLaws.{told, untold}
+use Rattle.std.proofs.Common.{rules, tests, arith, ◌≡◌, ◌∙◌, ◌-◌, length, take, drop, length-drop}
+use Rattle.std.proofs.lemmas.List.{take_rest}
+use Rattle.std.proofs.lemmas.List.Folds.{length-prefix_len}
+use Rattle.std.proofs.lemmas.Iterator.{YieldsList-from_slice}
+use Rattle.std.proofs.lemmas.Iterator.Consumers.{count_from_yields_List}
+use Rattle.std.proofs.lemmas.Iterator.Search.{YieldsList-from_take_while}
 use Rattle.type_text.specs.Spelling.{in_word}
-use Rattle.type_words.specs.ItemLaws.{run_more, run-stops, run_ends, word-run}
-use Rattle.std.proofs.lemmas.Bool.{not_from_true, not_from_false}
+use Rattle.type_words.specs.Told.{run_of}
+use Rattle.type_words.specs.ItemLaws.{run-within, word-run}
+use Rattle.type_words.proofs.Runs.{run-prefix}
 use Rattle.type_words.proofs.word_end.Goals as goal
 
-pub loop-i-init : goal.loop-i-init
-loop-i-init c = (search rules, ap (λ (n : ℕ). c.args.p + n) (sym (word-run (drop c.args.p c.args.text.now))))
-
-pub returns-then-not-in_word : goal.returns-then-not-in_word
-returns-then-not-in_word c = (sym (run-stops in_word c.args.text.now c.loop-i.i (search rules) (untold c.in_word.ensures (not_from_false _ c.if-not-in_word.true))) ∙ c.loop-i.invariant.1, search rules)
-
-pub loop-i-preserved : goal.loop-i-preserved
-loop-i-preserved c = (search rules, sym (run_more in_word c.args.text.now c.loop-i.i (search rules) (told c.in_word.ensures (not_from_true _ c.if-not-in_word.false))) ∙ c.loop-i.invariant.1)
-
 pub returns : goal.returns
-returns c = (sym (run_ends in_word c.args.text.now c.loop-i.i (search rules)) ∙ c.loop-i.invariant.1, search rules)
+returns c =
+    let s = c.args.text.now in
+    let rest = take (length s - c.args.p) (drop c.args.p s) in
+    let taken = count_from_yields_List c.take_while.result _ c.count.ensures.ran (YieldsList-from_take_while _ in_word (YieldsList-from_slice rest (cc)) c.take_while.ensures.closure c.take_while.ensures.done (λ x b q k. search (rules, tests))) in
+    let run = rw take_rest at (taken ∙ length-prefix_len in_word rest ∙ run-prefix in_word rest) in
+    (omega (arith, word-run (drop c.args.p s)), omega (arith, run-within in_word (drop c.args.p s), length-drop c.args.p s))

@@ -17,17 +17,17 @@ returns-then-rows-gt256 c =
 
 pub overflow_mul-r : goal.overflow_mul-r
 overflow_mul-r c =
-    let b = large-within c.args.table.now c.args.n 0 0 c.in-Row.r (subst (LargeTold c.args.table.now c.args.n) c.in-Row.is c.first_large.ensures) in
+    let b = large-within c.args.table.now c.args.n 0 0 c.in-Some.r (subst (LargeTold c.args.table.now c.args.n) c.in-Some.is c.first_large.ensures) in
     omega (arith, b, c.count_rows-rows.ensures, c.if-rows-gt256.false)
 
-pub returns-in-Row : goal.returns-in-Row
-returns-in-Row c =
-    subst (RowsTold c.args.text.now c.args.table.now c.args.n c.args.out.now c.args.out.now) (sym c.refused-in-Row.ensures)
+pub returns-in-Some : goal.returns-in-Some
+returns-in-Some c =
+    subst (RowsTold c.args.text.now c.args.table.now c.args.n c.args.out.now c.args.out.now) (sym c.refused-in-Some.ensures)
     (told-large c.args.text.now c.args.table.now c.args.n c.args.out.now c.if-out-lt2048.false c.count_rows-rows.result c.count_rows-rows.ensures c.if-rows-gt256.false
-    c.in-Row.r (subst (LargeTold c.args.table.now c.args.n) c.in-Row.is c.first_large.ensures))
+    c.in-Some.r (subst (LargeTold c.args.table.now c.args.n) c.in-Some.is c.first_large.ensures))
 
-pub returns-in-Fits : goal.returns-in-Fits
-returns-in-Fits c =
+pub returns-in-None : goal.returns-in-None
+returns-in-None c =
     subst (RowsTold c.args.text.now c.args.table.now c.args.n c.args.out.now c.write_rows.new.out) (sym c.done.ensures)
     (told-done c.args.text.now c.args.table.now c.args.n c.args.out.now c.if-out-lt2048.false c.count_rows-rows.result c.count_rows-rows.ensures c.if-rows-gt256.false
-    c.write_rows.new.out (subst (LargeTold c.args.table.now c.args.n) c.in-Fits.is c.first_large.ensures) c.write_rows.ensures)
+    c.write_rows.new.out (subst (LargeTold c.args.table.now c.args.n) c.in-None.is c.first_large.ensures) c.write_rows.ensures)

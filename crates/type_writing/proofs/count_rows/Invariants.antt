@@ -4,7 +4,4 @@ use Rattle.type_writing.specs.Sums.{table_rows}
 use Rattle.type_writing.proofs.count_rows.Given as goal
 
 abbrev pub invariant-loop-i : goal.invariant-loop-i
-invariant-loop-i l = (l.i ≤ l.n) × (l.rows ≤ 256) × (l.rows + table_rows l.table l.i (l.n - l.i) ≡ table_rows l.table 0 l.n)
-
-abbrev pub decreases-loop-i : goal.decreases-loop-i
-decreases-loop-i l = l.n - l.i
+invariant-loop-i l = (l.rows ≤ 256) × (l.rows + table_rows l.table l.i (l.n - l.i) ≡ table_rows l.table 0 l.n)

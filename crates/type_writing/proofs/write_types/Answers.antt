@@ -16,15 +16,15 @@ read_rest-requires c = ((search rules, search rules, search rules, search rules)
 
 pub answer_rows-requires : goal.answer_rows-requires
 answer_rows-requires c =
-    let d = subst (RestTold c.args.text.now 0 _ _ 0) c.in-All.is c.read_rest.ensures in
+    let d = subst (RestTold c.args.text.now 0 _ _ 0) c.in-Ok.is c.read_rest.ensures in
     (search rules, (omega (arith, d.room, d.size, c.if-text-gt8192.false), d.named))
 
-pub returns-in-OffendsAt : goal.returns-in-OffendsAt
-returns-in-OffendsAt c =
-    let both = as-answer (sym (text-offends c.args.text.now c.args.out.now (search rules) _ c.read_rest.new.table c.in-OffendsAt.p (subst (RestTold c.args.text.now 0 _ _ 0) c.in-OffendsAt.is c.read_rest.ensures)))
-    (c.refused-in-OffendsAt.ensures ∙ ap refused_by c.offence.ensures) in record { value = both.0; out_after = both.1 }
+pub returns-in-Err : goal.returns-in-Err
+returns-in-Err c =
+    let both = as-answer (sym (text-offends c.args.text.now c.args.out.now (search rules) _ c.read_rest.new.table c.in-Err.p (subst (RestTold c.args.text.now 0 _ _ 0) c.in-Err.is c.read_rest.ensures)))
+    (c.refused-in-Err.ensures ∙ ap refused_by c.offence.ensures) in record { value = both.0; out_after = both.1 }
 
-pub returns-in-All : goal.returns-in-All
-returns-in-All c =
-    let both = text-answered c.args.text.now c.args.out.now (search rules) _ _ c.in-All.n _ c.answer_rows.result (subst (RestTold c.args.text.now 0 _ _ 0) c.in-All.is c.read_rest.ensures)
+pub returns-in-Ok : goal.returns-in-Ok
+returns-in-Ok c =
+    let both = text-answered c.args.text.now c.args.out.now (search rules) _ _ c.in-Ok.n _ c.answer_rows.result (subst (RestTold c.args.text.now 0 _ _ 0) c.in-Ok.is c.read_rest.ensures)
     c.answer_rows.ensures in record { value = both.0; out_after = both.1 }

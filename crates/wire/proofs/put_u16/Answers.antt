@@ -1,12 +1,9 @@
-use lib.ListN.{length-set}
-use Rattle.wire.specs.Wire.{put_u16}
-use native.Mathlib.Omega.{arith}
-use borrow.Author.Rules.{rules}
+use Rattle.std.proofs.Common.{sym, ◌∙◌, refl, rules}
+use Rattle.wire.specs.WireLaws.{put-16}
+use Rattle.wire.proofs.Stores.{le-16, written}
 use Rattle.wire.proofs.put_u16.Goals as goal
 
-pub bounds-s-at-2 : goal.bounds-s-at-2
-bounds-s-at-2 c = simp length-set (omega arith)
-
 pub returns : goal.returns
-unfolding put_u16
-returns c = search rules
+returns c =
+    written c.args.s.now c.copy_from_slice.new.self c.args.at 2 _ (c.copy_from_slice.ensures.after ∙ c.to_le_bytes.ensures ∙ le-16 c.args.v (search rules)) refl
+    ∙ sym (put-16 c.args.s.now c.args.at c.args.v c.requires)

@@ -1,7 +1,9 @@
-use Rattle.wire.specs.Wire.{put_u64}
-use borrow.Author.Rules.{rules}
+use Rattle.std.proofs.Common.{sym, ◌∙◌, refl, rules}
+use Rattle.wire.specs.WireLaws.{put-64}
+use Rattle.wire.proofs.Stores.{le-64, written}
 use Rattle.wire.proofs.put_u64.Goals as goal
 
 pub returns : goal.returns
-unfolding put_u64
-returns c = cc
+returns c =
+    written c.args.s.now c.copy_from_slice.new.self c.args.at 8 _ (c.copy_from_slice.ensures.after ∙ c.to_le_bytes.ensures ∙ le-64 c.args.v (search rules)) refl
+    ∙ sym (put-64 c.args.s.now c.args.at c.args.v c.requires)

@@ -2,4 +2,4 @@ use Rattle.counterexample_main.proofs.Values.{value-within}
 use Rattle.counterexample_main.proofs.message.+print_nodes.Goals as goal
 
 pub print_value-requires : goal.print_value-requires
-print_value-requires g t c = value-within _ _ _ _ _ _ _ c.head_at.ensures c.in-Node.is
+print_value-requires g t c = value-within _ _ _ _ _ _ _ c.head_at.ensures c.in-Some.is

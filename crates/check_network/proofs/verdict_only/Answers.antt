@@ -1,5 +1,0 @@
-use Rattle.check_network.proofs.AnswerLaws.{empty-laws}
-use Rattle.check_network.proofs.verdict_only.Goals as goal
-
-pub returns : goal.returns
-returns c = search empty-laws depth 12

@@ -1,8 +1,0 @@
-use Rattle.move_readiness.proofs.MarkLaws.{choice-laws}
-use Rattle.move_readiness.proofs.choice_deciders.Goals as goal
-
-pub returns-in-Nothing : goal.returns-in-Nothing
-returns-in-Nothing c = search choice-laws depth 12
-
-pub returns-in-Taken : goal.returns-in-Taken
-returns-in-Taken c = search choice-laws depth 12
