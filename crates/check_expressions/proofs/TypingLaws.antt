@@ -35,7 +35,7 @@ use Rattle.check_expressions.proofs.SmallLaws.{Alone, unary-alone, binary-alone}
 use Rattle.check_expressions.specs.Table.{none, table_at, table_entry, unary_row, binary_row, column_of}
 use Rattle.check_expressions.proofs.TableLaws.{unlike-refused, column-small, unary-at-column, binary-at-column}
 use Rattle.check_expressions.proofs.TableLaws.{unary-table, binary-alike-table}
-use Rattle.std.specs.Prelude.{Result, Ok, Err}
+use Rattle.std.specs.Prelude.{Result, Ok, Err, is_err}
 
 -- ---- operators
 
@@ -96,6 +96,29 @@ binary-by-table : (row : ℕ) (o : BinaryOperator) (x y : Result Typed Refusal) 
 binary-by-table row o (Ok x) (Ok y) = binary-looked row (root_typed x) (root_typed y) o
 binary-by-table row o (Ok x) (Err why) = refl
 binary-by-table row o (Err why) y = refl
+
+-- ---- two operands by the table
+
+given : (x : Result Typed Refusal) → ((why : Refusal) → x ≡ Err why → ⊥) → is_err x ≡ false
+given (Ok x) k = refl
+given (Err why) k = absurd (k why refl)
+
+pub right-refused : (row o : ℕ) (x : Result Typed Refusal) {y : Result Typed Refusal} {why : Refusal} → ((why : Refusal) → x ≡ Err why → ⊥) → y ≡ Err why
+    → y ≡ operator_typed row o x y
+right-refused row o (Ok x) k e = rw e refl
+right-refused row o (Err why) k e = absurd (k why refl)
+
+pub alone : (row o : ℕ) (x : Typed) {i b : ℕ} {z : Result Typed Refusal} → i ≡ o → b ≡ root_typed x → z ≡ entry_typing row (table_at i (column_of b))
+    → z ≡ operator_typed row o (Ok x) (Ok x)
+alone row o x {i} {b} f g h = rw (sym g, of_eq b b refl, sym f) h
+
+module _ (row o : ℕ) (x y : Typed) where
+  pub unlike : {b c : ℕ} → b ≡ root_typed x → c ≡ root_typed y → (b ≡ c → ⊥) → Err (OperandType row) ≡ operator_typed row o (Ok x) (Ok y)
+  unlike {b} {c} g h n = rw (sym g, sym h, ne_eqb b c n) refl
+
+  pub alike : {i b c : ℕ} {z : Result Typed Refusal} → b ≡ root_typed x → c ≡ root_typed y → b ≡ c → i ≡ o → z ≡ entry_typing row (table_at i (column_of b))
+      → z ≡ operator_typed row o (Ok x) (Ok y)
+  alike {i} {b} {c} g h e f d = rw (sym g, sym h, of_eq b c e, sym f) d
 
 -- An operand, then what follows from its basic type.
 after-operand : (e : Environment) (row : ℕ) (x : Result Typed Refusal) (found : Attempt MessageType) (f : ℕ → Result Typed Refusal) (g : ℕ → Attempt MessageType) → TypedAs e row x found

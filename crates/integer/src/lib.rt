@@ -20,12 +20,14 @@ pub fn int_bits(x: i32) -> u32
     x.cast_unsigned()
 }
 
+#[tactic(auto, using(crate::proofs::Exact::int_added))]
 pub fn int_add(a: i32, b: i32) -> Option<i32>
     ensures { result ≡ int_sum (a +ℤ b) }
 {
     i32::checked_add(a, b)
 }
 
+#[tactic(auto, using(crate::proofs::Exact::int_subtracted))]
 pub fn int_subtract(a: i32, b: i32) -> Option<i32>
     ensures { result ≡ int_sum (a -ℤ b) }
 {
@@ -53,6 +55,7 @@ pub fn long_bits(x: i64) -> u64
     x.cast_unsigned()
 }
 
+#[tactic(auto, using(crate::proofs::Exact::long_added))]
 pub fn long_add(a: i64, b: i64) -> Option<i64>
     ensures { result ≡ long_sum (a +ℤ b) }
 {

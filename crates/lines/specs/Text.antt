@@ -17,10 +17,11 @@ pub record HexPair (x y : ℕ) (r : Option ℕ) : Type 0 where
   pub high : HexDigit x None → r ≡ None
   pub low : HexDigit y None → r ≡ None
 
--- `r` is the value with one more decimal digit, if that is not past 32 bits.
-pub record Longer (value digit : ℕ) (r : Option ℕ) : Type 0 where
-  pub fits : 10 * value + digit ≤ 4294967295 → r ≡ Some (10 * value + digit)
-  pub large : 4294967295 < 10 * value + digit → r ≡ None
+-- `r` is the value with one more decimal digit, if neither the value nor that is past 32 bits.
+pub record Longer (value : Option ℕ) (digit : ℕ) (r : Option ℕ) : Type 0 where
+  pub fits : (v : ℕ) → value ≡ Some v → 10 * v + digit ≤ 4294967295 → r ≡ Some (10 * v + digit)
+  pub large : (v : ℕ) → value ≡ Some v → 4294967295 < 10 * v + digit → r ≡ None
+  pub past : value ≡ None → r ≡ None
 
 -- x is a blank or a tab.
 abbrev pub blank : ℕ → Bool

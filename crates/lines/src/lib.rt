@@ -124,11 +124,11 @@ fn pair_at(s: &[u8], at: usize) -> Option<u8>
     pair(s[at], s[at + 1])
 }
 
-// The value with one more digit, if that fits 32 bits.
-fn longer(value: u32, digit: u8) -> Option<u32>
+// The value with one more digit, if it and that fit 32 bits.
+fn longer(value: Option<u32>, digit: u8) -> Option<u32>
     ensures { Longer value digit result }
 {
-    value.checked_mul(10)?.checked_add(u32::from(digit))
+    value?.checked_mul(10)?.checked_add(u32::from(digit))
 }
 
 // The value of the word's decimal digits.
@@ -136,8 +136,7 @@ fn decimal(word: &[u8]) -> Result<u32, Fault> {
     if word.is_empty() {
         return Err(Fault::Number);
     }
-    let mut value: u32 = 0;
-    let mut large = false;
+    let mut value = Some(0);
     for x in word {
         let Some(d) = digit(*x) else {
             return Err(Fault::Number);
@@ -145,15 +144,9 @@ fn decimal(word: &[u8]) -> Result<u32, Fault> {
         if 9 < d {
             return Err(Fault::Number);
         }
-        match longer(value, d) {
-            Some(more) => value = more,
-            None => large = true,
-        }
+        value = longer(value, d);
     }
-    if large {
-        return Err(Fault::Large);
-    }
-    Ok(value)
+    value.ok_or(Fault::Large)
 }
 
 // The number after the blanks at the start, which is at most `most`, and the place past it.
